@@ -1,0 +1,120 @@
+// Rising rows: a set of peers, 32 bytes a row, or a map of peers and digests, 64 bytes a row. They stand for the
+// hash maps of the Rust. Contracts speak of the list of peers or of pairs that the bytes mean.
+use parts::Id;
+use parts::Order;
+ghost use mathlib.Core.Path.{_≡_};
+ghost use mathlib.Core.Bool.{true};
+ghost use Prim.Native.Nat.{_≤_, _<_};
+ghost use lib.ListN.{length, getD};
+ghost use Rattle.parts.specs.Parts.{number};
+ghost use Rattle.map.specs.Rows.{peersOf, pairsOf, digests, rising, wellRowed, find, has, peers, get, positionOf, foundOf};
+
+// Where a peer stands.
+pub enum Position {
+    At(usize),
+    Absent,
+}
+
+// The digest beside a peer.
+pub enum Found {
+    Digest(Id),
+    Absent,
+}
+
+// How many whole rows there are.
+pub fn count(rows: &[u8], width: usize) -> usize
+    requires { ⌜ 32 ≤ width ⌝ }
+    ensures { λ r. ⌜ r ≡ length (peersOf width (now (rows .entry))) ⌝ }
+{
+    rows.len() / width
+}
+
+// The peer of the row at a position.
+pub fn peer_at(rows: &[u8], width: usize, i: usize) -> Id
+    requires { ⌜ (32 ≤ width) × (i < length (peersOf width (now rows))) ⌝ }
+    ensures { λ r. ⌜ number r ≡ getD (peersOf width (now (rows .entry))) i 0 ⌝ }
+{
+    parts::id_at(rows, width * i)
+}
+
+// The digest of the pair at a position of a map.
+pub fn digest_at(map: &[u8], i: usize) -> Id
+    requires { ⌜ i < length (pairsOf (now map)) ⌝ }
+    ensures { λ r. ⌜ number r ≡ getD (digests (pairsOf (now (map .entry)))) i 0 ⌝ }
+{
+    parts::id_at(map, 64 * i + 32)
+}
+
+// Whether the peers rise strictly.
+fn is_rising(rows: &[u8], width: usize) -> bool
+    requires { ⌜ 32 ≤ width ⌝ }
+    ensures { λ r. ⌜ r ≡ rising (peersOf width (now (rows .entry))) ⌝ }
+{
+    let n = count(rows, width);
+    let mut j = 0;
+    while j + 1 < n {
+        let a = peer_at(rows, width, j);
+        let b = peer_at(rows, width, j + 1);
+        let o = parts::compare(a, b);
+        match o {
+            Order::Less => j += 1,
+            Order::Same => return false,
+            Order::More => return false,
+        }
+    }
+    true
+}
+
+// Whether a field is whole rows whose peers rise strictly.
+pub fn is_well_rowed(rows: &[u8], width: usize) -> bool
+    requires { ⌜ 32 ≤ width ⌝ }
+    ensures { λ r. ⌜ r ≡ wellRowed width (now (rows .entry)) ⌝ }
+{
+    if rows.len() % width != 0 {
+        return false;
+    }
+    is_rising(rows, width)
+}
+
+// The position of a peer among rising rows, by halving.
+pub fn search(rows: &[u8], width: usize, peer: Id) -> Position
+    requires { ⌜ (32 ≤ width) × (rising (peersOf width (now rows)) ≡ true) ⌝ }
+    ensures { λ r. ⌜ positionOf r ≡ find (peersOf width (now (rows .entry))) (number peer) ⌝ }
+{
+    let mut lo = 0;
+    let mut hi = count(rows, width);
+    while lo < hi {
+        let mid = lo + (hi - lo) / 2;
+        let o = parts::compare(peer_at(rows, width, mid), peer);
+        match o {
+            Order::Same => return Position::At(mid),
+            Order::Less => lo = mid + 1,
+            Order::More => hi = mid,
+        }
+    }
+    Position::Absent
+}
+
+// Whether a peer stands among rising rows.
+pub fn contains(rows: &[u8], width: usize, peer: Id) -> bool
+    requires { ⌜ (32 ≤ width) × (rising (peersOf width (now rows)) ≡ true) ⌝ }
+    ensures { λ r. ⌜ r ≡ has (peersOf width (now (rows .entry))) (number peer) ⌝ }
+{
+    let position = search(rows, width, peer);
+    match position {
+        Position::At(_) => true,
+        Position::Absent => false,
+    }
+}
+
+// The digest beside a peer of a rising map.
+pub fn get(map: &[u8], peer: Id) -> Found
+    requires { ⌜ rising (peers (pairsOf (now map))) ≡ true ⌝ }
+    ensures { λ r. ⌜ foundOf r ≡ get (pairsOf (now (map .entry))) (number peer) ⌝ }
+{
+    let position = search(map, 64, peer);
+    match position {
+        Position::At(i) => Found::Digest(digest_at(map, i)),
+        Position::Absent => Found::Absent,
+    }
+}

@@ -1,0 +1,196 @@
+// Ids, numbers read at a place of a slice, and PeerCount: the ports of parts.rs and peer_count.rs.
+ghost use mathlib.Core.Path.{_≡_};
+ghost use Prim.Native.Nat.{_+_, _-_, _≤_, _<_};
+ghost use lib.Dec.{eqb};
+ghost use lib.ListN.{length};
+ghost use Rattle.parts.specs.Bytes.{littleAt, bigAt, idAt, bigBytes, putAt};
+ghost use Rattle.parts.specs.Parts.{number, order, orderThen, peerCount, peerCountOf, full, majority, majorityOfOthers};
+
+// A peer or a digest: its 32 bytes as four numbers, the first byte highest, so that comparing the
+// numbers in turn compares the byte strings.
+pub struct Id {
+    pub a: u64,
+    pub b: u64,
+    pub c: u64,
+    pub d: u64,
+}
+
+// How one id stands to another.
+pub enum Order {
+    Less,
+    Same,
+    More,
+}
+
+fn wide(x: u8) -> u64
+    ensures { λ r. ⌜ (r ≡ x) × (r < 256) ⌝ }
+{
+    x as u64
+}
+
+// The little-endian number of two bytes at a place.
+pub fn u16_at(s: &[u8], at: usize) -> u16
+    requires { ⌜ at + 2 ≤ length (now s) ⌝ }
+    ensures { λ r. ⌜ r ≡ littleAt 2 (now (s .entry)) at ⌝ }
+{
+    let low = wide(s[at]);
+    let high = wide(s[at + 1]);
+    (low + 256 * high) as u16
+}
+
+// The little-endian number of four bytes at a place.
+pub fn u32_at(s: &[u8], at: usize) -> u32
+    requires { ⌜ at + 4 ≤ length (now s) ⌝ }
+    ensures { λ r. ⌜ r ≡ littleAt 4 (now (s .entry)) at ⌝ }
+{
+    let low = u16_at(s, at);
+    let high = u16_at(s, at + 2);
+    low as u32 + 65536 * high as u32
+}
+
+// The little-endian number of eight bytes at a place.
+pub fn u64_at(s: &[u8], at: usize) -> u64
+    requires { ⌜ at + 8 ≤ length (now s) ⌝ }
+    ensures { λ r. ⌜ r ≡ littleAt 8 (now (s .entry)) at ⌝ }
+{
+    let low = u32_at(s, at);
+    let high = u32_at(s, at + 4);
+    low as u64 + 4294967296 * high as u64
+}
+
+// The number of two bytes at a place, the first highest.
+fn big16_at(s: &[u8], at: usize) -> u64
+    requires { ⌜ at + 2 ≤ length (now s) ⌝ }
+    ensures { λ r. ⌜ (r ≡ bigAt 2 (now (s .entry)) at) × (r < 65536) ⌝ }
+{
+    let high = wide(s[at]);
+    let low = wide(s[at + 1]);
+    high * 256 + low
+}
+
+// The number of four bytes at a place, the first highest.
+fn big32_at(s: &[u8], at: usize) -> u64
+    requires { ⌜ at + 4 ≤ length (now s) ⌝ }
+    ensures { λ r. ⌜ (r ≡ bigAt 4 (now (s .entry)) at) × (r < 4294967296) ⌝ }
+{
+    let high = big16_at(s, at);
+    let low = big16_at(s, at + 2);
+    high * 65536 + low
+}
+
+// The number of eight bytes at a place, the first highest.
+fn big64_at(s: &[u8], at: usize) -> u64
+    requires { ⌜ at + 8 ≤ length (now s) ⌝ }
+    ensures { λ r. ⌜ r ≡ bigAt 8 (now (s .entry)) at ⌝ }
+{
+    let high = big32_at(s, at);
+    let low = big32_at(s, at + 4);
+    high * 4294967296 + low
+}
+
+// The id whose 32 bytes stand at a place.
+pub fn id_at(s: &[u8], at: usize) -> Id
+    requires { ⌜ at + 32 ≤ length (now s) ⌝ }
+    ensures { λ r. ⌜ number r ≡ idAt (now (s .entry)) at ⌝ }
+{
+    Id {
+        a: big64_at(s, at),
+        b: big64_at(s, at + 8),
+        c: big64_at(s, at + 16),
+        d: big64_at(s, at + 24),
+    }
+}
+
+// Whether two ids are the same.
+pub fn same(x: Id, y: Id) -> bool
+    ensures { λ r. ⌜ r ≡ eqb (number x) (number y) ⌝ }
+{
+    if x.a != y.a {
+        return false;
+    }
+    if x.b != y.b {
+        return false;
+    }
+    if x.c != y.c {
+        return false;
+    }
+    x.d == y.d
+}
+
+// The order of two numbers, and where they are equal what is handed in.
+fn by_number(x: u64, y: u64, rest: Order) -> Order
+    ensures { λ r. ⌜ r ≡ orderThen x y rest ⌝ }
+{
+    if x < y {
+        return Order::Less;
+    }
+    if y < x {
+        return Order::More;
+    }
+    rest
+}
+
+// The order of two ids, which is that of their byte strings.
+pub fn compare(x: Id, y: Id) -> Order
+    ensures { λ r. ⌜ r ≡ order (number x) (number y) ⌝ }
+{
+    by_number(
+        x.a,
+        y.a,
+        by_number(
+            x.b,
+            y.b,
+            by_number(x.c, y.c, by_number(x.d, y.d, Order::Same)),
+        ),
+    )
+}
+
+// F of a count of peers 3F+1.
+pub struct PeerCount(pub u8);
+
+pub enum PeerCountAnswer {
+    Count(PeerCount),
+    NotEnough,
+}
+
+impl PeerCount {
+    pub const GENESIS: PeerCount = PeerCount(0);
+
+    pub fn try_from(total_peers: u8) -> PeerCountAnswer
+        ensures { λ r. ⌜ peerCountOf r ≡ peerCount «total_peers» ⌝ }
+    {
+        if total_peers < 3 {
+            return PeerCountAnswer::NotEnough;
+        }
+        let total = total_peers as u16;
+        PeerCountAnswer::Count(PeerCount(((total + 1) / 3) as u8))
+    }
+
+    pub fn full(self) -> usize
+        ensures { λ r. ⌜ r ≡ full (self .0) ⌝ }
+    {
+        self.0 as usize * 3 + 1
+    }
+
+    pub fn majority(self) -> usize
+        ensures { λ r. ⌜ r ≡ majority (self .0) ⌝ }
+    {
+        self.0 as usize * 2 + 1
+    }
+
+    pub fn majority_of_others(self) -> usize
+        ensures { λ r. ⌜ r ≡ majorityOfOthers (self .0) ⌝ }
+    {
+        self.0 as usize * 2
+    }
+}
+
+// The round so many rounds back, 0 at the lowest: `Sub` of rounds in parts.rs.
+pub fn rounds_back(round: u32, rounds: u32) -> u32
+    ensures { λ r. ⌜ r ≡ round - rounds ⌝ }
+{
+    if round < rounds {
+        return 0;
+    }
+    round - rounds
+}

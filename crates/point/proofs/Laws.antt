@@ -1,0 +1,105 @@
+-- Laws of points: what a record gives that was read, and the steps of its reading.
+use Prim.Native.Nat.{ℕ, zero, suc, _*_, _≤_}
+use native.Mathlib.Omega.{arith}
+use mathlib.Core.Path.{_≡_, refl, sym}
+use mathlib.Core.Bool.{Bool, true, false, _&&_, and-eq-true-iff}
+use mathlib.Core.Option.{Option, none, some}
+use mathlib.Core.List.{List}
+use lib.ListN.{length}
+use Rattle.base.proofs.Laws.{picked}
+use Rattle.map.specs.Rows.{Pair, peersOf, pairsOf, peers, rising, wellRowed}
+use Rattle.map.proofs.Laws.{peersOf-length, pairsOf-length, peers-pairsOf, wellRowed-rising, wellRowed-whole}
+use Rattle.record.specs.Record.{rows, rowOf, contentOf, wellShaped}
+use Rattle.record.proofs.Laws.{content-greatest}
+use Rattle.point.specs.Point.{AnchorLink, PointInfo, anchorLink, isWaveLinkOk}
+use Rattle.point.specs.Reading.{readLink, readRole, mapsOk, pointWith, readPoint, pointOf, linkIn}
+use Rattle.point.specs.declared.data.PointRole.{PointRole}
+use Rattle.point.specs.declared.data.PointRole.the-variants.{AnchorProof}
+use Rattle.point.specs.declared.data.AnchorStageRole.{AnchorStageRole}
+use Rattle.point.specs.declared.data.AnchorStageRole.the-variants.{Proof, Trigger}
+use Rattle.point.specs.declared.info.PointInfo as code-info
+
+-- ---- a point that was read
+
+-- a map's bytes and its pairs: whole rows, at most 255, whose peers rise
+pub record MapOf (s : List ℕ) (l : List Pair) : Type 0 where
+  pub are : l ≡ pairsOf s
+  pub rise : rising (peers l) ≡ true
+  pub few : length l ≤ 255
+  pub whole : length s ≡ 64 * length l
+
+-- a set's bytes and its peers
+pub record SetOf (s l : List ℕ) : Type 0 where
+  pub are : l ≡ peersOf 32 s
+  pub rise : rising l ≡ true
+  pub few : length l ≤ 255
+  pub whole : length s ≡ 32 * length l
+
+-- what a record gives that was read as a point
+pub record Readable (s : List ℕ) (p : PointInfo) : Type 0 where
+  pub shaped : wellShaped s ≡ true
+  pub includes : MapOf (contentOf s 2) (p .includes)
+  pub witness : MapOf (contentOf s 3) (p .witness)
+  pub evidence : SetOf (contentOf s 4) (p .evidence)
+
+map-of : (s : List ℕ) (l : List Pair) → l ≡ pairsOf s → wellRowed 64 s ≡ true → length s ≤ 16320 → MapOf s l
+map-of s l e w h =
+    let n : length s ≡ 64 * length (pairsOf s) = omega (arith, wellRowed-whole 64 s w, pairsOf-length s, peersOf-length 64 s) in
+    record { are = e; rise = rw (e, peers-pairsOf s) (wellRowed-rising 64 s w); few = rw e (omega arith); whole = rw e n }
+
+set-of : (s l : List ℕ) → l ≡ peersOf 32 s → wellRowed 32 s ≡ true → length s ≤ 8160 → SetOf s l
+set-of s l e w h =
+    let n = wellRowed-whole 32 s w in
+    record { are = e; rise = rw e (wellRowed-rising 32 s w); few = rw e (omega arith); whole = rw e (sym n) }
+
+-- whatever its links and its role, a point's maps are parts of its record
+maps : (s : List ℕ) (a b : Option AnchorLink) (r : Option PointRole) (p : PointInfo) → pointWith s a b r ≡ some p →
+    (p .includes ≡ pairsOf (contentOf s 2)) × (p .witness ≡ pairsOf (contentOf s 3)) × (p .evidence ≡ peersOf 32 (contentOf s 4))
+maps s none b r p e = let z : _≡_ {A = ℕ} 0 1 = cc in absurd (omega arith)
+maps s (some x) none r p e = let z : _≡_ {A = ℕ} 0 1 = cc in absurd (omega arith)
+maps s (some x) (some y) none p e = let z : _≡_ {A = ℕ} 0 1 = cc in absurd (omega arith)
+maps s (some x) (some y) (some r) p e = (cc, cc, cc)
+
+pub readable : (s : List ℕ) (p : PointInfo) → readPoint s ≡ some p → Readable s p
+unfolding readPoint mapsOk rowOf rows
+readable s p h =
+    let all = picked (wellShaped s && mapsOk s) _ p h in
+    let w = and-eq-true-iff (wellShaped s) _ .0 (all .0) in
+    let i = and-eq-true-iff (wellRowed 64 (contentOf s 2)) _ .0 (w .1) in
+    let j = and-eq-true-iff (wellRowed 64 (contentOf s 3)) _ .0 (i .1) in
+    let m = maps s (readLink (contentOf s 5)) (readLink (contentOf s 6)) (readRole (contentOf s 7)) p (all .1) in
+    record {
+      shaped = w .0;
+      includes = map-of _ _ (m .0) (i .0) (content-greatest s (w .0) 2 (omega arith));
+      witness = map-of _ _ (m .1) (j .0) (content-greatest s (w .0) 3 (omega arith));
+      evidence = set-of _ _ (m .2) (j .1) (content-greatest s (w .0) 4 (omega arith));
+    }
+
+-- ---- steps of the code
+
+module _ (s : List ℕ) where
+  pub unshaped : wellShaped s ≡ false → readPoint s ≡ none
+  unfolding readPoint
+  unshaped h = rw h
+
+  pub unrowed : wellShaped s ≡ true → mapsOk s ≡ false → readPoint s ≡ none
+  unfolding readPoint
+  unrowed h g = rw (h, g)
+
+  -- past the tests: what is read is up to the links and the role
+  pub shaped-reads : wellShaped s ≡ true → mapsOk s ≡ true →
+      readPoint s ≡ pointWith s (readLink (contentOf s 5)) (readLink (contentOf s 6)) (readRole (contentOf s 7))
+  unfolding readPoint
+  shaped-reads h g = rw (h, g)
+
+-- the link of a role, of the code's point and of the point that it stands for
+pub link-in : (g : AnchorStageRole) (s : List ℕ) (i : code-info.PointInfo) → linkIn g i ≡ anchorLink g (pointOf s i)
+link-in Proof s i = refl
+link-in Trigger s i = refl
+
+-- a proof that is not the first of its sequence asks nothing of its link
+pub later-proof : (leader prev : Bool) (round : ℕ) (l : AnchorLink) (n : ℕ) (last : Bool) → (n ≡ 0 → ⊥) →
+    isWaveLinkOk leader prev round l (AnchorProof n last) ≡ true
+unfolding isWaveLinkOk
+later-proof leader prev round l zero last d = absurd (d refl)
+later-proof leader prev round l (suc n) last d = refl

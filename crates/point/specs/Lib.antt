@@ -1,0 +1,3 @@
+pub mod Point
+pub mod Reading
+pub mod Edges

@@ -1,0 +1,164 @@
+-- What the bytes of a point record mean, and what the code's values stand for.
+use Prim.Native.Nat.{ℕ, zero, suc, _+_}
+use mathlib.Core.Bool.{Bool, true, false, _&&_}
+use mathlib.Core.Option.{Option, none, some}
+use mathlib.Core.List.{List}
+use lib.ListN.{length, getD}
+use lib.Dec.{leb, eqb}
+use Rattle.base.specs.Base.{pick}
+use Rattle.parts.specs.Bytes.{idAt, littleAt}
+use Rattle.parts.specs.Parts.{number}
+use Rattle.map.specs.Rows.{Pair, peersOf, pairsOf, wellRowed}
+use Rattle.record.specs.Record.{contentOf, wellShaped}
+use Rattle.point.specs.Point.{PointId, Through, Includes, Witness, AnchorLink, Direct, Indirect, PointInfo, Sticky, AnchorView}
+use Rattle.point.specs.declared.data.PointRole.{PointRole}
+use Rattle.point.specs.declared.data.PointRole.the-variants.{Regular, AnchorProof, AnchorTrigger, Genesis}
+use Rattle.point.specs.declared.data.AnchorStageRole.{AnchorStageRole}
+use Rattle.point.specs.declared.data.AnchorStageRole.the-variants.{Proof, Trigger}
+use Rattle.point.specs.declared.info.PointId as code-id
+use Rattle.point.specs.declared.link.Through as code-through
+use Rattle.point.specs.declared.link.Through.the-variants as case-through
+use Rattle.point.specs.declared.link.AnchorLink as code-link
+use Rattle.point.specs.declared.link.AnchorLink.the-variants as case-link
+use Rattle.point.specs.declared.info.PointInfo as code-info
+use Rattle.point.specs.declared.info.AnchorView as code-view
+use Rattle.point.specs.declared.read.ReadThrough as code-read-through
+use Rattle.point.specs.declared.read.ReadThrough.the-variants as case-read-through
+use Rattle.point.specs.declared.read.ReadLink as code-read-link
+use Rattle.point.specs.declared.read.ReadLink.the-variants as case-read-link
+use Rattle.point.specs.declared.read.ReadRole as code-read-role
+use Rattle.point.specs.declared.read.ReadRole.the-variants as case-read-role
+use Rattle.point.specs.declared.read.ReadPoint as code-read-point
+use Rattle.point.specs.declared.read.ReadPoint.the-variants as case-read-point
+use Rattle.point.specs.declared.info.ThroughId as code-through-id
+use Rattle.point.specs.declared.info.ThroughId.the-variants as case-through-id
+use Rattle.point.specs.declared.info.StickyAnchors as code-sticky
+use Rattle.point.specs.declared.info.StickyAnchors.the-variants as case-sticky
+
+-- ---- document 01, the table of tags 1 to 9
+
+-- tag 1: "round (4), digest (32), author (32)"
+unfoldable pub pointIdAt : List ℕ → ℕ → PointId
+pointIdAt s at = record { round = littleAt 4 s at; digest = idAt s (at + 4); author = idAt s (at + 36) }
+
+-- tags 6 and 7: "map (0 includes, 1 witness), peer (32)", behind the kind
+unfoldable pub readThrough : List ℕ → Option Through
+readThrough s =
+    pick (eqb (getD s 1 0) 0) (some (Includes (idAt s 2)))
+    (pick (eqb (getD s 1 0) 1) (some (Witness (idAt s 2))) none)
+
+-- "kind (0 direct, 1 indirect)"; "indirect adds a target id (68)"
+abbrev pub linkWith : List ℕ → Option Through → Option AnchorLink
+linkWith s none = none
+linkWith s (some t) =
+    pick (eqb (length s) 34 && eqb (getD s 0 0) 0) (some (Direct t))
+    (pick (eqb (length s) 102 && eqb (getD s 0 0) 1) (some (Indirect (pointIdAt s 34) t)) none)
+
+unfoldable pub readLink : List ℕ → Option AnchorLink
+unfolding readThrough pointIdAt
+readLink s = linkWith s (readThrough s)
+
+-- tag 8: "0 regular, 1 proof then seq_no (1) and is_last (0 or 1), 2 trigger, 3 genesis"
+unfoldable pub readRole : List ℕ → Option PointRole
+readRole s =
+    pick (eqb (length s) 1)
+    (pick (eqb (getD s 0 0) 0) (some Regular)
+    (pick (eqb (getD s 0 0) 2) (some AnchorTrigger)
+    (pick (eqb (getD s 0 0) 3) (some Genesis) none)))
+    (pick (eqb (length s) 3 && (eqb (getD s 0 0) 1 && leb (getD s 2 0) 1))
+    (some (AnchorProof (getD s 1 0) (eqb (getD s 2 0) 1))) none)
+
+-- tags 3, 4 and 5: whole rows, rising
+unfoldable pub mapsOk : List ℕ → Bool
+unfolding wellRowed contentOf
+mapsOk s = wellRowed 64 (contentOf s 2) && (wellRowed 64 (contentOf s 3) && wellRowed 32 (contentOf s 4))
+
+-- the point, once its links and its role are read; tag 2: payload length and bytes; tag 9: time and anchor_time
+abbrev pub pointWith : List ℕ → Option AnchorLink → Option AnchorLink → Option PointRole → Option PointInfo
+pointWith s none t r = none
+pointWith s (some p) none r = none
+pointWith s (some p) (some t) none = none
+pointWith s (some p) (some t) (some r) =
+    some (record {
+      id = pointIdAt (contentOf s 0) 0;
+      payloadLen = littleAt 4 (contentOf s 1) 0;
+      payloadBytes = littleAt 4 (contentOf s 1) 4;
+      includes = pairsOf (contentOf s 2);
+      witness = pairsOf (contentOf s 3);
+      evidence = peersOf 32 (contentOf s 4);
+      anchorProof = p;
+      anchorTrigger = t;
+      role = r;
+      time = littleAt 8 (contentOf s 8) 0;
+      anchorTime = littleAt 8 (contentOf s 8) 8;
+    })
+
+-- a slice that holds one point record, or none
+unfoldable pub readPoint : List ℕ → Option PointInfo
+unfolding wellShaped mapsOk contentOf readLink readRole pointIdAt
+readPoint s =
+    pick (wellShaped s && mapsOk s)
+    (pointWith s (readLink (contentOf s 5)) (readLink (contentOf s 6)) (readRole (contentOf s 7)))
+    none
+
+-- ---- what the code's values stand for
+
+abbrev pub pointIdOf : code-id.PointId → PointId
+pointIdOf i = record { round = i .round; digest = number (i .digest); author = number (i .author) }
+
+abbrev pub throughOf : code-through.Through → Through
+throughOf (case-through.Includes x) = Includes (number x)
+throughOf (case-through.Witness x) = Witness (number x)
+
+abbrev pub linkOf : code-link.AnchorLink → AnchorLink
+linkOf (case-link.Direct t) = Direct (throughOf t)
+linkOf (case-link.Indirect l) = Indirect (pointIdOf (l .to)) (throughOf (l .through))
+
+-- a point of the code has no maps: they are parts of its record
+abbrev pub pointOf : List ℕ → code-info.PointInfo → PointInfo
+pointOf s i =
+    record {
+      id = pointIdOf (i .id);
+      payloadLen = i .«payload_len»;
+      payloadBytes = i .«payload_bytes»;
+      includes = pairsOf (contentOf s 2);
+      witness = pairsOf (contentOf s 3);
+      evidence = peersOf 32 (contentOf s 4);
+      anchorProof = linkOf (i .«anchor_proof»);
+      anchorTrigger = linkOf (i .«anchor_trigger»);
+      role = i .role;
+      time = i .time;
+      anchorTime = i .«anchor_time»;
+    }
+
+-- the link of a role
+abbrev pub linkIn : AnchorStageRole → code-info.PointInfo → AnchorLink
+linkIn Proof i = linkOf (i .«anchor_proof»)
+linkIn Trigger i = linkOf (i .«anchor_trigger»)
+
+abbrev pub viewOf : code-view.AnchorView → AnchorView
+viewOf v = record { top = pointIdOf (v .top); target = pointIdOf (v .target); source = pointIdOf (v .source) }
+
+abbrev pub readThroughOf : code-read-through.ReadThrough → Option Through
+readThroughOf (case-read-through.Through t) = some (throughOf t)
+readThroughOf case-read-through.Unreadable = none
+
+abbrev pub readLinkOf : code-read-link.ReadLink → Option AnchorLink
+readLinkOf (case-read-link.Link l) = some (linkOf l)
+readLinkOf case-read-link.Unreadable = none
+
+abbrev pub readRoleOf : code-read-role.ReadRole → Option PointRole
+readRoleOf (case-read-role.Role r) = some r
+readRoleOf case-read-role.Unreadable = none
+
+abbrev pub readPointOf : List ℕ → code-read-point.ReadPoint → Option PointInfo
+readPointOf s (case-read-point.Point i) = some (pointOf s i)
+readPointOf s case-read-point.Unreadable = none
+
+abbrev pub throughIdOf : code-through-id.ThroughId → Option PointId
+throughIdOf (case-through-id.Id i) = some (pointIdOf i)
+throughIdOf case-through-id.Absent = none
+
+abbrev pub stickyOf : code-sticky.StickyAnchors → Option Sticky
+stickyOf (case-sticky.Sticky n l) = some (record { seqNo = n; isLast = l })
+stickyOf case-sticky.NoSticky = none

@@ -1,0 +1,28 @@
+// What a point record says: PointInfo by value, and what data.rs, link.rs and info.rs ask of it. Its maps stay where
+// they are, as parts of the record.
+mod data;
+mod info;
+mod link;
+mod read;
+
+pub use data::AnchorStageRole;
+pub use data::PointMap;
+pub use data::PointRole;
+pub use info::AnchorView;
+pub use info::PointId;
+pub use info::PointInfo;
+pub use info::StickyAnchors;
+pub use info::ThroughId;
+pub use info::anchor;
+pub use info::digest_safe;
+pub use info::evidence;
+pub use info::includes;
+pub use info::prev_digest;
+pub use info::through_id;
+pub use info::witness;
+pub use link::AnchorLink;
+pub use link::IndirectLink;
+pub use link::Through;
+pub use read::ReadPoint;
+pub use read::point_id_at;
+pub use read::read_point;

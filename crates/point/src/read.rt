@@ -1,0 +1,153 @@
+// The reader of point records.
+use crate::data::PointRole;
+use crate::info::PointId;
+use crate::info::PointInfo;
+use crate::link::AnchorLink;
+use crate::link::IndirectLink;
+use crate::link::Through;
+ghost use mathlib.Core.Path.{_≡_};
+ghost use Prim.Native.Nat.{_+_, _≤_};
+ghost use lib.ListN.{length};
+ghost use Rattle.point.specs.Reading.{pointIdAt, readThrough, readLink, readRole, mapsOk, readPoint, pointIdOf, readThroughOf, readLinkOf, readRoleOf, readPointOf};
+
+pub enum ReadThrough {
+    Through(Through),
+    Unreadable,
+}
+
+pub enum ReadLink {
+    Link(AnchorLink),
+    Unreadable,
+}
+
+pub enum ReadRole {
+    Role(PointRole),
+    Unreadable,
+}
+
+pub enum ReadPoint {
+    Point(PointInfo),
+    Unreadable,
+}
+
+// The id whose round, digest and author stand at a place.
+pub fn point_id_at(s: &[u8], at: usize) -> PointId
+    requires { ⌜ at + 68 ≤ length (now s) ⌝ }
+    ensures { λ r. ⌜ pointIdOf r ≡ pointIdAt (now (s .entry)) at ⌝ }
+{
+    PointId {
+        round: parts::u32_at(s, at),
+        digest: parts::id_at(s, at + 4),
+        author: parts::id_at(s, at + 36),
+    }
+}
+
+// The map and the peer of a link, behind its kind.
+fn read_through(s: &[u8]) -> ReadThrough
+    requires { ⌜ 34 ≤ length (now s) ⌝ }
+    ensures { λ r. ⌜ readThroughOf r ≡ readThrough (now (s .entry)) ⌝ }
+{
+    let peer = parts::id_at(s, 2);
+    let map = s[1];
+    match map {
+        0 => ReadThrough::Through(Through::Includes(peer)),
+        1 => ReadThrough::Through(Through::Witness(peer)),
+        _ => ReadThrough::Unreadable,
+    }
+}
+
+fn read_link(s: &[u8]) -> ReadLink
+    requires { ⌜ 34 ≤ length (now s) ⌝ }
+    ensures { λ r. ⌜ readLinkOf r ≡ readLink (now (s .entry)) ⌝ }
+{
+    let ReadThrough::Through(through) = read_through(s) else {
+        return ReadLink::Unreadable;
+    };
+    let kind = s[0];
+    if s.len() == 34 {
+        if kind == 0 {
+            return ReadLink::Link(AnchorLink::Direct(through));
+        }
+        return ReadLink::Unreadable;
+    }
+    if s.len() == 102 {
+        if kind == 1 {
+            let to = point_id_at(s, 34);
+            return ReadLink::Link(AnchorLink::Indirect(IndirectLink { to, through }));
+        }
+    }
+    ReadLink::Unreadable
+}
+
+fn read_role(s: &[u8]) -> ReadRole
+    ensures { λ r. ⌜ readRoleOf r ≡ readRole (now (s .entry)) ⌝ }
+{
+    if s.len() == 1 {
+        let kind = s[0];
+        return match kind {
+            0 => ReadRole::Role(PointRole::Regular),
+            2 => ReadRole::Role(PointRole::AnchorTrigger),
+            3 => ReadRole::Role(PointRole::Genesis),
+            _ => ReadRole::Unreadable,
+        };
+    }
+    if s.len() == 3 {
+        let kind = s[0];
+        let seq_no = s[1];
+        let last = s[2];
+        if kind == 1 {
+            if last <= 1 {
+                let is_last = last == 1;
+                return ReadRole::Role(PointRole::AnchorProof { seq_no, is_last });
+            }
+        }
+    }
+    ReadRole::Unreadable
+}
+
+// Whether includes, witness and evidence are whole rows that rise.
+fn are_maps_ok(rec: &[u8]) -> bool
+    ensures { λ r. ⌜ r ≡ mapsOk (now (rec .entry)) ⌝ }
+{
+    if !map::is_well_rowed(record::content(rec, 2), 64) {
+        return false;
+    }
+    if !map::is_well_rowed(record::content(rec, 3), 64) {
+        return false;
+    }
+    map::is_well_rowed(record::content(rec, 4), 32)
+}
+
+// What a slice that holds one point record says.
+pub fn read_point(rec: &[u8]) -> ReadPoint
+    ensures { λ r. ⌜ readPointOf (now (rec .entry)) r ≡ readPoint (now (rec .entry)) ⌝ }
+{
+    if !record::is_well_shaped(rec) {
+        return ReadPoint::Unreadable;
+    }
+    if !are_maps_ok(rec) {
+        return ReadPoint::Unreadable;
+    }
+    let ReadLink::Link(anchor_proof) = read_link(record::content(rec, 5)) else {
+        return ReadPoint::Unreadable;
+    };
+    let ReadLink::Link(anchor_trigger) = read_link(record::content(rec, 6)) else {
+        return ReadPoint::Unreadable;
+    };
+    let ReadRole::Role(role) = read_role(record::content(rec, 7)) else {
+        return ReadPoint::Unreadable;
+    };
+    let id = point_id_at(record::content(rec, 0), 0);
+    let payload = record::content(rec, 1);
+    let times = record::content(rec, 8);
+    ReadPoint::Point(PointInfo {
+        id,
+        payload_len: parts::u32_at(payload, 0),
+        payload_bytes: parts::u32_at(payload, 4),
+        anchor_proof,
+        anchor_trigger,
+        role,
+        time: parts::u64_at(times, 0),
+        anchor_time: parts::u64_at(times, 8),
+    })
+}

@@ -1,0 +1,259 @@
+-- Laws of fields one behind the other, and of records of nine of them.
+use Prim.Native.Nat.{ℕ, zero, suc, _+_, _-_, _≤_, _<_}
+use native.Mathlib.Omega.{arith}
+use native.Mathlib.Decide.{decLt}
+use mathlib.Core.Path.{_≡_, refl, ap, sym, _∙_}
+use mathlib.Core.List.{List, [], _∷_, _++_}
+use mathlib.Core.Option.{Option, none, some}
+use mathlib.Core.Bool.{Bool, true, false, _&&_}
+use lib.ListN.{length, getD, take, drop, length-take, length-drop, length-append}
+use lib.Seq.{drop-cons, take-take, getD-take, length-take-le, take-length, take-append-seam}
+use lib.Dec.{leb, eqb}
+use borrow.Author.Tests.{leb-true, eqb-true, le-leb, lt-leb, eq-eqb}
+use Rattle.base.specs.Base.{pick}
+use Rattle.base.proofs.Laws.{and-left, and-right, picked}
+use Rattle.parts.specs.Bytes.{bytesAt, littleAt}
+use Rattle.record.specs.declared.Row.{Row}
+use Rattle.record.specs.Record.{lengthAt, nextAt, contentAt, fieldOk, endFrom, startOf, contentOf, fieldRow, rows, rowOf, recordEnd, endsAt, wellShaped}
+
+-- ---- one field
+
+module _ (s : List ℕ) (at : ℕ) where
+  pub next-within : nextAt s at ≤ length s
+  unfolding nextAt
+  next-within = omega arith
+
+  pub next-behind : at ≤ length s → at ≤ nextAt s at
+  unfolding nextAt
+  next-behind h = omega arith
+
+  pub next-whole : at + 3 + lengthAt s at ≤ length s → nextAt s at ≡ at + 3 + lengthAt s at
+  unfolding nextAt
+  next-whole h = omega arith
+
+  pub content-length : length (contentAt s at) ≡ nextAt s at - (at + 3)
+  unfolding contentAt
+  content-length = simp (length-take, length-drop) (omega (arith, next-within))
+
+-- what a field that fits a row gives
+pub record Fitting (row : Row) (s : List ℕ) (at : ℕ) : Type 0 where
+  pub head : at + 3 ≤ length s
+  pub tag : getD s at 0 ≡ row .tag
+  pub least : row .least ≤ lengthAt s at
+  pub greatest : lengthAt s at ≤ row .greatest
+  pub end : at + 3 + lengthAt s at ≤ length s
+  pub next : nextAt s at ≡ at + 3 + lengthAt s at
+  pub content : length (contentAt s at) ≡ lengthAt s at
+
+module _ (row : Row) (s : List ℕ) (at : ℕ) where
+  pub fitting : fieldOk row s at ≡ true → Fitting row s at
+  unfolding fieldOk
+  fitting h =
+      let r1 = and-right (leb (at + 3) (length s)) _ h in
+      let r2 = and-right (eqb (getD s at 0) (row .tag)) _ r1 in
+      let r3 = and-right (leb (row .least) (lengthAt s at)) _ r2 in
+      let within = leb-true _ _ (and-right (leb (lengthAt s at) (row .greatest)) _ r3) in
+      let whole = next-whole s at within in
+      record {
+        head = leb-true _ _ (and-left (leb (at + 3) (length s)) _ h);
+        tag = eqb-true _ _ (and-left (eqb (getD s at 0) (row .tag)) _ r1);
+        least = leb-true _ _ (and-left (leb (row .least) (lengthAt s at)) _ r2);
+        greatest = leb-true _ _ (and-left (leb (lengthAt s at) (row .greatest)) _ r3);
+        end = within;
+        next = whole;
+        content = omega (arith, content-length s at, whole);
+      }
+
+  -- the last of a field's five tests decides, once the other four hold
+  pub field-last : at + 3 ≤ length s → getD s at 0 ≡ row .tag → row .least ≤ lengthAt s at → lengthAt s at ≤ row .greatest →
+      fieldOk row s at ≡ leb (at + 3 + lengthAt s at) (length s)
+  unfolding fieldOk
+  field-last h t l g = simp (le-leb _ _ h, eq-eqb _ _ t, le-leb _ _ l, le-leb _ _ g)
+
+-- a number is at most what a length leaves behind a place exactly if it ends within the length
+pub room : (n l at : ℕ) → at ≤ l → leb n (l - at) ≡ leb (at + n) l
+room n l at h = elim (decLt l (at + n)) [
+  | yes g ↦ lt-leb n (l - at) (omega arith) ∙ sym (lt-leb (at + n) l g)
+  | no g ↦ le-leb n (l - at) (omega arith) ∙ sym (le-leb (at + n) l (omega arith))
+]
+
+-- ---- a row of fields
+
+-- where the second choice is nothing and something was chosen, the test holds
+-- the fields of some rows end behind where they start
+pub end-behind : (rs : List Row) (s : List ℕ) (at n : ℕ) → endFrom rs s at ≡ some n → at ≤ n
+unfolding endFrom
+end-behind [] s at n h = let e : at ≡ n = cc in omega arith
+end-behind (r ∷ rs) s at n h =
+    let p = picked (fieldOk r s at) (endFrom rs s (nextAt s at)) n h in
+    omega (arith, fitting r s at (p .0) .next, end-behind rs s (nextAt s at) n (p .1))
+
+pub start-within : (s : List ℕ) (k : ℕ) → startOf s k ≤ length s
+unfolding startOf
+start-within s zero = omega arith
+start-within s (suc k) = next-within s (startOf s k)
+
+-- ---- records
+
+-- where the nine fields end is where the fields of the rows from k on end
+pub end-start : (s : List ℕ) → recordEnd s ≡ endFrom (drop 0 rows) s 0
+unfolding recordEnd
+end-start s = refl
+
+nine : (k : ℕ) → k < 9 → k < length rows
+unfolding rows
+nine k h = h
+
+pub end-step : (s : List ℕ) (at k : ℕ) → k < 9 →
+    endFrom (drop k rows) s at ≡ pick (fieldOk (rowOf k) s at) (endFrom (drop (suc k) rows) s (nextAt s at)) none
+unfolding rowOf endFrom
+end-step s at k h = ap (λ (l : List Row). endFrom l s at) (drop-cons rows k (fieldRow 0 0 0) (nine k h))
+
+pub end-last : (s : List ℕ) (at : ℕ) → endFrom (drop 9 rows) s at ≡ some at
+unfolding rows endFrom
+end-last s at = refl
+
+module _ (s : List ℕ) (e : ℕ) (h : recordEnd s ≡ some e) where
+  end-left : (k : ℕ) → k ≤ 9 → endFrom (drop k rows) s (startOf s k) ≡ some e
+  unfolding startOf
+  end-left zero g = sym (end-start s) ∙ h
+  end-left (suc k) g =
+      let at = startOf s k in
+      picked (fieldOk (rowOf k) s at) _ e (sym (end-step s at k g) ∙ end-left k (omega arith)) .1
+
+  -- field k of nine that stand at the front of a list fits its row
+  pub front-field : (k : ℕ) → k < 9 → Fitting (rowOf k) s (startOf s k)
+  front-field k g =
+      let at = startOf s k in
+      let rest = endFrom (drop (suc k) rows) s (nextAt s at) in
+      fitting (rowOf k) s at (picked _ rest e (sym (end-step s at k g) ∙ end-left k (omega arith)) .0)
+
+  pub start-before : (k : ℕ) → k ≤ 9 → startOf s k ≤ e
+  start-before k g = end-behind (drop k rows) s (startOf s k) e (end-left k g)
+
+  pub end-is : startOf s 9 ≡ e
+  end-is = let l = end-left 9 (omega arith) in cc (end-last s (startOf s 9))
+
+  pub end-within : e ≤ length s
+  end-within = omega (arith, end-is, start-within s 9)
+
+ends-at : (o : Option ℕ) (n : ℕ) → endsAt o n ≡ true → o ≡ some n
+ends-at none n h = let z : _≡_ {A = ℕ} 0 1 = cc in absurd (omega arith)
+ends-at (some e) n h = ap some (eqb-true e n h)
+
+pub shaped-end : (s : List ℕ) → wellShaped s ≡ true → recordEnd s ≡ some (length s)
+unfolding wellShaped
+shaped-end s w = ends-at (recordEnd s) (length s) w
+
+pub end-shaped : (s : List ℕ) → recordEnd s ≡ some (length s) → wellShaped s ≡ true
+unfolding wellShaped
+end-shaped s h = rw h (eq-eqb (length s) (length s) refl)
+
+module _ (s : List ℕ) (w : wellShaped s ≡ true) (k : ℕ) (h : k < 9) where
+  -- field k of a record of the right shape fits its row
+  pub field : Fitting (rowOf k) s (startOf s k)
+  field = front-field s (length s) (shaped-end s w) k h
+
+  pub content-least : rowOf k .least ≤ length (contentOf s k)
+  unfolding contentOf
+  content-least = omega (arith, field .least, field .content)
+
+  pub content-greatest : length (contentOf s k) ≤ rowOf k .greatest
+  unfolding contentOf
+  content-greatest = omega (arith, field .greatest, field .content)
+
+-- ---- what stands in the first e elements depends on those alone
+
+pub record Agree (e : ℕ) (s t : List ℕ) : Type 0 where
+  pub same : take e s ≡ take e t
+  pub in-left : e ≤ length s
+  pub in-right : e ≤ length t
+
+part-front : (e n at : ℕ) (s : List ℕ) → at + n ≤ e → bytesAt n (take e s) at ≡ bytesAt n s at
+part-front e n zero s h = take-take n e s (omega arith)
+part-front zero n (suc at) s h = absurd (omega arith)
+part-front (suc e) n (suc at) [] h = refl
+part-front (suc e) n (suc at) (x ∷ s) h = part-front e n at s (omega arith)
+
+module _ (e : ℕ) (s t : List ℕ) (a : Agree e s t) where
+  part-same : (n at : ℕ) → at + n ≤ e → bytesAt n t at ≡ bytesAt n s at
+  part-same n at h = sym (part-front e n at t h) ∙ (ap (λ (l : List ℕ). bytesAt n l at) (sym (a .same)) ∙ part-front e n at s h)
+
+  byte-same : (at : ℕ) → at < e → getD t at 0 ≡ getD s at 0
+  byte-same at h = sym (getD-take e t at 0 h) ∙ (ap (λ (l : List ℕ). getD l at 0) (sym (a .same)) ∙ getD-take e s at 0 h)
+
+  length-same : (at : ℕ) → at + 3 ≤ e → lengthAt t at ≡ lengthAt s at
+  unfolding littleAt
+  length-same at h = rw (part-same 2 (at + 1) (omega arith))
+
+  module _ (at : ℕ) (h : at + 3 + lengthAt s at ≤ e) where
+    pub next-same : nextAt t at ≡ nextAt s at
+    next-same =
+        let l = length-same at (omega arith) in
+        omega (arith, next-whole s at (omega (arith, a .in-left)), next-whole t at (omega (arith, a .in-right)))
+
+    pub content-same : contentAt t at ≡ contentAt s at
+    unfolding contentAt
+    content-same =
+        let n = next-whole s at (omega (arith, a .in-left)) in
+        rw next-same (part-same (nextAt s at - (at + 3)) (at + 3) (omega arith))
+
+    pub field-same : (row : Row) → Fitting row s at → fieldOk row t at ≡ true
+    field-same row f =
+        let l = length-same at (omega arith) in
+        field-last row t at (omega (arith, a .in-right)) (byte-same at (omega arith) ∙ f .tag) (omega (arith, f .least)) (omega (arith, f .greatest))
+        ∙ le-leb (at + 3 + lengthAt t at) (length t) (omega (arith, a .in-right))
+
+  pub ends-same : (rs : List Row) (at n : ℕ) → endFrom rs s at ≡ some n → n ≤ e → endFrom rs t at ≡ some n
+  unfolding endFrom
+  ends-same [] at n h g = h
+  ends-same (r ∷ rs) at n h g =
+      let p = picked (fieldOk r s at) (endFrom rs s (nextAt s at)) n h in
+      let f = fitting r s at (p .0) in
+      let b : at + 3 + lengthAt s at ≤ e = omega (arith, f .next, end-behind rs s (nextAt s at) n (p .1)) in
+      rw (field-same at b r f, next-same at b) (ends-same rs (nextAt s at) n (p .1) g)
+
+  module _ (n : ℕ) (h : recordEnd s ≡ some n) (g : n ≤ e) where
+    pub end-same : recordEnd t ≡ some n
+    unfolding recordEnd
+    end-same = ends-same rows 0 n h g
+
+    -- field k ends at or before the record's end
+    within : (k : ℕ) → k < 9 → startOf s k + 3 + lengthAt s (startOf s k) ≤ e
+    unfolding startOf
+    within k b = omega (arith, start-before s n h (suc k) b, front-field s n h k b .next)
+
+    pub start-same : (k : ℕ) → k ≤ 9 → startOf t k ≡ startOf s k
+    unfolding startOf
+    start-same zero b = refl
+    start-same (suc k) b = ap (nextAt t) (start-same k (omega arith)) ∙ next-same (startOf s k) (within k b)
+
+    pub contents-same : (k : ℕ) → k < 9 → contentOf t k ≡ contentOf s k
+    unfolding contentOf
+    contents-same k b = ap (contentAt t) (start-same k (omega arith)) ∙ content-same (startOf s k) (within k b)
+
+-- ---- one record after another
+
+pub front-agrees : (e : ℕ) (s : List ℕ) → e ≤ length s → Agree e s (take e s)
+front-agrees e s h = record { same = sym (take-take e e s (omega arith)); in-left = h; in-right = rw (length-take-le e s h) (omega arith) }
+
+pub append-agrees : (r t : List ℕ) → Agree (length r) r (r ++ t)
+append-agrees r t = record { same = take-length r ∙ sym (take-append-seam r t); in-left = omega arith; in-right = rw (length-append r t) (omega arith) }
+
+module _ (s : List ℕ) (e : ℕ) (h : recordEnd s ≡ some e) where
+  -- the record at the front of a list, taken alone
+  pub front-shaped : wellShaped (take e s) ≡ true
+  front-shaped =
+      let l = end-within s e h in
+      end-shaped (take e s) (rw (length-take-le e s l) (end-same e s (take e s) (front-agrees e s l) e h (omega arith)))
+
+  pub front-content : (k : ℕ) → k < 9 → contentOf (take e s) k ≡ contentOf s k
+  front-content = contents-same e s (take e s) (front-agrees e s (end-within s e h)) e h (omega arith)
+
+module _ (r t : List ℕ) (w : wellShaped r ≡ true) where
+  -- a record with anything behind it
+  pub append-end : recordEnd (r ++ t) ≡ some (length r)
+  append-end = end-same (length r) r (r ++ t) (append-agrees r t) (length r) (shaped-end r w) (omega arith)
+
+  pub append-content : (k : ℕ) → k < 9 → contentOf (r ++ t) k ≡ contentOf r k
+  append-content = contents-same (length r) r (r ++ t) (append-agrees r t) (length r) (shaped-end r w) (omega arith)

@@ -1,0 +1,170 @@
+// Fields of a tag, a length and content, and the table of the nine fields of a point record.
+ghost use mathlib.Core.Path.{_≡_};
+ghost use Prim.Native.Nat.{_<_, _≤_};
+ghost use lib.ListN.{length};
+ghost use Rattle.record.specs.Record.{rowOf, fieldOk, nextAt, contentAt, startOf, contentOf, recordEnd, endOf, wellShaped};
+
+// A row of the table of fields: the tag, and the least and the greatest length of the content.
+pub struct Row {
+    pub tag: u8,
+    pub least: usize,
+    pub greatest: usize,
+}
+
+const ROWS: [Row; 9] = [
+    Row {
+        tag: 1,
+        least: 68,
+        greatest: 68,
+    },
+    Row {
+        tag: 2,
+        least: 8,
+        greatest: 8,
+    },
+    Row {
+        tag: 3,
+        least: 0,
+        greatest: 16320,
+    },
+    Row {
+        tag: 4,
+        least: 0,
+        greatest: 16320,
+    },
+    Row {
+        tag: 5,
+        least: 0,
+        greatest: 8160,
+    },
+    Row {
+        tag: 6,
+        least: 34,
+        greatest: 102,
+    },
+    Row {
+        tag: 7,
+        least: 34,
+        greatest: 102,
+    },
+    Row {
+        tag: 8,
+        least: 1,
+        greatest: 3,
+    },
+    Row {
+        tag: 9,
+        least: 16,
+        greatest: 16,
+    },
+];
+
+// Where a record at the front of a slice ends.
+pub enum End {
+    At(usize),
+    Unreadable,
+}
+
+fn row_at(k: usize) -> Row
+    requires { ⌜ k < 9 ⌝ }
+    ensures { λ r. ⌜ r ≡ rowOf k ⌝ }
+{
+    ROWS[k]
+}
+
+// Where the field behind the one at a place starts; a field that is cut off ends with the slice.
+pub fn next(s: &[u8], at: usize) -> usize
+    requires { ⌜ at ≤ length (now s) ⌝ }
+    ensures { λ r. ⌜ r ≡ nextAt (now (s .entry)) at ⌝ }
+{
+    if s.len() - at < 3 {
+        return s.len();
+    }
+    let start = at + 3;
+    let n = parts::u16_at(s, at + 1) as usize;
+    if s.len() - start < n {
+        return s.len();
+    }
+    start + n
+}
+
+// The content of the field at a place, as a part of the slice.
+pub fn content_at(s: &[u8], at: usize) -> &[u8]
+    requires { ⌜ at ≤ length (now s) ⌝ }
+    ensures { λ r. ⌜ now r ≡ contentAt (now (s .entry)) at ⌝ }
+{
+    let end = next(s, at);
+    if end - at < 3 {
+        return &s[end..end];
+    }
+    &s[at + 3..end]
+}
+
+// Whether the field at a place fits a row of a table and lies in the slice.
+pub fn field_ok(s: &[u8], at: usize, row: Row) -> bool
+    requires { ⌜ at ≤ length (now s) ⌝ }
+    ensures { λ r. ⌜ r ≡ fieldOk row (now (s .entry)) at ⌝ }
+{
+    if s.len() - at < 3 {
+        return false;
+    }
+    let start = at + 3;
+    if s[at] != row.tag {
+        return false;
+    }
+    let n = parts::u16_at(s, at + 1) as usize;
+    if n < row.least {
+        return false;
+    }
+    if row.greatest < n {
+        return false;
+    }
+    n <= s.len() - start
+}
+
+// Where the nine fields at the front of a slice end.
+pub fn record_end(s: &[u8]) -> End
+    ensures { λ r. ⌜ endOf r ≡ recordEnd (now (s .entry)) ⌝ }
+{
+    let mut k = 0;
+    let mut at = 0;
+    while k < 9 {
+        if !field_ok(s, at, row_at(k)) {
+            return End::Unreadable;
+        }
+        at = next(s, at);
+        k += 1;
+    }
+    End::At(at)
+}
+
+// Whether a slice is the nine fields and nothing behind them.
+pub fn is_well_shaped(rec: &[u8]) -> bool
+    ensures { λ r. ⌜ r ≡ wellShaped (now (rec .entry)) ⌝ }
+{
+    let end = record_end(rec);
+    match end {
+        End::At(n) => n == rec.len(),
+        End::Unreadable => false,
+    }
+}
+
+// Where field k starts.
+fn start(rec: &[u8], k: usize) -> usize
+    ensures { λ r. ⌜ r ≡ startOf (now (rec .entry)) k ⌝ }
+{
+    let mut i = 0;
+    let mut at = 0;
+    while i < k {
+        at = next(rec, at);
+        i += 1;
+    }
+    at
+}
+
+// The content of field k, counted from 0, as a part of the record.
+pub fn content(rec: &[u8], k: usize) -> &[u8]
+    ensures { λ r. ⌜ now r ≡ contentOf (now (rec .entry)) k ⌝ }
+{
+    content_at(rec, start(rec, k))
+}

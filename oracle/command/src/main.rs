@@ -1,0 +1,53 @@
+//! The oracle's commands.
+
+mod edges;
+mod run_cases;
+mod spread;
+mod store;
+mod vectors;
+
+use std::process::ExitCode;
+
+const USAGE: &str = "oracle COMMAND
+  edges                  document 01's P1 to P10
+  histogram SEED COUNT   run generated cases and print how often each answer appears
+  sharpness SEED COUNT   run them through the plain judge too, with each mistake in it
+  agree SEED COUNT       run them through the oracle and the plain judge alone
+  spread SEED COUNT      how far the source's certificates spread, by depth and on feeds
+  vectors FILE           run the verify and judge cases of a file and compare with its answers
+  lines FILE             run them and print one line each
+  store FILE             write the stored list
+  stored FILE            replay it";
+
+fn main() -> ExitCode {
+    let arguments: Vec<String> = std::env::args().skip(1).collect();
+    let words: Vec<&str> = arguments.iter().map(String::as_str).collect();
+    let result = match words[..] {
+        ["edges"] => edges::run(),
+        ["vectors", file] => vectors::compare(file),
+        ["lines", file] => vectors::lines(file),
+        ["histogram", seed, count] => {
+            two_numbers(seed, count).and_then(|(seed, count)| run_cases::histogram(seed, count))
+        }
+        ["sharpness", seed, count] => {
+            two_numbers(seed, count).and_then(|(seed, count)| run_cases::sharpness(seed, count))
+        }
+        ["agree", seed, count] => two_numbers(seed, count).and_then(|(seed, count)| run_cases::agree(seed, count)),
+        ["spread", seed, feeds] => two_numbers(seed, feeds).and_then(|(seed, feeds)| spread::run(seed, feeds)),
+        ["store", file] => store::write(file),
+        ["stored", file] => store::check(file),
+        _ => Err(USAGE.to_string()),
+    };
+    match result {
+        Ok(()) => ExitCode::SUCCESS,
+        Err(fault) => {
+            eprintln!("{fault}");
+            ExitCode::FAILURE
+        }
+    }
+}
+
+fn two_numbers(first: &str, second: &str) -> Result<(u64, u64), String> {
+    let number = |word: &str| word.parse::<u64>().map_err(|e| format!("{word}: {e}"));
+    Ok((number(first)?, number(second)?))
+}

@@ -1,0 +1,74 @@
+//! Stands in for tycho-util: the standard maps under a small hasher of fixed seed, and a few names.
+
+use std::collections::{HashMap, HashSet};
+use std::hash::{BuildHasherDefault, Hasher};
+
+pub type FastHashMap<K, V> = HashMap<K, V, BuildHasherDefault<WordHasher>>;
+pub type FastHashSet<K> = HashSet<K, BuildHasherDefault<WordHasher>>;
+
+#[derive(Default)]
+pub struct WordHasher(u64);
+
+impl WordHasher {
+    fn mix(&mut self, word: u64) {
+        self.0 = (self.0.rotate_left(5) ^ word).wrapping_mul(0x9E37_79B9_7F4A_7C15);
+    }
+}
+
+impl Hasher for WordHasher {
+    fn finish(&self) -> u64 {
+        self.0 ^ (self.0 >> 32)
+    }
+
+    fn write(&mut self, bytes: &[u8]) {
+        for chunk in bytes.chunks(8) {
+            let mut word = [0; 8];
+            word[..chunk.len()].copy_from_slice(chunk);
+            self.mix(u64::from_le_bytes(word));
+        }
+    }
+
+    fn write_usize(&mut self, number: usize) {
+        self.mix(number as u64);
+    }
+}
+
+pub mod metrics {
+    pub struct HistogramGuard;
+
+    impl HistogramGuard {
+        pub fn begin(_name: &'static str) -> Self {
+            Self
+        }
+    }
+}
+
+pub mod serde_helpers {
+    use serde::Serializer;
+
+    pub struct Base64BytesWithLimit<const N: usize>;
+
+    impl<const N: usize> Base64BytesWithLimit<N> {
+        pub fn serialize<S: Serializer>(bytes: &[u8; N], serializer: S) -> Result<S::Ok, S::Error> {
+            serializer.serialize_bytes(bytes)
+        }
+    }
+
+    pub mod signature {
+        use serde::Serializer;
+
+        pub fn serialize<S: Serializer>(bytes: &[u8; 64], serializer: S) -> Result<S::Ok, S::Error> {
+            serializer.serialize_bytes(bytes)
+        }
+    }
+}
+
+pub mod time {
+    pub struct MonotonicClock;
+
+    impl MonotonicClock {
+        pub fn now_millis() -> u64 {
+            unreachable!("the oracle asks no clock")
+        }
+    }
+}

@@ -1,0 +1,4 @@
+//! No store: nothing is loaded or kept.
+
+#[derive(Clone)]
+pub struct MempoolStore;
