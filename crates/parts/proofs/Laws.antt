@@ -57,6 +57,14 @@ pub big-one : (s : List ℕ) (at : ℕ) → at < length s → bigAt 1 s at ≡ g
 unfolding bigAt big
 big-one s at h = rw (at-one s at h) (omega arith)
 
+-- the first byte, and the bytes behind it
+pub big-next : (n : ℕ) (s : List ℕ) (at next : ℕ) → next ≡ at + 1 → at + (1 + n) ≤ length s → bigAt (1 + n) s at ≡ getD s at 0 * 256 ^ n + bigAt n s next
+big-next n s at next e h = rw e (big-split 1 n s at (omega arith) ∙ ap (λ (x : ℕ). x * 256 ^ n + bigAt n s (at + 1)) (big-one s at (omega arith)))
+
+pub big-none : (s : List ℕ) (at : ℕ) → bigAt 0 s at ≡ 0
+unfolding bigAt big
+big-none s at = refl
+
 -- the four words of an id
 pub big-words : (s : List ℕ) (at : ℕ) → at + 32 ≤ length s →
     bigAt 32 s at ≡ ((bigAt 8 s at * 2 ^ 64 + bigAt 8 s (at + 8)) * 2 ^ 64 + bigAt 8 s (at + 16)) * 2 ^ 64 + bigAt 8 s (at + 24)

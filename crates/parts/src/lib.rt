@@ -58,34 +58,23 @@ pub fn u64_at(s: &[u8], at: usize) -> u64
     low as u64 + 4294967296 * high as u64
 }
 
-// The number of two bytes at a place, the first highest.
-fn big16_at(s: &[u8], at: usize) -> u64
-    requires { ⌜ at + 2 ≤ length (now s) ⌝ }
-    ensures { λ r. ⌜ (r ≡ bigAt 2 (now (s .entry)) at) × (r < 65536) ⌝ }
-{
-    let high = wide(s[at]);
-    let low = wide(s[at + 1]);
-    high * 256 + low
-}
-
-// The number of four bytes at a place, the first highest.
-fn big32_at(s: &[u8], at: usize) -> u64
-    requires { ⌜ at + 4 ≤ length (now s) ⌝ }
-    ensures { λ r. ⌜ (r ≡ bigAt 4 (now (s .entry)) at) × (r < 4294967296) ⌝ }
-{
-    let high = big16_at(s, at);
-    let low = big16_at(s, at + 2);
-    high * 65536 + low
-}
-
-// The number of eight bytes at a place, the first highest.
+// The number of eight bytes at a place, the first highest. Written as these two sums,
+// it compiles to one load.
 fn big64_at(s: &[u8], at: usize) -> u64
     requires { ⌜ at + 8 ≤ length (now s) ⌝ }
     ensures { λ r. ⌜ r ≡ bigAt 8 (now (s .entry)) at ⌝ }
 {
-    let high = big32_at(s, at);
-    let low = big32_at(s, at + 4);
-    high * 4294967296 + low
+    let a = wide(s[at]);
+    let b = wide(s[at + 1]);
+    let c = wide(s[at + 2]);
+    let d = wide(s[at + 3]);
+    let e = wide(s[at + 4]);
+    let f = wide(s[at + 5]);
+    let g = wide(s[at + 6]);
+    let h = wide(s[at + 7]);
+    let upper = a * 72057594037927936 + b * 281474976710656 + (c * 1099511627776 + d * 4294967296);
+    let lower = e * 16777216 + f * 65536 + (g * 256 + h);
+    upper + lower
 }
 
 // The id whose 32 bytes stand at a place.

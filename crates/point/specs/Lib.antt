@@ -1,3 +1,2 @@
 pub mod Point
 pub mod Reading
-pub mod Edges

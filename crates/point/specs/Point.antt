@@ -155,8 +155,9 @@ abbrev pub orZero : Option ℕ → ℕ
 orZero none = 0
 orZero (some d) = d
 
--- AnchorViewSource::id. Where the peer is not in its map the Rust panics ("usage of ill-formed point") and the digest here is 0;
--- verification and the domain of lists and books leave no such point.
+-- AnchorViewSource::id. Where the peer is not in its map the Rust panics ("usage of ill-formed point") and the digest here is 0.
+-- No verdict hangs on it: verification refuses such a point, and of a dependency only a direct link's target is asked for, which
+-- the domain of lists and books covers.
 unfoldable pub source : AnchorStageRole → PointInfo → PointId
 unfolding digestSafe
 source g p =

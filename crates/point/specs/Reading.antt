@@ -1,6 +1,6 @@
 -- What the bytes of a point record mean, and what the code's values stand for.
-use Prim.Native.Nat.{ℕ, zero, suc, _+_}
-use mathlib.Core.Bool.{Bool, true, false, _&&_}
+use Prim.Native.Nat.{ℕ, _+_}
+use mathlib.Core.Bool.{Bool, _&&_}
 use mathlib.Core.Option.{Option, none, some}
 use mathlib.Core.List.{List}
 use lib.ListN.{length, getD}
@@ -8,7 +8,7 @@ use lib.Dec.{leb, eqb}
 use Rattle.base.specs.Base.{pick}
 use Rattle.parts.specs.Bytes.{idAt, littleAt}
 use Rattle.parts.specs.Parts.{number}
-use Rattle.map.specs.Rows.{Pair, peersOf, pairsOf, wellRowed}
+use Rattle.map.specs.Rows.{peersOf, pairsOf, wellRowed}
 use Rattle.record.specs.Record.{contentOf, wellShaped}
 use Rattle.point.specs.Point.{PointId, Through, Includes, Witness, AnchorLink, Direct, Indirect, PointInfo, Sticky, AnchorView}
 use Rattle.point.specs.declared.data.PointRole.{PointRole}

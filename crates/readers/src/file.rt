@@ -1,10 +1,10 @@
-// The cases of a file, one blob after another through one buffer. A case is its kind (1), its number of blobs (1), and
-// each blob after its length (4). Cases of kinds 1 and 2 begin with settings, schedule and record; every other blob is
-// passed over. The file is taken to hold whole cases.
+// The cases of a file, one blob after another through one buffer. Cases of kinds 1 and 2 begin with settings, schedule
+// and record; every other blob is passed over.
 use crate::damage;
 use crate::mix::add;
 use crate::tally;
 use crate::tally::Tally;
+use cases::Head;
 ghost use Prim.Native.Nat.{_≤_};
 ghost use lib.ListN.{length};
 
@@ -40,28 +40,6 @@ enum Blob {
     Other,
 }
 
-struct Case {
-    kind: u8,
-    blobs: u8,
-    is_there: bool,
-}
-
-fn read_case(fd: i32) -> Case {
-    let mut two = [0u8; 2];
-    let n = io::read_full(fd, &mut two);
-    Case {
-        kind: two[0],
-        blobs: two[1],
-        is_there: n == 2,
-    }
-}
-
-fn read_length(fd: i32) -> usize {
-    let mut four = [0u8; 4];
-    io::read_full(fd, &mut four);
-    parts::u32_at(&four, 0) as usize
-}
-
 fn blob_at(kind: u8, i: u8) -> Blob {
     if kind == 0 {
         return Blob::Other;
@@ -75,19 +53,6 @@ fn blob_at(kind: u8, i: u8) -> Blob {
         2 => Blob::Record,
         _ => Blob::Other,
     }
-}
-
-// Reads so many bytes, for nothing.
-fn skip(fd: i32, n: usize, buf: &mut [u8]) {
-    let mut rest = n;
-    while buf.len() < rest {
-        let got = io::read_full(fd, buf);
-        if got == 0 {
-            return;
-        }
-        rest -= got;
-    }
-    io::read_full(fd, &mut buf[0..rest]);
 }
 
 // Counts a record, and if it is short and among the first, its damaged copies.
@@ -134,21 +99,19 @@ fn too_long(c: Counts, blob: Blob) -> Counts {
 
 // Reads one blob and counts what it is; one that is longer than the buffer is passed over.
 fn run_blob(c: Counts, fd: i32, blob: Blob, buf: &mut [u8]) -> Counts {
-    let n = read_length(fd);
-    if buf.len() < n {
-        skip(fd, n, buf);
+    let read = cases::read_blob(fd, buf, 0);
+    if !read.is_there {
         return too_long(c, blob);
     }
-    io::read_full(fd, &mut buf[0..n]);
-    count(c, blob, buf, n)
+    count(c, blob, buf, read.end)
 }
 
-fn run_case(c: Counts, fd: i32, case: Case, buf: &mut [u8]) -> Counts {
+fn run_case(c: Counts, fd: i32, head: Head, buf: &mut [u8]) -> Counts {
     let mut c = c;
     c.cases = add(c.cases, 1);
     let mut i = 0;
-    while i < case.blobs {
-        c = run_blob(c, fd, blob_at(case.kind, i), buf);
+    while i < head.blobs {
+        c = run_blob(c, fd, blob_at(head.kind, i), buf);
         i += 1;
     }
     c
@@ -159,11 +122,11 @@ pub fn run(fd: i32, buf: &mut [u8]) -> Counts {
     let mut c = NONE;
     let mut turns = u64::MAX;
     while 0 < turns {
-        let case = read_case(fd);
-        if !case.is_there {
+        let head = cases::read_head(fd);
+        if !head.is_there {
             return c;
         }
-        c = run_case(c, fd, case, buf);
+        c = run_case(c, fd, head, buf);
         turns -= 1;
     }
     c

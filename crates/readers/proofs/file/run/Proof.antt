@@ -14,8 +14,8 @@ abbrev μ-loop : tie.MeasureT-loop
 loop-holds : tie.Need-loop-holds Inv-loop μ-loop
 loop-holds c = search needs
 
-read-case-requires : tie.Need-read-case-requires Inv-loop μ-loop
-read-case-requires c κs = search needs
+read-head-requires : tie.Need-read-head-requires Inv-loop μ-loop
+read-head-requires c κs = search needs
 
 same-length : tie.Need-same-length Inv-loop μ-loop
 same-length c = search needs
@@ -48,7 +48,7 @@ run-spec =
     Inv-loop
     μ-loop
     loop-holds
-    read-case-requires
+    read-head-requires
     same-length
     returns
     run-case-requires

@@ -7,10 +7,10 @@ use Rattle.readers.proofs.file.run_case.Statement.{statement}
 use Rattle.readers.proofs.file.run_case.Tie as tie
 
 abbrev Inv-loop : tie.InvT-loop
-Inv-loop fd case buf₀ c₀ i₀ buf c i = length buf ≡ length buf₀
+Inv-loop fd head buf₀ c₀ i₀ buf c i = length buf ≡ length buf₀
 
 abbrev μ-loop : tie.MeasureT-loop
-μ-loop fd case buf₀ c₀ i₀ buf c i = case .blobs - i
+μ-loop fd head buf₀ c₀ i₀ buf c i = head .blobs - i
 
 add-requires : tie.Need-add-requires Inv-loop μ-loop
 add-requires c κs = search needs

@@ -1,0 +1,81 @@
+-- `of_verified` meets its contract: each arm gives the answer of its case.
+use mathlib.Core.Path.{ap, _∙_}
+use Rattle.answer.specs.Answer.{plain}
+use borrow.Author.Needs.{needs}
+use Rattle.answer.proofs.of_verified.Statement.{statement}
+use Rattle.answer.proofs.of_verified.Tie as tie
+
+enum-told : tie.Need-enum-told
+enum-told c = search needs
+
+carried-requires : tie.Need-carried-requires
+carried-requires c κs = search needs
+
+plain-requires : tie.Need-plain-requires
+plain-requires c κs = search needs
+
+enum-known-verified : tie.Need-enum-known-verified
+enum-known-verified c = search needs
+
+enum-known-error : tie.Need-enum-known-error
+enum-known-error c = search needs
+
+map-number-requires : tie.Need-map-number-requires
+map-number-requires c κs = search needs
+
+cast-carried : tie.Need-cast-carried
+cast-carried c = search needs
+
+carried-requires-2 : tie.Need-carried-requires-2
+carried-requires-2 c κs = search needs
+
+plain-requires-2 : tie.Need-plain-requires-2
+plain-requires-2 c κs = search needs
+
+enum-known-error-2 : tie.Need-enum-known-error-2
+enum-known-error-2 c = search needs
+
+number-requires : tie.Need-number-requires
+number-requires c κs = search needs
+
+of-ill-formed-requires : tie.Need-of-ill-formed-requires
+of-ill-formed-requires c κs = search needs
+
+plain-requires-3 : tie.Need-plain-requires-3
+plain-requires-3 c κs = search needs
+
+returns : tie.Need-returns
+returns c = c .plain .ensures ∙ (ap (plain 5 0) (c .before .carried .ensures) ∙ rw (c .before .before .enum-told .given .1))
+
+returns-2 : tie.Need-returns-2
+returns-2 c =
+    let e = c .before .before .before .before .before in
+    c .plain2 .ensures
+    ∙ (ap (plain 4 0) (c .before .carried2 .ensures) ∙ rw (c .before .before .before .map-number .ensures, e .before .before .before .verified .given .1, e .error .given .1))
+
+returns-3 : tie.Need-returns-3
+returns-3 c =
+    let e = c .before .before .before .before in
+    c .plain3 .ensures
+    ∙ (ap (plain 3 (c .before .before .number .result)) (c .before .of-ill-formed .ensures) ∙ rw (c .before .before .number .ensures, e .before .before .before .verified .given .1, e .error2 .given .1))
+
+pub of-verified-spec : {M : Type 1} → statement M
+of-verified-spec =
+    tie.close
+    (tie.spec
+    enum-told
+    carried-requires
+    plain-requires
+    enum-known-verified
+    enum-known-error
+    map-number-requires
+    cast-carried
+    carried-requires-2
+    plain-requires-2
+    enum-known-error-2
+    number-requires
+    of-ill-formed-requires
+    plain-requires-3
+    returns
+    returns-2
+    returns-3)

@@ -1,0 +1,201 @@
+// Document 01's number and values of a verdict, and their 114 bytes.
+use parts::Id;
+use point::AnchorStageRole;
+use point::PointId;
+use point::PointMap;
+use reasons::IllFormedReason;
+use reasons::StructureIssue;
+use reasons::Verified;
+use reasons::VerifyError;
+ghost use mathlib.Core.Path.{_≡_};
+ghost use Prim.Native.Nat.{_≤_};
+ghost use lib.ListN.{length};
+ghost use Rattle.parts.specs.Bytes.{putAt};
+ghost use Rattle.answer.specs.Answer.{mapNumber, roleNumber, flag, values, issueValues, illFormedValues, plain, verifiedAnswer, headBytes, numberBytes, rootBytes, answerBytes, valuesOf, answerOf};
+
+// What a reason carries beside its number.
+pub struct Values {
+    pub map: u8,
+    pub role: u8,
+    pub first: u32,
+    pub second: u32,
+    pub unknown: u8,
+}
+
+pub struct Answer {
+    pub kind: u8,
+    pub reason: u8,
+    pub id: PointId,
+    pub map: u8,
+    pub role: u8,
+    pub first: u32,
+    pub second: u32,
+    pub root_reason: u8,
+    pub peer: Id,
+    pub unknown: u8,
+}
+
+const NONE: u8 = 255;
+
+fn map_number(map: PointMap) -> u8
+    ensures { λ r. ⌜ r ≡ mapNumber map ⌝ }
+{
+    match map {
+        PointMap::Evidence => 0,
+        PointMap::Includes => 1,
+        PointMap::Witness => 2,
+    }
+}
+
+fn role_number(role: AnchorStageRole) -> u8
+    ensures { λ r. ⌜ r ≡ roleNumber role ⌝ }
+{
+    match role {
+        AnchorStageRole::Proof => 0,
+        AnchorStageRole::Trigger => 1,
+    }
+}
+
+fn flag(b: bool) -> u32
+    ensures { λ r. ⌜ r ≡ flag b ⌝ }
+{
+    if b { 1 } else { 0 }
+}
+
+fn carried(map: u8, role: u8, first: u32, second: u32, unknown: u8) -> Values
+    ensures { λ r. ⌜ valuesOf r ≡ values map role first second unknown ⌝ }
+{
+    Values {
+        map,
+        role,
+        first,
+        second,
+        unknown,
+    }
+}
+
+fn of_issue(issue: StructureIssue) -> Values
+    ensures { λ r. ⌜ valuesOf r ≡ issueValues issue ⌝ }
+{
+    match issue {
+        StructureIssue::ExpectedGenesis(b) => carried(NONE, NONE, 1, flag(b), 0),
+        StructureIssue::BadGenesisPrevPoint => carried(NONE, NONE, 2, 0, 0),
+        StructureIssue::AuthorInMap(m) => carried(map_number(m), NONE, 3, 0, 0),
+        StructureIssue::TriggerBadProofLink => carried(NONE, NONE, 4, 0, 0),
+        StructureIssue::Link(g, m) => carried(map_number(m), role_number(g), 5, 0, 0),
+        StructureIssue::AnchorTime => carried(NONE, NONE, 6, 0, 0),
+        StructureIssue::NoPrevPoint => carried(NONE, NONE, 7, 0, 0),
+    }
+}
+
+fn of_ill_formed(reason: IllFormedReason) -> Values
+    ensures { λ r. ⌜ valuesOf r ≡ illFormedValues reason ⌝ }
+{
+    match reason {
+        IllFormedReason::BeforeGenesis => carried(NONE, NONE, 0, 0, 0),
+        IllFormedReason::UnknownAuthor => carried(NONE, NONE, 0, 0, 0),
+        IllFormedReason::FalseGenesis => carried(NONE, NONE, 0, 0, 0),
+        IllFormedReason::TooLargePayload(n) => carried(NONE, NONE, n, 0, 0),
+        IllFormedReason::Structure(i) => of_issue(i),
+        IllFormedReason::TooManyStickyAnchors(n) => carried(NONE, NONE, n as u32, 0, 0),
+        IllFormedReason::BadLastStickyFlag => carried(NONE, NONE, 0, 0, 0),
+        IllFormedReason::LinksAcrossGenesis => carried(NONE, NONE, 0, 0, 0),
+        IllFormedReason::MustBeEmpty(m) => carried(map_number(m), NONE, 0, 0, 0),
+        IllFormedReason::UnknownPeers(n, m) => carried(map_number(m), NONE, 0, 0, n),
+        IllFormedReason::UnknownPeerInAnchorLink(g) => carried(NONE, role_number(g), 0, 0, 0),
+        IllFormedReason::LackOfPeers(n, f, m) => {
+            carried(map_number(m), NONE, n as u32, f.0 as u32, 0)
+        }
+        IllFormedReason::NotRegular => carried(NONE, NONE, 0, 0, 0),
+        IllFormedReason::BadWaveLink(b) => carried(NONE, NONE, flag(b), 0, 0),
+    }
+}
+
+// An answer that names no point and no root cause.
+fn plain(kind: u8, reason: u8, v: Values) -> Answer
+    ensures { λ r. ⌜ answerOf r ≡ plain kind reason (valuesOf v) ⌝ }
+{
+    let zeros = Id {
+        a: 0,
+        b: 0,
+        c: 0,
+        d: 0,
+    };
+    let id = PointId {
+        round: 0,
+        digest: zeros,
+        author: zeros,
+    };
+    Answer {
+        kind,
+        reason,
+        id,
+        map: v.map,
+        role: v.role,
+        first: v.first,
+        second: v.second,
+        root_reason: 0,
+        peer: zeros,
+        unknown: v.unknown,
+    }
+}
+
+pub fn of_verified(verified: Verified) -> Answer
+    ensures { λ r. ⌜ answerOf r ≡ verifiedAnswer verified ⌝ }
+{
+    match verified {
+        Verified::Passed => plain(5, 0, carried(NONE, NONE, 0, 0, 0)),
+        Verified::Failed(error) => match error {
+            VerifyError::Fail(u) => {
+                let map = u.map;
+                plain(
+                    4,
+                    0,
+                    carried(map_number(map), NONE, u.len as u32, u.round, 0),
+                )
+            }
+            VerifyError::IllFormed(reason) => plain(3, reason.number(), of_ill_formed(reason)),
+        },
+    }
+}
+
+fn put_head(out: &mut [u8], a: Answer)
+    requires { ⌜ 114 ≤ length (now out) ⌝ }
+    ensures { λ r. ⌜ now (out .exit) ≡ putAt (now (out .entry)) 0 (headBytes (answerOf a)) ⌝ }
+{
+    let id = a.id;
+    out[0] = a.kind;
+    out[1] = a.reason;
+    write::put_u32(out, 2, id.round);
+    write::put_id(out, 6, id.digest);
+    write::put_id(out, 38, id.author);
+}
+
+fn put_numbers(out: &mut [u8], a: Answer)
+    requires { ⌜ 114 ≤ length (now out) ⌝ }
+    ensures { λ r. ⌜ now (out .exit) ≡ putAt (now (out .entry)) 70 (numberBytes (answerOf a)) ⌝ }
+{
+    out[70] = a.map;
+    out[71] = a.role;
+    write::put_u32(out, 72, a.first);
+    write::put_u32(out, 76, a.second);
+}
+
+fn put_root(out: &mut [u8], a: Answer)
+    requires { ⌜ 114 ≤ length (now out) ⌝ }
+    ensures { λ r. ⌜ now (out .exit) ≡ putAt (now (out .entry)) 80 (rootBytes (answerOf a)) ⌝ }
+{
+    out[80] = a.root_reason;
+    write::put_id(out, 81, a.peer);
+    out[113] = a.unknown;
+}
+
+// Writes the 114 bytes.
+pub fn put_answer(out: &mut [u8], a: Answer)
+    requires { ⌜ 114 ≤ length (now out) ⌝ }
+    ensures { λ r. ⌜ now (out .exit) ≡ putAt (now (out .entry)) 0 (answerBytes (answerOf a)) ⌝ }
+{
+    put_head(out, a);
+    put_numbers(out, a);
+    put_root(out, a);
+}

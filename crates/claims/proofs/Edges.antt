@@ -1,0 +1,40 @@
+-- The edges hold: the checker computes each.
+use mathlib.Core.Path.{refl}
+use Rattle.base.specs.Base.{concat, firstOf, lastOf}
+use Rattle.map.specs.Rows.{get, find, findFrom, has, peers}
+use Rattle.point.specs.Point.{digestSafe, prevDigest, source, target, top}
+use Rattle.verifier.specs.Verify.{linksOwn, targetTooNew, badLink, ownPointRows, linkRows, structureRows, genesisStructureRows, stickyFault}
+use Rattle.verifier.specs.Invalid.{invalidNumber, hasDagRound}
+use Rattle.verifier.specs.Validate.{sameId, proofRow, triggerProofRow, timeRow, newerRow, stickyRow, reachedRow, targetRow, anchorTimeRow, carriedRow, sourceRow, pointRows, taken, dependencyTrail, entryTrail, directTrail, recordOf, isNewer, join}
+use Rattle.claims.specs.Edges.{Edges, conf}
+
+pub edges : Edges
+unfolding concat firstOf lastOf get find findFrom has peers digestSafe prevDigest linksOwn targetTooNew badLink ownPointRows linkRows structureRows genesisStructureRows stickyFault conf source target top invalidNumber hasDagRound sameId proofRow triggerProofRow timeRow newerRow stickyRow reachedRow targetRow anchorTimeRow carriedRow sourceRow pointRows taken dependencyTrail entryTrail directTrail recordOf isNewer join
+edges =
+    record {
+      near = refl;
+      far = refl;
+      direct = refl;
+      firstProof = refl;
+      laterProof = refl;
+      laterTrigger = refl;
+      included = refl;
+      reversed = refl;
+      equalAbove = refl;
+      laterAbove = refl;
+      equalGenesis = refl;
+      laterGenesis = refl;
+      tooMany = refl;
+      notLast = refl;
+      lastTooSoon = refl;
+      lastInTime = refl;
+      inWindow = refl;
+      pastWindow = refl;
+      dagRoundLater = refl;
+      dagRoundFirst = refl;
+      lastReason = refl;
+      droppedLater = refl;
+      droppedFirst = refl;
+      inSkew = refl;
+      pastSkew = refl;
+    }

@@ -1,0 +1,137 @@
+-- Document 01, "Edges, proved as one tabulated fact": P1 to P10.
+use Prim.Native.Nat.{ℕ}
+use mathlib.Core.Path.{_≡_}
+use mathlib.Core.Bool.{Bool, true, false}
+use mathlib.Core.Option.{Option, none, some}
+use mathlib.Core.List.{List, [], _∷_}
+use Rattle.base.specs.Base.{concat, firstOf, lastOf}
+use Rattle.map.specs.Rows.{Pair}
+use Rattle.point.specs.Point.{PointId, Includes, Direct, Indirect, PointInfo, isWaveFarEnough, isAnchorProof, isAnchorTrigger, stickyAnchors}
+use Rattle.point.specs.declared.data.PointRole.{PointRole}
+use Rattle.point.specs.declared.data.PointRole.the-variants.{Regular, AnchorProof, AnchorTrigger, Genesis}
+use Rattle.point.specs.declared.data.PointMap.the-variants as map
+use Rattle.schedule.specs.Settings.{Settings}
+use Rattle.reasons.specs.declared.ill_formed.StructureIssue.the-variants.{AuthorInMap, AnchorTime}
+use Rattle.reasons.specs.declared.ill_formed.IllFormedReason.the-variants.{TooManyStickyAnchors, BadLastStickyFlag}
+use Rattle.reasons.specs.declared.ill_formed.VerifyError.{VerifyError}
+use Rattle.reasons.specs.declared.ill_formed.VerifyError.the-variants.{IllFormed}
+use Rattle.verifier.specs.Verify.{structureRows, genesisStructureRows, stickyFault}
+use Rattle.verifier.specs.Invalid.{InvalidReason, invalidNumber, InvalidDependency, Valid, TransInvalid, NotFound, Dropped, Entry}
+use Rattle.verifier.specs.Validate.{directTrail, recordOf, join}
+
+-- settings with sticky_anchors 3
+unfoldable pub conf : Settings
+conf =
+    record {
+      genesisRound = 10;
+      genesisDigest = 77;
+      payloadBatchBytes = 1000;
+      stickyAnchors = 3;
+      clockSkewMillis = 500;
+      commitHistoryRounds = 21;
+    }
+
+-- a point of author 1 with direct links through its own previous point
+abbrev pub pointAt : ℕ → List Pair → List ℕ → PointRole → ℕ → ℕ → PointInfo
+pointAt round included evidenced role time anchorTime =
+    record {
+      id = record { round = round; digest = 5; author = 1 };
+      payloadLen = 0;
+      payloadBytes = 0;
+      includes = included;
+      witness = [];
+      evidence = evidenced;
+      anchorProof = Direct (Includes 1);
+      anchorTrigger = Direct (Includes 1);
+      role = role;
+      time = time;
+      anchorTime = anchorTime;
+    }
+
+-- the author's pair, with the digest of genesis' previous point
+abbrev pub own : List Pair
+own = record { peer = 1; digest = 0 } ∷ []
+
+abbrev pub targetAt : ℕ → PointId
+targetAt round = record { round = round; digest = 4; author = 2 }
+
+-- the judged point of P8 to P10: round 12, time 1,000
+abbrev pub judged : PointInfo
+judged = pointAt 12 (record { peer = 1; digest = 3 } ∷ record { peer = 2; digest = 4 } ∷ []) (2 ∷ 3 ∷ []) Regular 1000 10
+
+-- a dependency at round 11 by author 2, of this time; one that is not found; one that was dropped with its round
+abbrev pub dependency : ℕ → Entry
+dependency time =
+    record {
+      state =
+          Valid (record {
+            id = record { round = 11; digest = 4; author = 2 };
+            payloadLen = 0;
+            payloadBytes = 0;
+            includes = record { peer = 2; digest = 0 } ∷ [];
+            witness = [];
+            evidence = [];
+            anchorProof = Direct (Includes 1);
+            anchorTrigger = Direct (Includes 1);
+            role = Regular;
+            time = time;
+            anchorTime = 10;
+          });
+      certified = false;
+      firstValid = true;
+    }
+
+abbrev pub notFound : Entry
+notFound = record { state = NotFound (record { round = 11; digest = 3; author = 3 }); certified = false; firstValid = false }
+
+abbrev pub dropped : Entry
+dropped = record { state = Dropped; certified = false; firstValid = false }
+
+-- the number of the reason that a direct list gives, 0 if none
+abbrev pub numberOf : Option InvalidReason → ℕ
+numberOf none = 0
+numberOf (some reason) = invalidNumber reason
+
+abbrev pub given : List Entry → ℕ
+given l = numberOf (lastOf (directTrail conf false judged false l))
+
+-- a root cause at round 90 with this reason
+abbrev pub rootAt90 : ℕ → InvalidDependency
+rootAt90 n = record { to = targetAt 90; reason = n; through = Includes 2 }
+
+pub record Edges : Type 0 where
+  -- P1 Indirect link 3 rounds back: near; 4: far; direct: near
+  pub near : isWaveFarEnough 20 (Indirect (targetAt 17) (Includes 2)) ≡ false
+  pub far : isWaveFarEnough 20 (Indirect (targetAt 16) (Includes 2)) ≡ true
+  pub direct : isWaveFarEnough 20 (Direct (Includes 2)) ≡ false
+  -- P2 Proof of seq_no 0 is no trigger; of 1 is both
+  pub firstProof : isAnchorTrigger (AnchorProof 0 true) ≡ false
+  pub laterProof : isAnchorProof (AnchorProof 1 true) ≡ true
+  pub laterTrigger : isAnchorTrigger (AnchorProof 1 true) ≡ true
+  -- P3 A regular point, evidence empty with the author included: author in includes; both reversed: the same
+  pub included : firstOf (concat (structureRows (pointAt 12 own [] Regular 9 1))) ≡ some (AuthorInMap map.Includes)
+  pub reversed : firstOf (concat (structureRows (pointAt 12 [] (2 ∷ []) Regular 9 1))) ≡ some (AuthorInMap map.Includes)
+  -- P4 Time equal to anchor_time: bad above genesis, needed at genesis
+  pub equalAbove : firstOf (concat (structureRows (pointAt 12 own (2 ∷ []) Regular 9 9))) ≡ some AnchorTime
+  pub laterAbove : firstOf (concat (structureRows (pointAt 12 own (2 ∷ []) Regular 9 8))) ≡ none
+  pub equalGenesis : firstOf (concat (genesisStructureRows (pointAt 10 own [] Genesis 9 9))) ≡ none
+  pub laterGenesis : firstOf (concat (genesisStructureRows (pointAt 10 own [] Genesis 9 8))) ≡ some AnchorTime
+  -- P5 sticky_anchors 3: seq_no 4 too many; 3 not last, or 2 last: bad flag
+  pub tooMany : firstOf (stickyFault conf (stickyAnchors (AnchorProof 4 true))) ≡ some (IllFormed (TooManyStickyAnchors 4))
+  pub notLast : firstOf (stickyFault conf (stickyAnchors (AnchorProof 3 false))) ≡ some (IllFormed BadLastStickyFlag)
+  pub lastTooSoon : firstOf (stickyFault conf (stickyAnchors (AnchorProof 2 true))) ≡ some (IllFormed BadLastStickyFlag)
+  pub lastInTime : firstOf (stickyFault conf (stickyAnchors (AnchorProof 3 true))) ≡ none
+  -- P6 Root 90, history 21: recorded at r−1 = 110, not at 111
+  pub inWindow : recordOf conf (pointAt 111 [] [] Regular 9 1) false (Includes 2) (TransInvalid judged (targetAt 90) 6) ≡ some (rootAt90 6)
+  pub pastWindow : recordOf conf (pointAt 112 [] [] Regular 9 1) false (Includes 2) (TransInvalid judged (targetAt 90) 6) ≡ none
+  -- P7 Equal rounds: reason 2 then 6 records 6; 6 then 2 keeps 6
+  pub dagRoundLater : join (some (rootAt90 2)) (some (rootAt90 6)) ≡ some (rootAt90 6)
+  pub dagRoundFirst : join (some (rootAt90 6)) (some (rootAt90 2)) ≡ some (rootAt90 6)
+  -- P8 Entries giving 11 then 19: 19
+  pub lastReason : given (dependency 1501 ∷ notFound ∷ []) ≡ 19
+  -- P9 11 then dropped: 11; dropped first: 3
+  pub droppedLater : given (dependency 1501 ∷ dropped ∷ []) ≡ 11
+  pub droppedFirst : given (dropped ∷ dependency 1501 ∷ []) ≡ 3
+  -- P10 Time 1,000, skew 500, an entry that isn't the previous point: 1,500 passes, 1,501 gives 11
+  pub inSkew : given (dependency 1500 ∷ []) ≡ 0
+  pub pastSkew : given (dependency 1501 ∷ []) ≡ 11

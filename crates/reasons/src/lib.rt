@@ -1,0 +1,9 @@
+// The reasons and verdicts of verifier.rs, under its names, and document 01's number of each.
+mod ill_formed;
+
+pub use ill_formed::Checked;
+pub use ill_formed::IllFormedReason;
+pub use ill_formed::StructureIssue;
+pub use ill_formed::UninitVset;
+pub use ill_formed::Verified;
+pub use ill_formed::VerifyError;

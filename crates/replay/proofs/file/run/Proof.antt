@@ -1,0 +1,67 @@
+-- `run` is safe and ends: the turns are counted down.
+use mathlib.Core.Path.{_≡_}
+use lib.ListN.{length}
+use borrow.Author.Needs.{needs}
+use Rattle.replay.proofs.file.run.Statement.{statement}
+use Rattle.replay.proofs.file.run.Tie as tie
+
+abbrev Inv-loop : tie.InvT-loop
+Inv-loop fd buf₀ peers₀ c₀ turns₀ buf peers c turns = (length buf ≡ length buf₀) × (length peers ≡ length peers₀)
+
+abbrev μ-loop : tie.MeasureT-loop
+μ-loop fd buf₀ peers₀ c₀ turns₀ buf peers c turns = turns
+
+loop-holds : tie.Need-loop-holds Inv-loop μ-loop
+loop-holds c = search needs
+
+read-head-requires : tie.Need-read-head-requires Inv-loop μ-loop
+read-head-requires c κs = search needs
+
+same-length : tie.Need-same-length Inv-loop μ-loop
+same-length c = search needs
+
+same-length-2 : tie.Need-same-length-2 Inv-loop μ-loop
+same-length-2 c = search needs
+
+returns : tie.Need-returns Inv-loop μ-loop
+returns c = search needs
+
+run-case-requires : tie.Need-run-case-requires Inv-loop μ-loop
+run-case-requires c κs = search needs
+
+sub-turns : tie.Need-sub-turns Inv-loop μ-loop
+sub-turns c = search needs
+
+loop-less : tie.Need-loop-less Inv-loop μ-loop
+loop-less c = search needs
+
+loop-again : tie.Need-loop-again Inv-loop μ-loop
+loop-again c = search needs
+
+same-length-3 : tie.Need-same-length-3 Inv-loop μ-loop
+same-length-3 c = search needs
+
+same-length-4 : tie.Need-same-length-4 Inv-loop μ-loop
+same-length-4 c = search needs
+
+returns-2 : tie.Need-returns-2 Inv-loop μ-loop
+returns-2 c = search needs
+
+pub run-spec : {M : Type 1} → statement M
+run-spec =
+    tie.close
+    (tie.spec
+    Inv-loop
+    μ-loop
+    loop-holds
+    read-head-requires
+    same-length
+    same-length-2
+    returns
+    run-case-requires
+    sub-turns
+    loop-less
+    loop-again
+    same-length-3
+    same-length-4
+    returns-2)

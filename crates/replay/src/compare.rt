@@ -1,0 +1,139 @@
+// An answer beside the one that a case expects: the number, 0 for a verdict (1); the answer's bytes but the last (113);
+// 40 zeros; how many unknown peers (1), and these. With a number, map and role are 255 and so is the verdict's kind.
+use crate::counts;
+use crate::counts::Counts;
+use crate::print;
+use libc::STDOUT_FILENO;
+ghost use Prim.Native.Nat.{_<_};
+
+// What fills the buffers that are lent.
+pub const LENT: u8 = 0xA5;
+
+fn wide(x: u8) -> usize
+    ensures { λ r. ⌜ r < 256 ⌝ }
+{
+    x as usize
+}
+
+fn is_filled(s: &[u8], byte: u8) -> bool {
+    let mut i = 0;
+    while i < s.len() {
+        if s[i] != byte {
+            return false;
+        }
+        i += 1;
+    }
+    true
+}
+
+fn is_same(s: &[u8], t: &[u8]) -> bool {
+    if s.len() != t.len() {
+        return false;
+    }
+    let mut i = 0;
+    while i < s.len() {
+        if s[i] != t[i] {
+            return false;
+        }
+        i += 1;
+    }
+    true
+}
+
+// Behind a number, that the case expects no verdict, and that nothing that was lent has changed.
+fn is_number(want: &[u8], answer: &[u8; 114], peers: &[u8]) -> bool {
+    if want.len() != 155 {
+        return false;
+    }
+    if want[1] != 255 {
+        return false;
+    }
+    if !is_filled(&want[2..71], 0) {
+        return false;
+    }
+    if want[71] != 255 {
+        return false;
+    }
+    if want[72] != 255 {
+        return false;
+    }
+    if !is_filled(&want[73..155], 0) {
+        return false;
+    }
+    if !is_filled(answer, LENT) {
+        return false;
+    }
+    is_filled(peers, LENT)
+}
+
+// Behind a 0, that the verdict is the expected one, and that nothing has changed behind the unknown peers.
+fn is_verdict(want: &[u8], answer: &[u8; 114], peers: &[u8]) -> bool {
+    if want.len() < 155 {
+        return false;
+    }
+    let n = 32 * wide(want[154]);
+    let end = 155 + n;
+    if want.len() != end {
+        return false;
+    }
+    if peers.len() < n {
+        return false;
+    }
+    if want[154] != answer[113] {
+        return false;
+    }
+    let bytes = &answer[..];
+    if !is_same(&want[1..114], &bytes[0..113]) {
+        return false;
+    }
+    if !is_filled(&want[114..154], 0) {
+        return false;
+    }
+    if !is_same(&want[155..end], &peers[0..n]) {
+        return false;
+    }
+    is_filled(&peers[n..], LENT)
+}
+
+fn is_expected(want: &[u8], number: u8, answer: &[u8; 114], peers: &[u8]) -> bool {
+    if want.len() == 0 {
+        return false;
+    }
+    if want[0] != number {
+        return false;
+    }
+    if number == 0 {
+        return is_verdict(want, answer, peers);
+    }
+    is_number(want, answer, peers)
+}
+
+fn show(place: u64, want: &[u8], number: u8, answer: &[u8; 114], peers: &[u8]) {
+    print::line(b"first difference: case", place);
+    io::write_all(STDOUT_FILENO, b"expected ");
+    print::bytes(want);
+    io::write_all(STDOUT_FILENO, b"\nnumber ");
+    print::byte(number);
+    io::write_all(STDOUT_FILENO, b"\nanswer ");
+    print::bytes(answer);
+    io::write_all(STDOUT_FILENO, b"\npeers ");
+    print::bytes(peers);
+    io::write_all(STDOUT_FILENO, b"\n");
+}
+
+// Counts a difference, and shows the first.
+pub fn compare(c: Counts, want: &[u8], number: u8, answer: &[u8; 114], peers: &[u8]) -> Counts {
+    if is_expected(want, number, answer, peers) {
+        return c;
+    }
+    if c.different == 0 {
+        show(c.place, want, number, answer, peers);
+    }
+    counts::one_different(c)
+}
+
+// Counts a case for which there is no room as different, and says so.
+pub fn no_room(c: Counts) -> Counts {
+    print::line(b"no room: case", c.place);
+    counts::one_different(c)
+}

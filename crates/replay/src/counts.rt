@@ -1,0 +1,42 @@
+// How many cases there were of each kind, how many of them were answered otherwise, and the place of the last, from 1.
+pub struct Counts {
+    pub place: u64,
+    pub verify: u64,
+    pub other: u64,
+    pub different: u64,
+}
+
+pub const NONE: Counts = Counts {
+    place: 0,
+    verify: 0,
+    other: 0,
+    different: 0,
+};
+
+fn next(n: u64) -> u64 {
+    std::num::wrapping_add_u64(n, 1)
+}
+
+pub fn next_place(c: Counts) -> Counts {
+    let mut c = c;
+    c.place = next(c.place);
+    c
+}
+
+pub fn one_verify(c: Counts) -> Counts {
+    let mut c = c;
+    c.verify = next(c.verify);
+    c
+}
+
+pub fn one_other(c: Counts) -> Counts {
+    let mut c = c;
+    c.other = next(c.other);
+    c
+}
+
+pub fn one_different(c: Counts) -> Counts {
+    let mut c = c;
+    c.different = next(c.different);
+    c
+}

@@ -1,0 +1,49 @@
+// Replays stored cases against the code: makes each call that a case lists, with buffers that are filled beforehand, and
+// compares every byte of them with the answer that the case expects. Each argument names a file of cases.
+mod case;
+mod compare;
+mod counts;
+mod file;
+mod print;
+mod verify_case;
+
+use counts::Counts;
+use print::line;
+
+// A case, and the peers that a call hands back.
+const CASE_ROOM: usize = 131072;
+
+const PEERS_ROOM: usize = 16384;
+
+fn report(c: Counts) {
+    line(b"verify cases", c.verify);
+    line(b"other cases", c.other);
+    line(b"different", c.different);
+}
+
+fn run_file(i: usize, buf: &mut [u8], peers: &mut [u8]) {
+    let mut path = io::buffer();
+    let length = os::arg(i, &mut path);
+    let fd = os::open_read(&path[..length]);
+    if fd < 0 {
+        os::fail(&path[..length]);
+        return;
+    }
+    report(file::run(fd, buf, peers));
+    libc::close(fd);
+}
+
+fn run_files(buf: &mut [u8], peers: &mut [u8]) {
+    let n = os::arg_count();
+    let mut i = 1;
+    while i < n {
+        run_file(i, buf, peers);
+        i += 1;
+    }
+}
+
+fn main() {
+    let mut buf = [0u8; CASE_ROOM];
+    let mut peers = [0u8; PEERS_ROOM];
+    run_files(&mut buf, &mut peers);
+}

@@ -1,0 +1,92 @@
+// BasicVerifier of verifier.rs: whether a point is well formed, before any of its dependencies is known.
+use point::PointInfo;
+use point::ReadPoint;
+use reasons::Verified;
+use schedule::ReadSettings;
+use schedule::Schedule;
+use schedule::Settings;
+ghost use mathlib.Core.Path.{_≡_};
+ghost use mathlib.Core.Bool.{true};
+ghost use mathlib.Core.Option.{some};
+ghost use Prim.Native.Nat.{_≤_};
+ghost use lib.ListN.{length};
+ghost use Rattle.point.specs.Reading.{pointOf, readPoint};
+ghost use Rattle.schedule.specs.Settings.{settingsOf};
+ghost use Rattle.schedule.specs.Schedule.{readSchedule, scheduleOf};
+ghost use Rattle.verifier.specs.Verify.{scheduled, verify};
+ghost use Rattle.verifier.specs.Found.{verifiedOf, bufferWith};
+ghost use Rattle.verify.specs.Call.{inDomain, tested, verifyWith, verifyBuffer};
+
+// Document 01's number in place of a verdict, or what verification found.
+pub enum VerifyAnswer {
+    Number(u8),
+    Verdict(Verified),
+}
+
+// Whether a point's round and times lie in the domain.
+pub fn is_in_domain(rec: &[u8], info: PointInfo) -> bool
+    ensures { λ r. ⌜ r ≡ inDomain (pointOf (now (rec .entry)) info) ⌝ }
+{
+    let id = info.id;
+    if id.round < 4 {
+        return false;
+    }
+    if 2147483647 < id.round {
+        return false;
+    }
+    if 9223372036854775807 < info.time {
+        return false;
+    }
+    info.anchor_time <= 9223372036854775807
+}
+
+// BasicVerifier::verify, of input that was read.
+pub fn verify_point(
+    conf: Settings,
+    schedule: &[u8],
+    spans: Schedule,
+    rec: &[u8],
+    info: PointInfo,
+    peers: &mut [u8],
+) -> Verified
+    requires { ⌜ readSchedule (now schedule) ≡ some (scheduleOf (now schedule) spans) ⌝ }
+    requires { ⌜ readPoint (now rec) ≡ some (pointOf (now rec) info) ⌝ }
+    requires { ⌜ 8160 ≤ length (now peers) ⌝ }
+    ensures { λ r. ⌜ verifiedOf r ≡ verify (settingsOf conf) (scheduleOf (now (schedule .entry)) spans) (pointOf (now (rec .entry)) info) ⌝ }
+    ensures { λ r. ⌜ now (peers .exit) ≡ bufferWith (scheduled (settingsOf conf) (scheduleOf (now (schedule .entry)) spans) (pointOf (now (rec .entry)) info)) (pointOf (now (rec .entry)) info) (verifiedOf r) (now (peers .entry)) ⌝ }
+{
+    let new = check_new::check_new(conf, schedule, spans, rec, info);
+    let Verified::Passed = new else {
+        return new;
+    };
+    let well_formed = check_well_formed::check_well_formed(conf, rec, info);
+    let Verified::Passed = well_formed else {
+        return well_formed;
+    };
+    check_peers::check_peers(conf, schedule, spans, rec, info, peers)
+}
+
+// Numbers 1 to 5 in number order, then the verdict.
+pub fn verify(settings: &[u8], schedule: &[u8], rec: &[u8], peers: &mut [u8]) -> VerifyAnswer
+    ensures { λ r. ⌜ r ≡ verifyWith (tested (now (settings .entry)) (now (schedule .entry)) (now (rec .entry)) true (length (now (peers .entry)))) ⌝ }
+    ensures { λ r. ⌜ now (peers .exit) ≡ verifyBuffer (tested (now (settings .entry)) (now (schedule .entry)) (now (rec .entry)) true (length (now (peers .entry)))) (now (peers .entry)) ⌝ }
+{
+    let ReadSettings::Settings(conf) = schedule::read_settings(settings) else {
+        return VerifyAnswer::Number(1);
+    };
+    let read = schedule::read_schedule(schedule);
+    if !read.readable {
+        return VerifyAnswer::Number(2);
+    }
+    let spans = read.schedule;
+    let ReadPoint::Point(info) = point::read_point(rec) else {
+        return VerifyAnswer::Number(3);
+    };
+    if !is_in_domain(rec, info) {
+        return VerifyAnswer::Number(4);
+    }
+    if peers.len() < 8160 {
+        return VerifyAnswer::Number(5);
+    }
+    VerifyAnswer::Verdict(verify_point(conf, schedule, spans, rec, info, peers))
+}

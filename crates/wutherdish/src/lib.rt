@@ -1,0 +1,31 @@
+// The calls for other languages, over the proved ones.
+use verify::VerifyAnswer;
+ghost use mathlib.Core.Path.{_≡_};
+ghost use mathlib.Core.Bool.{true};
+ghost use lib.ListN.{length};
+ghost use Rattle.verify.specs.Call.{tested, verifyWith, verifyBuffer};
+ghost use Rattle.wutherdish.specs.Calls.{verifyNumber, verifyAnswer};
+
+// Verifies a point. Answers document 01's number, or 0 with the verdict in `answer` and the unknown peers in `peers`; with a
+// number no lent byte changes.
+#[no_mangle]
+pub extern "C" fn wutherdish_verify(
+    settings: &[u8],
+    schedule: &[u8],
+    rec: &[u8],
+    peers: &mut [u8],
+    answer: &mut [u8; 114],
+) -> u8
+    ensures { λ r. ⌜ r ≡ verifyNumber (verifyWith (tested (now (settings .entry)) (now (schedule .entry)) (now (rec .entry)) true (length (now (peers .entry))))) ⌝ }
+    ensures { λ r. ⌜ now (answer .exit) ≡ verifyAnswer (verifyWith (tested (now (settings .entry)) (now (schedule .entry)) (now (rec .entry)) true (length (now (peers .entry))))) (now (answer .entry)) ⌝ }
+    ensures { λ r. ⌜ now (peers .exit) ≡ verifyBuffer (tested (now (settings .entry)) (now (schedule .entry)) (now (rec .entry)) true (length (now (peers .entry)))) (now (peers .entry)) ⌝ }
+{
+    let verified = verify::verify(settings, schedule, rec, peers);
+    match verified {
+        VerifyAnswer::Number(n) => n,
+        VerifyAnswer::Verdict(v) => {
+            answer::put_answer(answer, answer::of_verified(v));
+            0
+        }
+    }
+}

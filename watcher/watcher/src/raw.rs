@@ -1,0 +1,18 @@
+//! The calls as include/wutherdish.h declares them.
+
+use crate::ANSWER;
+
+#[link(name = "wutherdish", kind = "static")]
+unsafe extern "C" {
+    pub unsafe fn wutherdish_verify(
+        settings: *const u8,
+        settings_len: usize,
+        schedule: *const u8,
+        schedule_len: usize,
+        record: *const u8,
+        record_len: usize,
+        peers: *mut u8,
+        peers_len: usize,
+        answer: *mut [u8; ANSWER],
+    ) -> u8;
+}
