@@ -18,7 +18,7 @@ isRegular (AnchorProof n l) = false
 isRegular AnchorTrigger = false
 isRegular Genesis = false
 
--- "Testing `NotRegular` and the wave link together: only one applies". Where a vset is unknown the Rust panics, and the
+-- Either the role or the wave link is tested, never both. Where a vset is unknown the Rust panics, and the
 -- answer is number 6: "past verification, above genesis, r or r+4 in no span".
 abbrev pub waveCheckedWith : Option Bool → Bool → PointInfo → WaveChecked
 waveCheckedWith none leader p = Horizon

@@ -33,6 +33,7 @@ edges =
       dagRoundLater = refl;
       dagRoundFirst = refl;
       lastReason = refl;
+      lastReasonReversed = refl;
       droppedLater = refl;
       droppedFirst = refl;
       inSkew = refl;

@@ -16,10 +16,10 @@ use Rattle.reasons.specs.declared.ill_formed.IllFormedReason.the-variants.{TooM
 use Rattle.reasons.specs.declared.ill_formed.VerifyError.{VerifyError}
 use Rattle.reasons.specs.declared.ill_formed.VerifyError.the-variants.{IllFormed}
 use Rattle.verifier.specs.Verify.{structureRows, genesisStructureRows, stickyFault}
-use Rattle.verifier.specs.Invalid.{InvalidReason, invalidNumber, InvalidDependency, Valid, TransInvalid, NotFound, Dropped, Entry}
+use Rattle.verifier.specs.Invalid.{InvalidReason, invalidNumber, InvalidDependency, DagPoint, Valid, TransInvalid, NotFound, Dropped, Entry}
 use Rattle.verifier.specs.Validate.{directTrail, recordOf, join}
 
--- settings with sticky_anchors 3
+-- settings with sticky_anchors 3, a clock skew of 500 and a history of 21
 unfoldable pub conf : Settings
 conf =
     record {
@@ -55,37 +55,46 @@ own = record { peer = 1; digest = 0 } ∷ []
 abbrev pub targetAt : ℕ → PointId
 targetAt round = record { round = round; digest = 4; author = 2 }
 
--- the judged point of P8 to P10: round 12, time 1,000
-abbrev pub judged : PointInfo
-judged = pointAt 12 (record { peer = 1; digest = 3 } ∷ record { peer = 2; digest = 4 } ∷ []) (2 ∷ 3 ∷ []) Regular 1000 10
-
--- a dependency at round 11 by author 2, of this time; one that is not found; one that was dropped with its round
-abbrev pub dependency : ℕ → Entry
-dependency time =
+-- a point of a round whose two links go through a peer's point to one target at round 16
+abbrev pub linkedAt : PointId → List Pair → List ℕ → ℕ → ℕ → PointInfo
+linkedAt i included evidenced peer time =
     record {
-      state =
-          Valid (record {
-            id = record { round = 11; digest = 4; author = 2 };
-            payloadLen = 0;
-            payloadBytes = 0;
-            includes = record { peer = 2; digest = 0 } ∷ [];
-            witness = [];
-            evidence = [];
-            anchorProof = Direct (Includes 1);
-            anchorTrigger = Direct (Includes 1);
-            role = Regular;
-            time = time;
-            anchorTime = 10;
-          });
-      certified = false;
-      firstValid = true;
+      id = i;
+      payloadLen = 0;
+      payloadBytes = 0;
+      includes = included;
+      witness = [];
+      evidence = evidenced;
+      anchorProof = Indirect (targetAt 16) (Includes peer);
+      anchorTrigger = Indirect (targetAt 16) (Includes peer);
+      role = Regular;
+      time = time;
+      anchorTime = 10;
     }
 
+-- the judged point of P8 to P10: round 22, time 1,000, without a previous point; it includes points of authors 2 and 3
+abbrev pub judged : PointInfo
+judged =
+    linkedAt (record { round = 22; digest = 5; author = 1 })
+    (record { peer = 2; digest = 4 } ∷ record { peer = 3; digest = 3 } ∷ []) [] 2 1000
+
+abbrev pub entryWith : DagPoint → Entry
+entryWith state = record { state = state; certified = false; firstValid = false }
+
+-- its dependencies: of author 2 at this time; of author 3, sound or not found; and one that was dropped with its round
+abbrev pub ofTwo : ℕ → Entry
+ofTwo time =
+    entryWith (Valid (linkedAt (record { round = 21; digest = 4; author = 2 }) (record { peer = 2; digest = 7 } ∷ []) (3 ∷ []) 2 time))
+
+abbrev pub ofThree : Entry
+ofThree =
+    entryWith (Valid (linkedAt (record { round = 21; digest = 3; author = 3 }) (record { peer = 3; digest = 7 } ∷ []) (2 ∷ []) 3 900))
+
 abbrev pub notFound : Entry
-notFound = record { state = NotFound (record { round = 11; digest = 3; author = 3 }); certified = false; firstValid = false }
+notFound = entryWith (NotFound (record { round = 21; digest = 3; author = 3 }))
 
 abbrev pub dropped : Entry
-dropped = record { state = Dropped; certified = false; firstValid = false }
+dropped = entryWith Dropped
 
 -- the number of the reason that a direct list gives, 0 if none
 abbrev pub numberOf : Option InvalidReason → ℕ
@@ -128,10 +137,11 @@ pub record Edges : Type 0 where
   pub dagRoundLater : join (some (rootAt90 2)) (some (rootAt90 6)) ≡ some (rootAt90 6)
   pub dagRoundFirst : join (some (rootAt90 6)) (some (rootAt90 2)) ≡ some (rootAt90 6)
   -- P8 Entries giving 11 then 19: 19
-  pub lastReason : given (dependency 1501 ∷ notFound ∷ []) ≡ 19
+  pub lastReason : given (ofTwo 1501 ∷ notFound ∷ []) ≡ 19
+  pub lastReasonReversed : given (notFound ∷ ofTwo 1501 ∷ []) ≡ 11
   -- P9 11 then dropped: 11; dropped first: 3
-  pub droppedLater : given (dependency 1501 ∷ dropped ∷ []) ≡ 11
-  pub droppedFirst : given (dropped ∷ dependency 1501 ∷ []) ≡ 3
+  pub droppedLater : given (ofTwo 1501 ∷ dropped ∷ []) ≡ 11
+  pub droppedFirst : given (dropped ∷ ofTwo 1501 ∷ []) ≡ 3
   -- P10 Time 1,000, skew 500, an entry that isn't the previous point: 1,500 passes, 1,501 gives 11
-  pub inSkew : given (dependency 1500 ∷ []) ≡ 0
-  pub pastSkew : given (dependency 1501 ∷ []) ≡ 11
+  pub inSkew : given (ofTwo 1500 ∷ ofThree ∷ []) ≡ 0
+  pub pastSkew : given (ofTwo 1501 ∷ ofThree ∷ []) ≡ 11

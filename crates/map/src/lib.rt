@@ -6,7 +6,7 @@ ghost use mathlib.Core.Path.{_≡_};
 ghost use mathlib.Core.Bool.{true};
 ghost use Prim.Native.Nat.{_≤_, _<_};
 ghost use lib.ListN.{length, getD};
-ghost use Rattle.parts.specs.Parts.{number};
+ghost use Rattle.parts.specs.Parts.{number, order};
 ghost use Rattle.map.specs.Rows.{peersOf, pairsOf, digests, rising, wellRowed, find, has, peers, get, positionOf, foundOf};
 
 // Where a peer stands.
@@ -45,6 +45,22 @@ pub fn digest_at(map: &[u8], i: usize) -> Id
     parts::id_at(map, 64 * i + 32)
 }
 
+// How the peer of a row stands to the peer of another row.
+pub fn compare_rows(
+    rows: &[u8],
+    width: usize,
+    i: usize,
+    others: &[u8],
+    other_width: usize,
+    j: usize,
+) -> Order
+    requires { ⌜ (32 ≤ width) × (i < length (peersOf width (now rows))) ⌝ }
+    requires { ⌜ (32 ≤ «other_width») × (j < length (peersOf «other_width» (now others))) ⌝ }
+    ensures { λ r. ⌜ r ≡ order (getD (peersOf width (now (rows .entry))) i 0) (getD (peersOf «other_width» (now (others .entry))) j 0) ⌝ }
+{
+    parts::compare_at(rows, width * i, others, other_width * j)
+}
+
 // Whether the peers rise strictly.
 fn is_rising(rows: &[u8], width: usize) -> bool
     requires { ⌜ 32 ≤ width ⌝ }
@@ -53,9 +69,7 @@ fn is_rising(rows: &[u8], width: usize) -> bool
     let n = count(rows, width);
     let mut j = 0;
     while j + 1 < n {
-        let a = peer_at(rows, width, j);
-        let b = peer_at(rows, width, j + 1);
-        let o = parts::compare(a, b);
+        let o = compare_rows(rows, width, j, rows, width, j + 1);
         match o {
             Order::Less => j += 1,
             Order::Same => return false,

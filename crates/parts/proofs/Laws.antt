@@ -7,12 +7,12 @@ use native.Mathlib.Decide.{decLt}
 use mathlib.Core.Path.{_≡_, refl, ap, sym, _∙_}
 use mathlib.Core.List.{List, [], _∷_, _++_}
 use mathlib.Core.Bool.{Bool, true, false}
-use lib.ListN.{length, getD, take, drop, length-append, length-take, length-drop}
-use lib.Seq.{drop-cons, take-add, drop-drop, length-take-le}
+use lib.ListN.{length, getD, take, drop, length-append, length-take, length-drop, List·getD-eq-default}
+use lib.Seq.{drop-cons, take-add, drop-drop, length-take-le, getD-take, getD-drop}
 use lib.Dec.{ltb, eqb}
 use borrow.Author.Tests.{lt-ltb, le-ltb, eq-eqb, ne-eqb}
 use Rattle.parts.specs.Bytes.{little, big, bytesAt, littleAt, bigAt}
-use Rattle.parts.specs.Parts.{number, order, orderThen, orderOfBytes}
+use Rattle.parts.specs.Parts.{number, order, orderThen, orderOfRest, orderOfBytes}
 use Rattle.parts.specs.declared.Id.{Id}
 use Rattle.parts.specs.declared.Order.{Order}
 use Rattle.parts.specs.declared.Order.the-variants.{Less, Same, More}
@@ -82,15 +82,15 @@ pub three : (a b : ℕ) → Three a b
 three a b = elim (decLt a b) [ yes h ↦ below h | no h ↦ elim (decLt b a) [ yes g ↦ above g | no g ↦ equal (omega arith) ] ]
 
 module _ (a b : ℕ) (rest : Order) where
-  then-less : a < b → orderThen a b rest ≡ Less
+  pub then-less : a < b → orderThen a b rest ≡ Less
   unfolding orderThen
   then-less h = simp (lt-ltb _ _ h)
 
-  then-more : b < a → orderThen a b rest ≡ More
+  pub then-more : b < a → orderThen a b rest ≡ More
   unfolding orderThen
   then-more h = let g : b ≤ a = omega arith in simp (le-ltb a b g, lt-ltb b a h)
 
-  then-same : a ≡ b → orderThen a b rest ≡ rest
+  pub then-same : a ≡ b → orderThen a b rest ≡ rest
   unfolding orderThen
   then-same h = let g : b ≤ a = omega arith in let f : a ≤ b = omega arith in simp (le-ltb a b g, le-ltb b a f)
 
@@ -208,3 +208,34 @@ module _ (x y : Id) (wx : Words x) (wy : Words y) where
     | equal g ↦ eq-eqb (number x) (number y) (cc) ∙ sym (eq-eqb (x .d) (y .d) g)
     | above g ↦ number-differs (λ e. let f = e .3 in absurd (omega arith)) ∙ sym (ne-eqb (x .d) (y .d) (λ e. omega arith))
   ]
+
+-- ---- ids at places: their words in turn
+
+at-bytes : (n : ℕ) (s : List ℕ) (at : ℕ) → Bytes s → Bytes (bytesAt n s at)
+at-bytes n s at b k = elim (decLt k n) [
+  | yes h ↦ rw (getD-take n (drop at s) k 0 h, getD-drop at s k 0) (b (at + k))
+  | no h ↦ (let e : getD (bytesAt n s at) k 0 ≡ 0 = List·getD-eq-default (bytesAt n s at) 0 (simp length-take (omega arith)) in omega arith)
+]
+
+big-fits : (n : ℕ) (s : List ℕ) (at : ℕ) → Bytes s → at + n ≤ length s → bigAt n s at < 256 ^ n
+unfolding bigAt
+big-fits n s at b h = rw (at-length n s at h) at (big-below (bytesAt n s at) (at-bytes n s at b))
+
+idOf : List ℕ → ℕ → Id
+idOf s at = record { a = bigAt 8 s at; b = bigAt 8 s (at + 8); c = bigAt 8 s (at + 16); d = bigAt 8 s (at + 24) }
+
+words-of : (s : List ℕ) (at : ℕ) → Bytes s → at + 32 ≤ length s → Words (idOf s at)
+unfolding idOf
+words-of s at b h =
+    record {
+      wa = big-fits 8 s at b (omega arith);
+      wb = big-fits 8 s (at + 8) b (omega arith);
+      wc = big-fits 8 s (at + 16) b (omega arith);
+      wd = big-fits 8 s (at + 24) b (omega arith);
+    }
+
+pub places-order : (s t : List ℕ) (at from : ℕ) → Bytes s → Bytes t → at + 32 ≤ length s → from + 32 ≤ length t →
+    order (bigAt 32 s at) (bigAt 32 t from) ≡ orderThen (bigAt 8 s at) (bigAt 8 t from) (orderOfRest s at t from)
+unfolding number idOf orderOfRest
+places-order s t at from bs bt hs ht =
+    rw (big-words s at hs, big-words t from ht) (number-order (idOf s at) (idOf t from) (words-of s at bs hs) (words-of t from bt ht))

@@ -4,6 +4,7 @@ use mathlib.Core.Option.{Option, none, some}
 use mathlib.Core.List.{List, [], _∷_}
 use lib.Dec.{ltb}
 use Rattle.base.specs.Base.{pick}
+use Rattle.parts.specs.Bytes.{bigAt}
 use Rattle.parts.specs.declared.Id.{Id}
 use Rattle.parts.specs.declared.Order.{Order}
 use Rattle.parts.specs.declared.Order.the-variants.{Less, Same, More}
@@ -22,6 +23,14 @@ orderThen m n rest = pick (ltb m n) Less (pick (ltb n m) More rest)
 unfoldable pub order : ℕ → ℕ → Order
 unfolding orderThen
 order m n = orderThen m n Same
+
+-- the order of the ids at two places by their last three words
+unfoldable pub orderOfRest : List ℕ → ℕ → List ℕ → ℕ → Order
+unfolding orderThen bigAt
+orderOfRest s at t from =
+    orderThen (bigAt 8 s (at + 8)) (bigAt 8 t (from + 8))
+    (orderThen (bigAt 8 s (at + 16)) (bigAt 8 t (from + 16))
+    (orderThen (bigAt 8 s (at + 24)) (bigAt 8 t (from + 24)) Same))
 
 -- the order of two byte strings of one length: by the first byte that differs
 unfoldable pub orderOfBytes : List ℕ → List ℕ → Order

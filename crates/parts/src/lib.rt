@@ -4,7 +4,7 @@ ghost use Prim.Native.Nat.{_+_, _-_, _≤_, _<_};
 ghost use lib.Dec.{eqb};
 ghost use lib.ListN.{length};
 ghost use Rattle.parts.specs.Bytes.{littleAt, bigAt, idAt, bigBytes, putAt};
-ghost use Rattle.parts.specs.Parts.{number, order, orderThen, peerCount, peerCountOf, full, majority, majorityOfOthers};
+ghost use Rattle.parts.specs.Parts.{number, order, orderThen, orderOfRest, peerCount, peerCountOf, full, majority, majorityOfOthers};
 
 // A peer or a digest: its 32 bytes as four numbers, the first byte highest, so that comparing the
 // numbers in turn compares the byte strings.
@@ -132,6 +132,38 @@ pub fn compare(x: Id, y: Id) -> Order
             by_number(x.c, y.c, by_number(x.d, y.d, Order::Same)),
         ),
     )
+}
+
+// The order of the ids that stand at two places, by their last three words.
+fn compare_rest(s: &[u8], at: usize, t: &[u8], from: usize) -> Order
+    requires { ⌜ (at + 32 ≤ length (now s)) × (from + 32 ≤ length (now t)) ⌝ }
+    ensures { λ r. ⌜ r ≡ orderOfRest (now (s .entry)) at (now (t .entry)) from ⌝ }
+{
+    by_number(
+        big64_at(s, at + 8),
+        big64_at(t, from + 8),
+        by_number(
+            big64_at(s, at + 16),
+            big64_at(t, from + 16),
+            by_number(big64_at(s, at + 24), big64_at(t, from + 24), Order::Same),
+        ),
+    )
+}
+
+// The order of the ids that stand at two places. Where their first words differ no more is read.
+pub fn compare_at(s: &[u8], at: usize, t: &[u8], from: usize) -> Order
+    requires { ⌜ (at + 32 ≤ length (now s)) × (from + 32 ≤ length (now t)) ⌝ }
+    ensures { λ r. ⌜ r ≡ order (idAt (now (s .entry)) at) (idAt (now (t .entry)) from) ⌝ }
+{
+    let x = big64_at(s, at);
+    let y = big64_at(t, from);
+    if x < y {
+        return Order::Less;
+    }
+    if y < x {
+        return Order::More;
+    }
+    compare_rest(s, at, t, from)
 }
 
 // F of a count of peers 3F+1.

@@ -1,22 +1,21 @@
 // The peers of a map that are not scheduled, written into the peer buffer.
-use parts::Id;
 use parts::Order;
 ghost use mathlib.Core.Path.{_≡_};
 ghost use mathlib.Core.Bool.{true};
-ghost use Prim.Native.Nat.{_*_, _≤_};
-ghost use lib.ListN.{length};
+ghost use Prim.Native.Nat.{_*_, _≤_, _<_};
+ghost use lib.ListN.{length, getD};
 ghost use Rattle.parts.specs.Bytes.{putAt};
-ghost use Rattle.parts.specs.Parts.{number};
 ghost use Rattle.map.specs.Rows.{peersOf, rising};
 ghost use Rattle.unknown.specs.Unknown.{unknownIn, peerBytes, orderAt};
 
-// How the scheduled peer at a position stands to a peer; past the last there is none as small.
-fn order_at(scheduled: &[u8], j: usize, m: usize, peer: Id) -> Order
+// How the scheduled peer at a position stands to the peer of a row; past the last it counts as greater.
+fn order_at(scheduled: &[u8], j: usize, m: usize, rows: &[u8], width: usize, i: usize) -> Order
     requires { ⌜ m ≡ length (peersOf 32 (now scheduled)) ⌝ }
-    ensures { λ r. ⌜ r ≡ orderAt (peersOf 32 (now (scheduled .entry))) j (number peer) ⌝ }
+    requires { ⌜ (32 ≤ width) × (i < length (peersOf width (now rows))) ⌝ }
+    ensures { λ r. ⌜ r ≡ orderAt (peersOf 32 (now (scheduled .entry))) j (getD (peersOf width (now (rows .entry))) i 0) ⌝ }
 {
     if j < m {
-        return parts::compare(map::peer_at(scheduled, 32, j), peer);
+        return map::compare_rows(scheduled, 32, j, rows, width, i);
     }
     Order::More
 }
@@ -37,12 +36,12 @@ pub fn unknown_peers(rows: &[u8], width: usize, scheduled: &[u8], out: &mut [u8]
     let mut j = 0;
     let mut found = 0;
     while i < n {
-        let peer = map::peer_at(rows, width, i);
-        let order = order_at(scheduled, j, m, peer);
+        let order = order_at(scheduled, j, m, rows, width, i);
         match order {
             Order::Less => j += 1,
             Order::Same => i += 1,
             Order::More => {
+                let peer = map::peer_at(rows, width, i);
                 write::put_id(out, 32 * found, peer);
                 found += 1;
                 i += 1;

@@ -70,7 +70,7 @@ pub data DagPoint : Type 0 where
   NotFound : PointId → DagPoint
   Dropped : DagPoint
 
--- "tag 16, state .., certified (0 or 1), first valid (0 or 1), reason number"
+-- tag 16: state with its reason number, "certified (0 or 1), first valid (0 or 1)"
 pub record Entry : Type 0 where
   pub state : DagPoint
   pub certified : Bool

@@ -152,7 +152,8 @@ dependencyTrail c required isPrevPoint p (IllFormed i n) = DepIllFormed i n ∷ 
 dependencyTrail c required isPrevPoint p (NotFound i) = DepNotFound i ∷ []
 dependencyTrail c required isPrevPoint p Dropped = []
 
--- "a requirement to reference the first resolved": versions give 9 or 10 and nothing else
+-- a version that is first valid, or not found but certified, had to be referenced; any other bad one had to be skipped. Versions
+-- give 9 or 10 and nothing else
 abbrev pub versionTrail : Entry → DagPoint → List InvalidReason
 versionTrail e (Valid q) = iff (e .firstValid) (MustHaveReferencedPrevPoint (q .id))
 versionTrail e (TransInvalid q root n) = MustHaveSkippedRound (q .id) ∷ []
@@ -179,7 +180,7 @@ isDropped (IllFormed i n) = false
 isDropped (NotFound i) = false
 isDropped Dropped = true
 
--- the direct list: "A dropped entry ends the direct list and sets its reason only if none is set"
+-- the direct list: "A dropped entry ends the direct list and sets its reason only if none is set"; `set` says that one is
 unfoldable pub directTrail : Settings → Bool → PointInfo → Bool → List Entry → List InvalidReason
 unfolding entryTrail
 directTrail c required p set [] = []
@@ -299,7 +300,8 @@ abbrev pub validateWith : Option InvalidReason → ValidateResult → ValidateRe
 validateWith (some reason) result = isInvalid reason
 validateWith none result = result
 
--- Verifier::validate past check_ill_formed: regular points required or not, so many rounds present, the two lists
+-- Verifier::validate of a point above genesis, past check_ill_formed: regular points required or not, so many rounds present, the
+-- two lists
 unfoldable pub validate : Settings → Bool → ℕ → PointInfo → List Entry → List IndirectEntry → ValidateResult
 unfolding presenceReason overLists
 validate c required presence p es ts = validateWith (presenceReason presence p) (overLists c required p es ts)

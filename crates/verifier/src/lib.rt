@@ -1,1 +1,1 @@
-// The definition of verification, which the crates of its parts prove their code equal to. There is no code here.
+// The definitions of verification and of judging, which crates prove their code equal to. There is no code here.

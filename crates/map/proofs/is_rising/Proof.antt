@@ -24,21 +24,21 @@ abbrev μ-loop : tie.MeasureT-loop
 μ-loop rows width n j₀ j = n - j
 
 -- the comparison is that of two neighbours
-told : (c : tie.After-compare Inv-loop μ-loop) →
-    let a = c .before .before .before .before .before .before .before .args in
-    let j = c .before .before .before .before .loop .j in
+told : (c : tie.After-compare-rows Inv-loop μ-loop) →
+    let a = c .before .before .before .before .before .args in
+    let j = c .before .before .loop .j in
     let l = peersOf (a .width) (now (a .rows)) in
-    order (getD l j 0) (getD l (j + 1) 0) ≡ c .compare .result
+    order (getD l j 0) (getD l (j + 1) 0) ≡ c .compare-rows .result
 told c = cc
 
 -- one turn: the list from `j` on rises if the two neighbours do and the list from `j + 1` on does
-turn : (c : tie.After-compare Inv-loop μ-loop) →
-    let a = c .before .before .before .before .before .before .before .args in
-    let j = c .before .before .before .before .loop .j in
+turn : (c : tie.After-compare-rows Inv-loop μ-loop) →
+    let a = c .before .before .before .before .before .args in
+    let j = c .before .before .loop .j in
     let l = peersOf (a .width) (now (a .rows)) in
     rising l ≡ (ltb (getD l j 0) (getD l (j + 1) 0) && rising (drop (j + 1) l))
 turn c =
-    let at-loop = c .before .before .before .before in
+    let at-loop = c .before .before in
     let a = at-loop .before .before .before .args in
     let l = peersOf (a .width) (now (a .rows)) in
     let h : suc (at-loop .loop .j) < length l = omega arith in
@@ -53,17 +53,11 @@ loop-holds c = search needs
 add-loop : tie.Need-add-loop Inv-loop μ-loop
 add-loop c = let a = c .before .before .before .args in omega (arith, peersOf-fits (a .width) (now (a .rows)))
 
-peer-at-requires : tie.Need-peer-at-requires Inv-loop μ-loop
-peer-at-requires c κs = search needs
+add-compare-rows : tie.Need-add-compare-rows Inv-loop μ-loop
+add-compare-rows c = search needs
 
-add-peer-at : tie.Need-add-peer-at Inv-loop μ-loop
-add-peer-at c = search needs
-
-peer-at-requires-2 : tie.Need-peer-at-requires-2 Inv-loop μ-loop
-peer-at-requires-2 c κs = search needs
-
-compare-requires : tie.Need-compare-requires Inv-loop μ-loop
-compare-requires c κs = search needs
+compare-rows-requires : tie.Need-compare-rows-requires Inv-loop μ-loop
+compare-rows-requires c κs = search needs
 
 enum-told : tie.Need-enum-told Inv-loop μ-loop
 enum-told c = search needs
@@ -104,10 +98,8 @@ is-rising-spec =
     count-requires
     loop-holds
     add-loop
-    peer-at-requires
-    add-peer-at
-    peer-at-requires-2
-    compare-requires
+    add-compare-rows
+    compare-rows-requires
     enum-told
     add-j
     loop-less

@@ -23,10 +23,10 @@ start c = c .before .before .before .before .before .before
 
 -- the comparison is that of the scheduled peer at `j` with the row at `i`
 told : (c : tie.After-order-at Inv-loop μ-loop) →
-    let l = c .before .before .before in
+    let l = c .before .before in
     let a = start l .args in
     orderAt (peersOf 32 (now (a .scheduled))) (l .loop .j) (getD (peersOf (a .width) (now (a .rows))) (l .loop .i) 0) ≡ c .order-at .result
-told c = sym (c .order-at .ensures ∙ rw (c .before .peer-at .ensures))
+told c = sym (c .order-at .ensures)
 
 count-requires : tie.Need-count-requires Inv-loop μ-loop
 count-requires c κs = search needs
@@ -37,9 +37,6 @@ count-requires-2 c κs = search needs
 loop-holds : tie.Need-loop-holds Inv-loop μ-loop
 loop-holds c = (c .before .count .ensures, c .count2 .ensures, walked-start _ _ _)
 
-peer-at-requires : tie.Need-peer-at-requires Inv-loop μ-loop
-peer-at-requires c κs = search needs
-
 order-at-requires : tie.Need-order-at-requires Inv-loop μ-loop
 order-at-requires c κs = search needs
 
@@ -48,7 +45,7 @@ enum-told c = search needs
 
 add-j : tie.Need-add-j Inv-loop μ-loop
 add-j c =
-    let l = c .before .before .before .before .before in
+    let l = c .before .before .before .before in
     let a = start l .args in
     omega (arith, peersOf-fits 32 (now (a .scheduled)), orderAt-less _ _ _ (told (c .before .before) ∙ c .enum-told .given .1) .0)
 
@@ -57,7 +54,7 @@ loop-less c = omega (arith, orderAt-less _ _ _ (told (c .before .before) ∙ c .
 
 loop-again : tie.Need-loop-again Inv-loop μ-loop
 loop-again c =
-    let l = c .before .before .before .before .before in
+    let l = c .before .before .before .before in
     (l .loop .inv .0, l .loop .inv .1, walked-less _ _ _ _ _ _ _ (l .loop .inv .2) (omega arith) (told (c .before .before) ∙ c .enum-told .given .1))
 
 enum-told-2 : tie.Need-enum-told-2 Inv-loop μ-loop
@@ -65,7 +62,7 @@ enum-told-2 c = search needs
 
 add-i : tie.Need-add-i Inv-loop μ-loop
 add-i c =
-    let l = c .before .before .before .before .before in
+    let l = c .before .before .before .before in
     let a = start l .args in
     omega (arith, peersOf-fits (a .width) (now (a .rows)))
 
@@ -74,12 +71,15 @@ loop-less-2 c = search needs
 
 loop-again-2 : tie.Need-loop-again-2 Inv-loop μ-loop
 loop-again-2 c =
-    let l = c .before .before .before .before .before in
+    let l = c .before .before .before .before in
     let s = start l in
     (l .loop .inv .0, l .loop .inv .1, walked-same _ _ _ _ _ _ _ (l .loop .inv .2) (omega arith) (s .pre .1 .0) (s .pre .1 .1 .0) (told (c .before .before) ∙ c .enum-told2 .given .1))
 
 enum-told-3 : tie.Need-enum-told-3 Inv-loop μ-loop
 enum-told-3 c = search needs
+
+peer-at-requires : tie.Need-peer-at-requires Inv-loop μ-loop
+peer-at-requires c κs = search needs
 
 mul-put-id : tie.Need-mul-put-id Inv-loop μ-loop
 mul-put-id c = search needs
@@ -99,12 +99,13 @@ loop-less-3 c = search needs
 loop-again-3 : tie.Need-loop-again-3 Inv-loop μ-loop
 loop-again-3 c =
     let p = c .before .before in
-    let e = p .before .before in
-    let l = e .before .before .before .before .before in
+    let q = p .before .before in
+    let e = q .before in
+    let l = e .before .before .before .before in
     let s = start l in (
       l .loop .inv .0,
       l .loop .inv .1,
-      rw (p .put-id .ensures, e .before .before .before .peer-at .ensures)
+      rw (p .put-id .ensures, q .peer-at .ensures)
           (walked-more _ _ _ _ _ _ _ (l .loop .inv .2) (omega arith) (s .pre .1 .0) (s .pre .1 .1 .0) (s .pre .1 .1 .1) (told (e .before .before) ∙ e .enum-told3 .given .1)),
     )
 
@@ -123,7 +124,6 @@ unknown-peers-spec =
     count-requires
     count-requires-2
     loop-holds
-    peer-at-requires
     order-at-requires
     enum-told
     add-j
@@ -134,6 +134,7 @@ unknown-peers-spec =
     loop-less-2
     loop-again-2
     enum-told-3
+    peer-at-requires
     mul-put-id
     put-id-requires
     add-found
