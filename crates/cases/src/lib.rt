@@ -1,7 +1,9 @@
 // The cases of a file, one blob after another. A case is its kind (1), its number of blobs (1), and each blob after its
 // length (4). The file is taken to hold whole cases.
+ghost use mathlib.Core.Path.{_≡_};
 ghost use Prim.Native.Nat.{_≤_};
 ghost use lib.ListN.{length};
+ghost use Rattle.cases.specs.Cases.{headOf, HeadRead, BlobRead};
 
 // What stands in front of a case's blobs, if there is another case.
 pub struct Head {
@@ -16,14 +18,35 @@ pub struct Blob {
     pub is_there: bool,
 }
 
-pub fn read_head(fd: i32) -> Head {
+const NO_BLOB: Blob = Blob {
+    end: 0,
+    is_there: false,
+};
+
+// The head that two bytes give, of which so many were read.
+fn head_of(two: [u8; 2], n: usize) -> Head
+    ensures { λ r. ⌜ r ≡ headOf two n ⌝ }
+{
+    if n == 2 {
+        return Head {
+            kind: two[0],
+            blobs: two[1],
+            is_there: true,
+        };
+    }
+    Head {
+        kind: 0,
+        blobs: 0,
+        is_there: false,
+    }
+}
+
+pub fn read_head(fd: i32) -> Head
+    ensures { λ r. ⌜ HeadRead r ⌝ }
+{
     let mut two = [0u8; 2];
     let n = io::read_full(fd, &mut two);
-    Head {
-        kind: two[0],
-        blobs: two[1],
-        is_there: n == 2,
-    }
+    head_of(two, n)
 }
 
 fn read_length(fd: i32) -> usize {
@@ -45,24 +68,24 @@ fn skip(fd: i32, n: usize, buf: &mut [u8]) {
     io::read_full(fd, &mut buf[0..rest]);
 }
 
-// Reads the next blob to a place of the buffer. One for which there is no room is passed over, and the buffer then holds
-// nothing of use.
+// Reads the next blob to a place of the buffer. One for which there is no room is passed over. Where no blob is there, the
+// buffer holds nothing of use.
 pub fn read_blob(fd: i32, buf: &mut [u8], at: usize) -> Blob
     requires { ⌜ at ≤ length (now buf) ⌝ }
-    ensures { λ r. ⌜ r .end ≤ length (now (buf .entry)) ⌝ }
+    ensures { λ r. ⌜ BlobRead (now (buf .entry)) at (now (buf .exit)) r ⌝ }
 {
     let n = read_length(fd);
     if buf.len() - at < n {
         skip(fd, n, buf);
-        return Blob {
-            end: 0,
-            is_there: false,
-        };
+        return NO_BLOB;
     }
     let end = at + n;
     let got = io::read_full(fd, &mut buf[at..end]);
+    if got < n {
+        return NO_BLOB;
+    }
     Blob {
         end,
-        is_there: got == n,
+        is_there: true,
     }
 }

@@ -14,7 +14,7 @@ ghost use Prim.Native.Nat.{_≤_};
 ghost use lib.ListN.{length};
 ghost use Rattle.base.specs.Base.{concat, firstOf};
 ghost use Rattle.parts.specs.Parts.{oneF};
-ghost use Rattle.map.specs.Rows.{peersOf, rising};
+ghost use Rattle.map.specs.Rows.{peersOf, pairsOf, rising};
 ghost use Rattle.point.specs.Reading.{pointOf, readPoint};
 ghost use Rattle.schedule.specs.Settings.{settingsOf};
 ghost use Rattle.schedule.specs.Schedule.{readSchedule, scheduleOf};
@@ -32,12 +32,14 @@ fn one_f(total: usize) -> PeerCount
 // Evidence, held to the peers of the point's own round.
 fn check_evidence_peers(
     conf: Settings,
+    evidence: &[u8],
     rec: &[u8],
     info: PointInfo,
     known: &[u8],
     peers: &mut [u8],
 ) -> Verified
     requires { ⌜ readPoint (now rec) ≡ some (pointOf (now rec) info) ⌝ }
+    requires { ⌜ peersOf 32 (now evidence) ≡ pointOf (now rec) info .evidence ⌝ }
     requires { ⌜ rising (peersOf 32 (now known)) ≡ true ⌝ }
     requires { ⌜ length (peersOf 32 (now known)) ≤ 255 ⌝ }
     requires { ⌜ 8160 ≤ length (now peers) ⌝ }
@@ -46,7 +48,6 @@ fn check_evidence_peers(
         × (now (peers .exit) ≡ bufferWith k (pointOf (now (rec .entry)) info) (verifiedOf r) (now (peers .entry)))) ⌝ }
 {
     let id = info.id;
-    let evidence = point::evidence(rec);
     let len = map::count(evidence, 32);
     if len == 0 {
         return Verified::Passed;
@@ -69,8 +70,15 @@ fn check_evidence_peers(
 }
 
 // Includes, held to the peers of the round before, at genesis of the same round.
-fn check_includes_peers(rec: &[u8], info: PointInfo, known: &[u8], peers: &mut [u8]) -> Verified
+fn check_includes_peers(
+    includes: &[u8],
+    rec: &[u8],
+    info: PointInfo,
+    known: &[u8],
+    peers: &mut [u8],
+) -> Verified
     requires { ⌜ readPoint (now rec) ≡ some (pointOf (now rec) info) ⌝ }
+    requires { ⌜ pairsOf (now includes) ≡ pointOf (now rec) info .includes ⌝ }
     requires { ⌜ rising (peersOf 32 (now known)) ≡ true ⌝ }
     requires { ⌜ length (peersOf 32 (now known)) ≤ 255 ⌝ }
     requires { ⌜ 8160 ≤ length (now peers) ⌝ }
@@ -78,7 +86,6 @@ fn check_includes_peers(rec: &[u8], info: PointInfo, known: &[u8], peers: &mut [
         (verifiedOf r ≡ firstOf (concat (includesRows k (pointOf (now (rec .entry)) info))))
         × (now (peers .exit) ≡ bufferWith k (pointOf (now (rec .entry)) info) (verifiedOf r) (now (peers .entry)))) ⌝ }
 {
-    let includes = point::includes(rec);
     let unknown = unknown::unknown_peers(includes, 64, known, peers);
     if 0 < unknown {
         let reason = IllFormedReason::UnknownPeers(unknown as u8, PointMap::Includes);
@@ -96,12 +103,14 @@ fn check_includes_peers(rec: &[u8], info: PointInfo, known: &[u8], peers: &mut [
 // Witness, held to the peers two rounds before; at genesis and just above it there must be none.
 fn check_witness_peers(
     conf: Settings,
+    witness: &[u8],
     rec: &[u8],
     info: PointInfo,
     known: &[u8],
     peers: &mut [u8],
 ) -> Verified
     requires { ⌜ readPoint (now rec) ≡ some (pointOf (now rec) info) ⌝ }
+    requires { ⌜ pairsOf (now witness) ≡ pointOf (now rec) info .witness ⌝ }
     requires { ⌜ rising (peersOf 32 (now known)) ≡ true ⌝ }
     requires { ⌜ 8160 ≤ length (now peers) ⌝ }
     ensures { λ r. ⌜ ((k : Scheduled) → k .witness ≡ peersOf 32 (now (known .entry)) →
@@ -109,7 +118,6 @@ fn check_witness_peers(
         × (now (peers .exit) ≡ bufferWith k (pointOf (now (rec .entry)) info) (verifiedOf r) (now (peers .entry)))) ⌝ }
 {
     let id = info.id;
-    let witness = point::witness(rec);
     if map::count(witness, 64) == 0 {
         return Verified::Passed;
     }
@@ -135,16 +143,21 @@ fn includes_round(conf: Settings, round: u32) -> u32
     parts::rounds_back(round, 1)
 }
 
+// Takes the maps of the record too, so that they are looked up once for all checks.
 pub fn check_peers(
     conf: Settings,
     schedule: &[u8],
     spans: Schedule,
+    includes: &[u8],
+    witness: &[u8],
+    evidence: &[u8],
     rec: &[u8],
     info: PointInfo,
     peers: &mut [u8],
 ) -> Verified
     requires { ⌜ readSchedule (now schedule) ≡ some (scheduleOf (now schedule) spans) ⌝ }
     requires { ⌜ readPoint (now rec) ≡ some (pointOf (now rec) info) ⌝ }
+    requires { ⌜ (pairsOf (now includes) ≡ pointOf (now rec) info .includes) × (pairsOf (now witness) ≡ pointOf (now rec) info .witness) × (peersOf 32 (now evidence) ≡ pointOf (now rec) info .evidence) ⌝ }
     requires { ⌜ 8160 ≤ length (now peers) ⌝ }
     ensures { λ r. ⌜ verifiedOf r ≡ firstOf (concat (peerRows (settingsOf conf) (scheduled (settingsOf conf) (scheduleOf (now (schedule .entry)) spans) (pointOf (now (rec .entry)) info)) (pointOf (now (rec .entry)) info))) ⌝ }
     ensures { λ r. ⌜ now (peers .exit) ≡ bufferWith (scheduled (settingsOf conf) (scheduleOf (now (schedule .entry)) spans) (pointOf (now (rec .entry)) info)) (pointOf (now (rec .entry)) info) (verifiedOf r) (now (peers .entry)) ⌝ }
@@ -152,15 +165,15 @@ pub fn check_peers(
     let id = info.id;
     let round = id.round;
     let same_round = schedule::peers_for(schedule, spans, round);
-    let evidence = check_evidence_peers(conf, rec, info, same_round, peers);
-    let Verified::Passed = evidence else {
-        return evidence;
-    };
     let included = schedule::peers_for(schedule, spans, includes_round(conf, round));
-    let includes = check_includes_peers(rec, info, included, peers);
-    let Verified::Passed = includes else {
-        return includes;
-    };
     let witnessed = schedule::peers_for(schedule, spans, parts::rounds_back(round, 2));
-    check_witness_peers(conf, rec, info, witnessed, peers)
+    let first = check_evidence_peers(conf, evidence, rec, info, same_round, peers);
+    let Verified::Passed = first else {
+        return first;
+    };
+    let second = check_includes_peers(includes, rec, info, included, peers);
+    let Verified::Passed = second else {
+        return second;
+    };
+    check_witness_peers(conf, witness, rec, info, witnessed, peers)
 }

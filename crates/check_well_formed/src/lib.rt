@@ -18,8 +18,8 @@ ghost use mathlib.Core.Bool.{not, _&&_};
 ghost use mathlib.Core.Option.{some};
 ghost use Rattle.parts.specs.Parts.{number};
 ghost use Rattle.base.specs.Base.{concat, firstOf, isSome};
-ghost use Rattle.map.specs.Rows.{foundOf};
-ghost use Rattle.point.specs.Point.{isAnchorTrigger, requiresPrevPoint, stickyAnchors, targetRoundOf};
+ghost use Rattle.map.specs.Rows.{peersOf, pairsOf, foundOf};
+ghost use Rattle.point.specs.Point.{isAnchorTrigger, requiresPrevPoint, digestSafe, prevDigest, stickyAnchors, targetRoundOf};
 ghost use Rattle.point.specs.Reading.{throughOf, linkOf, pointOf, readPoint};
 ghost use Rattle.schedule.specs.Settings.{settingsOf};
 ghost use Rattle.verifier.specs.Verify.{linksOwn, isGenesis, isZero, genesisStructureRows, pointMap, targetTooNew, badLink, equal, ownPointRows, linkRows, structureRows, genesisRows, stickyFault, aboveRows, wellFormedRows};
@@ -129,13 +129,48 @@ fn is_target_too_new(round: u32, link: AnchorLink) -> bool
     }
 }
 
-// Whether the peer that a link goes through is not in its map, or its target is too new.
-fn is_bad_link(rec: &[u8], info: PointInfo, link: AnchorLink) -> bool
+// point::prev_digest, of includes that were found already.
+fn prev_digest(includes: &[u8], rec: &[u8], info: PointInfo) -> Found
     requires { ⌜ readPoint (now rec) ≡ some (pointOf (now rec) info) ⌝ }
+    requires { ⌜ pairsOf (now includes) ≡ pointOf (now rec) info .includes ⌝ }
+    ensures { λ r. ⌜ foundOf r ≡ prevDigest (pointOf (now (rec .entry)) info) ⌝ }
+{
+    let id = info.id;
+    map::get(includes, id.author)
+}
+
+// point::digest_safe, of maps that were found already.
+fn digest_safe(
+    includes: &[u8],
+    witness: &[u8],
+    rec: &[u8],
+    info: PointInfo,
+    through: Through,
+) -> Found
+    requires { ⌜ readPoint (now rec) ≡ some (pointOf (now rec) info) ⌝ }
+    requires { ⌜ (pairsOf (now includes) ≡ pointOf (now rec) info .includes) × (pairsOf (now witness) ≡ pointOf (now rec) info .witness) ⌝ }
+    ensures { λ r. ⌜ foundOf r ≡ digestSafe (pointOf (now (rec .entry)) info) (throughOf through) ⌝ }
+{
+    match through {
+        Through::Includes(peer) => map::get(includes, peer),
+        Through::Witness(peer) => map::get(witness, peer),
+    }
+}
+
+// Whether the peer that a link goes through is not in its map, or its target is too new.
+fn is_bad_link(
+    includes: &[u8],
+    witness: &[u8],
+    rec: &[u8],
+    info: PointInfo,
+    link: AnchorLink,
+) -> bool
+    requires { ⌜ readPoint (now rec) ≡ some (pointOf (now rec) info) ⌝ }
+    requires { ⌜ (pairsOf (now includes) ≡ pointOf (now rec) info .includes) × (pairsOf (now witness) ≡ pointOf (now rec) info .witness) ⌝ }
     ensures { λ r. ⌜ r ≡ badLink (pointOf (now (rec .entry)) info) (linkOf link) ⌝ }
 {
     let id = info.id;
-    if !is_found(point::digest_safe(rec, info, link.through())) {
+    if !is_found(digest_safe(includes, witness, rec, info, link.through())) {
         return true;
     }
     is_target_too_new(id.round, link)
@@ -171,44 +206,51 @@ fn is_bad_proof_link(info: PointInfo) -> bool
 }
 
 // The author's own points: the previous one, and none among evidence and witness.
-fn check_own_points(rec: &[u8], info: PointInfo) -> Checked
+fn check_own_points(
+    includes: &[u8],
+    witness: &[u8],
+    evidence: &[u8],
+    rec: &[u8],
+    info: PointInfo,
+) -> Checked
     requires { ⌜ readPoint (now rec) ≡ some (pointOf (now rec) info) ⌝ }
+    requires { ⌜ (pairsOf (now includes) ≡ pointOf (now rec) info .includes) × (pairsOf (now witness) ≡ pointOf (now rec) info .witness) × (peersOf 32 (now evidence) ≡ pointOf (now rec) info .evidence) ⌝ }
     ensures { λ r. ⌜ checkedOf r ≡ firstOf (concat (ownPointRows (pointOf (now (rec .entry)) info))) ⌝ }
 {
     let id = info.id;
     let role = info.role;
-    let has_prev_point = is_found(point::prev_digest(rec, info));
+    let has_prev_point = is_found(prev_digest(includes, rec, info));
     if lacks_prev_point(role, has_prev_point) {
         return Checked::Issue(StructureIssue::NoPrevPoint);
     }
-    let evidence = point::evidence(rec);
     if equal(map::count(evidence, 32) == 0, has_prev_point) {
         return Checked::Issue(StructureIssue::AuthorInMap(PointMap::Includes));
     }
     if map::contains(evidence, 32, id.author) {
         return Checked::Issue(StructureIssue::AuthorInMap(PointMap::Evidence));
     }
-    if map::contains(point::witness(rec), 64, id.author) {
+    if map::contains(witness, 64, id.author) {
         return Checked::Issue(StructureIssue::AuthorInMap(PointMap::Witness));
     }
     Checked::Sound
 }
 
 // The anchor links and the times.
-fn check_links(rec: &[u8], info: PointInfo) -> Checked
+fn check_links(includes: &[u8], witness: &[u8], rec: &[u8], info: PointInfo) -> Checked
     requires { ⌜ readPoint (now rec) ≡ some (pointOf (now rec) info) ⌝ }
+    requires { ⌜ (pairsOf (now includes) ≡ pointOf (now rec) info .includes) × (pairsOf (now witness) ≡ pointOf (now rec) info .witness) ⌝ }
     ensures { λ r. ⌜ checkedOf r ≡ firstOf (concat (linkRows (pointOf (now (rec .entry)) info))) ⌝ }
 {
     if is_bad_proof_link(info) {
         return Checked::Issue(StructureIssue::TriggerBadProofLink);
     }
     let proof = info.anchor_proof;
-    if is_bad_link(rec, info, proof) {
+    if is_bad_link(includes, witness, rec, info, proof) {
         let map = point_map(proof.through());
         return Checked::Issue(StructureIssue::Link(AnchorStageRole::Proof, map));
     }
     let trigger = info.anchor_trigger;
-    if is_bad_link(rec, info, trigger) {
+    if is_bad_link(includes, witness, rec, info, trigger) {
         let map = point_map(trigger.through());
         return Checked::Issue(StructureIssue::Link(AnchorStageRole::Trigger, map));
     }
@@ -219,19 +261,26 @@ fn check_links(rec: &[u8], info: PointInfo) -> Checked
 }
 
 // check_structure of any other point.
-fn check_structure(rec: &[u8], info: PointInfo) -> Checked
+fn check_structure(
+    includes: &[u8],
+    witness: &[u8],
+    evidence: &[u8],
+    rec: &[u8],
+    info: PointInfo,
+) -> Checked
     requires { ⌜ readPoint (now rec) ≡ some (pointOf (now rec) info) ⌝ }
+    requires { ⌜ (pairsOf (now includes) ≡ pointOf (now rec) info .includes) × (pairsOf (now witness) ≡ pointOf (now rec) info .witness) × (peersOf 32 (now evidence) ≡ pointOf (now rec) info .evidence) ⌝ }
     ensures { λ r. ⌜ checkedOf r ≡ firstOf (concat (structureRows (pointOf (now (rec .entry)) info))) ⌝ }
 {
     let role = info.role;
     if is_genesis(role) {
         return Checked::Issue(StructureIssue::ExpectedGenesis(false));
     }
-    let own_points = check_own_points(rec, info);
+    let own_points = check_own_points(includes, witness, evidence, rec, info);
     let Checked::Sound = own_points else {
         return own_points;
     };
-    check_links(rec, info)
+    check_links(includes, witness, rec, info)
 }
 
 fn check_genesis(conf: Settings, rec: &[u8], info: PointInfo) -> Verified
@@ -289,8 +338,16 @@ fn target_round(round: u32, link: AnchorLink) -> u32
     }
 }
 
-fn check_above_genesis(conf: Settings, rec: &[u8], info: PointInfo) -> Verified
+fn check_above_genesis(
+    conf: Settings,
+    includes: &[u8],
+    witness: &[u8],
+    evidence: &[u8],
+    rec: &[u8],
+    info: PointInfo,
+) -> Verified
     requires { ⌜ readPoint (now rec) ≡ some (pointOf (now rec) info) ⌝ }
+    requires { ⌜ (pairsOf (now includes) ≡ pointOf (now rec) info .includes) × (pairsOf (now witness) ≡ pointOf (now rec) info .witness) × (peersOf 32 (now evidence) ≡ pointOf (now rec) info .evidence) ⌝ }
     ensures { λ r. ⌜ verifiedOf r ≡ firstOf (concat (aboveRows (settingsOf conf) (pointOf (now (rec .entry)) info))) ⌝ }
 {
     let id = info.id;
@@ -299,7 +356,7 @@ fn check_above_genesis(conf: Settings, rec: &[u8], info: PointInfo) -> Verified
         let bytes = info.payload_bytes;
         return Verified::Failed(VerifyError::IllFormed(IllFormedReason::TooLargePayload(bytes)));
     }
-    let structure = check_structure(rec, info);
+    let structure = check_structure(includes, witness, evidence, rec, info);
     if let Checked::Issue(i) = structure {
         return Verified::Failed(VerifyError::IllFormed(IllFormedReason::Structure(i)));
     }
@@ -318,13 +375,22 @@ fn check_above_genesis(conf: Settings, rec: &[u8], info: PointInfo) -> Verified
     Verified::Passed
 }
 
-pub fn check_well_formed(conf: Settings, rec: &[u8], info: PointInfo) -> Verified
+// Takes the maps of the record too, so that they are looked up once for all checks.
+pub fn check_well_formed(
+    conf: Settings,
+    includes: &[u8],
+    witness: &[u8],
+    evidence: &[u8],
+    rec: &[u8],
+    info: PointInfo,
+) -> Verified
     requires { ⌜ readPoint (now rec) ≡ some (pointOf (now rec) info) ⌝ }
+    requires { ⌜ (pairsOf (now includes) ≡ pointOf (now rec) info .includes) × (pairsOf (now witness) ≡ pointOf (now rec) info .witness) × (peersOf 32 (now evidence) ≡ pointOf (now rec) info .evidence) ⌝ }
     ensures { λ r. ⌜ verifiedOf r ≡ firstOf (concat (wellFormedRows (settingsOf conf) (pointOf (now (rec .entry)) info))) ⌝ }
 {
     let id = info.id;
     if id.round == conf.genesis_round {
         return check_genesis(conf, rec, info);
     }
-    check_above_genesis(conf, rec, info)
+    check_above_genesis(conf, includes, witness, evidence, rec, info)
 }

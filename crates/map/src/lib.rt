@@ -61,6 +61,14 @@ pub fn compare_rows(
     parts::compare_at(rows, width * i, others, other_width * j)
 }
 
+// How the peer of a row stands to a peer.
+pub fn compare_row(rows: &[u8], width: usize, i: usize, peer: Id) -> Order
+    requires { ⌜ (32 ≤ width) × (i < length (peersOf width (now rows))) ⌝ }
+    ensures { λ r. ⌜ r ≡ order (getD (peersOf width (now (rows .entry))) i 0) (number peer) ⌝ }
+{
+    parts::compare_to(rows, width * i, peer)
+}
+
 // Whether the peers rise strictly.
 fn is_rising(rows: &[u8], width: usize) -> bool
     requires { ⌜ 32 ≤ width ⌝ }
@@ -99,7 +107,7 @@ pub fn search(rows: &[u8], width: usize, peer: Id) -> Position
     let mut hi = count(rows, width);
     while lo < hi {
         let mid = lo + (hi - lo) / 2;
-        let o = parts::compare(peer_at(rows, width, mid), peer);
+        let o = compare_row(rows, width, mid, peer);
         match o {
             Order::Same => return Position::At(mid),
             Order::Less => lo = mid + 1,

@@ -1,5 +1,5 @@
 -- Laws of numbers read from bytes, and of ids: their order is that of their byte strings.
-use Prim.Native.Nat.{ℕ, zero, suc, _+_, _*_, _^_, _≤_, _<_}
+use Prim.Native.Nat.{ℕ, zero, suc, _+_, _*_, _/_, _%_, _^_, _≤_, _<_}
 use native.Mathlib.Nat.{mul-le-mul-left, suc-mul, mul-comm, mul-assoc, add-mul, pow-succ'}
 use native.Mathlib.Omega.{arith}
 use lib.Pow.{pow-add}
@@ -11,7 +11,7 @@ use lib.ListN.{length, getD, take, drop, length-append, length-take, length-drop
 use lib.Seq.{drop-cons, take-add, drop-drop, length-take-le, getD-take, getD-drop}
 use lib.Dec.{ltb, eqb}
 use borrow.Author.Tests.{lt-ltb, le-ltb, eq-eqb, ne-eqb}
-use Rattle.parts.specs.Bytes.{little, big, bytesAt, littleAt, bigAt}
+use Rattle.parts.specs.Bytes.{little, big, bytesAt, littleAt, bigAt, littleBytes}
 use Rattle.parts.specs.Parts.{number, order, orderThen, orderOfRest, orderOfBytes}
 use Rattle.parts.specs.declared.Id.{Id}
 use Rattle.parts.specs.declared.Order.{Order}
@@ -175,6 +175,11 @@ order-of-bytes (x ∷ s) (y ∷ t) bs bt e =
 
 -- ---- ids of the code: four words
 
+-- an id of four zeros is the number 0
+pub number-zero : number (record { a = 0; b = 0; c = 0; d = 0 }) ≡ 0
+unfolding number
+number-zero = refl
+
 -- the words of an id fit
 pub record Words (x : Id) : Type 0 where
   pub wa : x .a < 2 ^ 64
@@ -239,3 +244,26 @@ pub places-order : (s t : List ℕ) (at from : ℕ) → Bytes s → Bytes t → 
 unfolding number idOf orderOfRest
 places-order s t at from bs bt hs ht =
     rw (big-words s at hs, big-words t from ht) (number-order (idOf s at) (idOf t from) (words-of s at bs hs) (words-of t from bt ht))
+
+-- an id at a place, held to an id of the code
+pub place-order : (s : List ℕ) (at : ℕ) (y : Id) → Bytes s → Words y → at + 32 ≤ length s →
+    order (bigAt 32 s at) (number y)
+    ≡ orderThen (bigAt 8 s at) (y .a) (orderThen (bigAt 8 s (at + 8)) (y .b) (orderThen (bigAt 8 s (at + 16)) (y .c) (orderThen (bigAt 8 s (at + 24)) (y .d) Same)))
+unfolding number idOf
+place-order s at y b w h = rw (big-words s at h) (number-order (idOf s at) y (words-of s at b h) w)
+
+-- ---- bytes in the other order
+
+-- the bytes of a number that was read from bytes are these
+little-bytes : (l : List ℕ) → Bytes l → littleBytes (length l) (little l) ≡ l
+unfolding little littleBytes
+little-bytes [] b = refl
+little-bytes (x ∷ l) b =
+    let h : x < 256 = b 0 in
+    let low : (x + 256 * little l) % 256 ≡ x = omega arith in
+    let high : (x + 256 * little l) / 256 ≡ little l = omega arith in
+    rw (low, high, little-bytes l (λ k. b (suc k)))
+
+pub swapped-at : (n : ℕ) (s : List ℕ) (at : ℕ) → Bytes s → at + n ≤ length s → big (littleBytes n (littleAt n s at)) ≡ bigAt n s at
+unfolding littleAt bigAt
+swapped-at n s at b h = ap big (rw (at-length n s at h) at (little-bytes (bytesAt n s at) (at-bytes n s at b)))

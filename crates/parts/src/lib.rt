@@ -3,7 +3,7 @@ ghost use mathlib.Core.Path.{_≡_};
 ghost use Prim.Native.Nat.{_+_, _-_, _≤_, _<_};
 ghost use lib.Dec.{eqb};
 ghost use lib.ListN.{length};
-ghost use Rattle.parts.specs.Bytes.{littleAt, bigAt, idAt, bigBytes, putAt};
+ghost use Rattle.parts.specs.Bytes.{big, littleAt, bigAt, idAt, littleBytes, bigBytes, putAt};
 ghost use Rattle.parts.specs.Parts.{number, order, orderThen, orderOfRest, peerCount, peerCountOf, full, majority, majorityOfOthers};
 
 // A peer or a digest: its 32 bytes as four numbers, the first byte highest, so that comparing the
@@ -58,23 +58,32 @@ pub fn u64_at(s: &[u8], at: usize) -> u64
     low as u64 + 4294967296 * high as u64
 }
 
-// The number of eight bytes at a place, the first highest. Written as these two sums,
-// it compiles to one load.
+// The number whose eight bytes are those of a number in the other order. Compiles to one instruction.
+fn swapped(w: u64) -> u64
+    ensures { λ r. ⌜ r ≡ big (littleBytes 8 w) ⌝ }
+{
+    let b = w / 256;
+    let c = b / 256;
+    let d = c / 256;
+    let e = d / 256;
+    let f = e / 256;
+    let g = f / 256;
+    let h = g / 256;
+    let first = w % 256 * 72057594037927936 + b % 256 * 281474976710656;
+    let second = c % 256 * 1099511627776 + d % 256 * 4294967296;
+    let third = e % 256 * 16777216 + f % 256 * 65536;
+    let fourth = g % 256 * 256 + h % 256;
+    first + second + (third + fourth)
+}
+
+// The number of eight bytes at a place, the first highest. The compiler makes one load of the eight bytes where the first
+// is lowest before it weighs what to inline, and where the first is highest only after that: so they are read lowest first
+// and swapped.
 fn big64_at(s: &[u8], at: usize) -> u64
     requires { ⌜ at + 8 ≤ length (now s) ⌝ }
     ensures { λ r. ⌜ r ≡ bigAt 8 (now (s .entry)) at ⌝ }
 {
-    let a = wide(s[at]);
-    let b = wide(s[at + 1]);
-    let c = wide(s[at + 2]);
-    let d = wide(s[at + 3]);
-    let e = wide(s[at + 4]);
-    let f = wide(s[at + 5]);
-    let g = wide(s[at + 6]);
-    let h = wide(s[at + 7]);
-    let upper = a * 72057594037927936 + b * 281474976710656 + (c * 1099511627776 + d * 4294967296);
-    let lower = e * 16777216 + f * 65536 + (g * 256 + h);
-    upper + lower
+    swapped(u64_at(s, at))
 }
 
 // The id whose 32 bytes stand at a place.
@@ -164,6 +173,21 @@ pub fn compare_at(s: &[u8], at: usize, t: &[u8], from: usize) -> Order
         return Order::More;
     }
     compare_rest(s, at, t, from)
+}
+
+// The order of the id that stands at a place and an id. Where their first words differ no more is read.
+pub fn compare_to(s: &[u8], at: usize, id: Id) -> Order
+    requires { ⌜ at + 32 ≤ length (now s) ⌝ }
+    ensures { λ r. ⌜ r ≡ order (idAt (now (s .entry)) at) (number id) ⌝ }
+{
+    let x = big64_at(s, at);
+    if x < id.a {
+        return Order::Less;
+    }
+    if id.a < x {
+        return Order::More;
+    }
+    compare(id_at(s, at), id)
 }
 
 // F of a count of peers 3F+1.

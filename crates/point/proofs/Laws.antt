@@ -6,12 +6,13 @@ use mathlib.Core.Bool.{Bool, true, false, _&&_, and-eq-true-iff}
 use mathlib.Core.Option.{Option, none, some}
 use mathlib.Core.List.{List}
 use lib.ListN.{length}
+use Rattle.base.specs.Base.{pick}
 use Rattle.base.proofs.Laws.{picked}
 use Rattle.map.specs.Rows.{Pair, peersOf, pairsOf, peers, rising, wellRowed}
 use Rattle.map.proofs.Laws.{peersOf-length, pairsOf-length, peers-pairsOf, wellRowed-rising, wellRowed-whole}
 use Rattle.record.specs.Record.{rows, rowOf, contentOf, wellShaped}
 use Rattle.record.proofs.Laws.{content-greatest}
-use Rattle.point.specs.Point.{AnchorLink, PointInfo, anchorLink, isWaveLinkOk}
+use Rattle.point.specs.Point.{PointId, Through, AnchorLink, PointInfo, throughRound, throughPeer, digestSafe, isAnchorStage, through, anchorLink, orZero, source, target, top, anchor, isWaveLinkOk}
 use Rattle.point.specs.Reading.{readLink, readRole, mapsOk, pointWith, readPoint, pointOf, linkIn}
 use Rattle.point.specs.declared.data.PointRole.{PointRole}
 use Rattle.point.specs.declared.data.PointRole.the-variants.{AnchorProof}
@@ -96,6 +97,18 @@ module _ (s : List ℕ) where
 pub link-in : (g : AnchorStageRole) (s : List ℕ) (i : code-info.PointInfo) → linkIn g i ≡ anchorLink g (pointOf s i)
 link-in Proof s i = refl
 link-in Trigger s i = refl
+
+-- the source of a link, by its parts
+pub source-is : (g : AnchorStageRole) (p : PointInfo) (t : Through) (r d a : ℕ) → t ≡ through (anchorLink g p) →
+    r ≡ throughRound t (p .id .round) → d ≡ orZero (digestSafe p t) → a ≡ throughPeer t → record { round = r; digest = d; author = a } ≡ source g p
+unfolding source
+source-is g p t r d a e f h k = rw (f, h, k, e)
+
+-- the view of a link, by its parts
+pub view-is : (g : AnchorStageRole) (p : PointInfo) (own : Bool) (t s : PointId) → own ≡ isAnchorStage g (p .role) → t ≡ target g p → s ≡ source g p →
+    record { top = pick own (p .id) t; target = t; source = s } ≡ anchor g p
+unfolding anchor top
+view-is g p own t s e f h = rw (e, f, h)
 
 -- a proof that is not the first of its sequence asks nothing of its link
 pub later-proof : (leader prev : Bool) (round : ℕ) (l : AnchorLink) (n : ℕ) (last : Bool) → (n ≡ 0 → ⊥) →

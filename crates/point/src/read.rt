@@ -5,9 +5,11 @@ use crate::info::PointInfo;
 use crate::link::AnchorLink;
 use crate::link::IndirectLink;
 use crate::link::Through;
+use record::Places;
 ghost use mathlib.Core.Path.{_≡_};
 ghost use Prim.Native.Nat.{_+_, _≤_};
 ghost use lib.ListN.{length};
+ghost use Rattle.record.specs.Record.{startOf};
 ghost use Rattle.point.specs.Reading.{pointIdAt, readThrough, readLink, readRole, mapsOk, readPoint, pointIdOf, readThroughOf, readLinkOf, readRoleOf, readPointOf};
 
 pub enum ReadThrough {
@@ -106,16 +108,17 @@ fn read_role(s: &[u8]) -> ReadRole
 }
 
 // Whether includes, witness and evidence are whole rows that rise.
-fn are_maps_ok(rec: &[u8]) -> bool
+fn are_maps_ok(rec: &[u8], at: Places) -> bool
+    requires { ⌜ (at .includes ≡ startOf (now rec) 2) × (at .witness ≡ startOf (now rec) 3) × (at .evidence ≡ startOf (now rec) 4) ⌝ }
     ensures { λ r. ⌜ r ≡ mapsOk (now (rec .entry)) ⌝ }
 {
-    if !map::is_well_rowed(record::content(rec, 2), 64) {
+    if !map::is_well_rowed(record::content_from(rec, at.includes, 2), 64) {
         return false;
     }
-    if !map::is_well_rowed(record::content(rec, 3), 64) {
+    if !map::is_well_rowed(record::content_from(rec, at.witness, 3), 64) {
         return false;
     }
-    map::is_well_rowed(record::content(rec, 4), 32)
+    map::is_well_rowed(record::content_from(rec, at.evidence, 4), 32)
 }
 
 // What a slice that holds one point record says.
@@ -125,21 +128,24 @@ pub fn read_point(rec: &[u8]) -> ReadPoint
     if !record::is_well_shaped(rec) {
         return ReadPoint::Unreadable;
     }
-    if !are_maps_ok(rec) {
+    let at = record::find_places(rec);
+    if !are_maps_ok(rec, at) {
         return ReadPoint::Unreadable;
     }
-    let ReadLink::Link(anchor_proof) = read_link(record::content(rec, 5)) else {
+    let ReadLink::Link(anchor_proof) = read_link(record::content_from(rec, at.anchor_proof, 5))
+    else {
         return ReadPoint::Unreadable;
     };
-    let ReadLink::Link(anchor_trigger) = read_link(record::content(rec, 6)) else {
+    let ReadLink::Link(anchor_trigger) = read_link(record::content_from(rec, at.anchor_trigger, 6))
+    else {
         return ReadPoint::Unreadable;
     };
-    let ReadRole::Role(role) = read_role(record::content(rec, 7)) else {
+    let ReadRole::Role(role) = read_role(record::content_from(rec, at.role, 7)) else {
         return ReadPoint::Unreadable;
     };
     let id = point_id_at(record::content(rec, 0), 0);
-    let payload = record::content(rec, 1);
-    let times = record::content(rec, 8);
+    let payload = record::content_from(rec, at.payload, 1);
+    let times = record::content_from(rec, at.times, 8);
     ReadPoint::Point(PointInfo {
         id,
         payload_len: parts::u32_at(payload, 0),

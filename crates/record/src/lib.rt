@@ -59,6 +59,18 @@ const ROWS: [Row; 9] = [
     },
 ];
 
+// Where the fields of a record behind the first start.
+pub struct Places {
+    pub payload: usize,
+    pub includes: usize,
+    pub witness: usize,
+    pub evidence: usize,
+    pub anchor_proof: usize,
+    pub anchor_trigger: usize,
+    pub role: usize,
+    pub times: usize,
+}
+
 // Where a record at the front of a slice ends.
 pub enum End {
     At(usize),
@@ -167,4 +179,39 @@ pub fn content(rec: &[u8], k: usize) -> &[u8]
     ensures { λ r. ⌜ now r ≡ contentOf (now (rec .entry)) k ⌝ }
 {
     content_at(rec, start(rec, k))
+}
+
+// The same, of a field whose start is known.
+pub fn content_from(rec: &[u8], at: usize, k: usize) -> &[u8]
+    requires { ⌜ at ≡ startOf (now rec) k ⌝ }
+    ensures { λ r. ⌜ now r ≡ contentOf (now (rec .entry)) k ⌝ }
+{
+    content_at(rec, at)
+}
+
+// Where the fields start, found in one walk.
+pub fn find_places(rec: &[u8]) -> Places
+    ensures { λ r. ⌜ (r .payload ≡ startOf (now (rec .entry)) 1) × (r .includes ≡ startOf (now (rec .entry)) 2) ⌝ }
+    ensures { λ r. ⌜ (r .witness ≡ startOf (now (rec .entry)) 3) × (r .evidence ≡ startOf (now (rec .entry)) 4) ⌝ }
+    ensures { λ r. ⌜ (r .«anchor_proof» ≡ startOf (now (rec .entry)) 5) × (r .«anchor_trigger» ≡ startOf (now (rec .entry)) 6) ⌝ }
+    ensures { λ r. ⌜ (r .role ≡ startOf (now (rec .entry)) 7) × (r .times ≡ startOf (now (rec .entry)) 8) ⌝ }
+{
+    let payload = next(rec, 0);
+    let includes = next(rec, payload);
+    let witness = next(rec, includes);
+    let evidence = next(rec, witness);
+    let anchor_proof = next(rec, evidence);
+    let anchor_trigger = next(rec, anchor_proof);
+    let role = next(rec, anchor_trigger);
+    let times = next(rec, role);
+    Places {
+        payload,
+        includes,
+        witness,
+        evidence,
+        anchor_proof,
+        anchor_trigger,
+        role,
+        times,
+    }
 }

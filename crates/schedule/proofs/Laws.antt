@@ -8,8 +8,8 @@ use mathlib.Core.Path.{_≡_, refl, ap, sym, _∙_}
 use mathlib.Core.List.{List, [], _∷_, _++_}
 use mathlib.Core.Option.{Option, none, some}
 use mathlib.Core.Bool.{Bool, true, false, not, _&&_, and-eq-true-iff}
-use lib.ListN.{length, getD, take, drop, set, length-take, length-drop, drop-of-length-le}
-use lib.Seq.{getD-take, take-all, take-suc, take-suc-set, drop-at, length-take-le}
+use lib.ListN.{length, getD, take, drop, set, replicate, length-take, length-drop, drop-of-length-le, take-append-drop}
+use lib.Seq.{getD-take, take-all, take-suc, take-suc-set, drop-at, drop-drop, drop-set-lt, append-snoc, length-take-le}
 use lib.Dec.{leb, ltb}
 use borrow.Author.Tests.{lt-ltb, le-ltb, le-leb, lt-leb, eq-eqb}
 use Rattle.base.specs.Base.{pick}
@@ -21,8 +21,9 @@ use Rattle.record.specs.Record.{fieldRow, fieldOk, nextAt, contentAt}
 use Rattle.record.proofs.Laws.{Fitting, fitting, content-length}
 use Rattle.schedule.specs.declared.settings.Settings as code-settings
 use Rattle.schedule.specs.declared.schedule.Span as code
+use Rattle.schedule.specs.declared.schedule.ReadSchedule as code-read
 use Rattle.schedule.specs.Settings.{Settings, settingsIn, inLimits, readSettings, settingsOf}
-use Rattle.schedule.specs.Schedule.{Span, Schedule, spanAt, spanOk, lastOk, lastAt, spanThen, spansThen, scheduleFrom, firsts, isEmpty, ifUsable, readSchedule, orElse, lastStarted, spanFor, peersIn, peersFor, spanOf, spansOf, firstsOf}
+use Rattle.schedule.specs.Schedule.{Span, Schedule, spanAt, spanOk, lastOk, lastAt, spanThen, spansThen, scheduleFrom, firsts, isEmpty, ifUsable, readSchedule, orElse, lastStarted, spanFor, peersIn, peersFor, spanOf, spansOf, firstsOf, noSpan, codeSpanAt, codeSpansFrom, readScheduleOf, unreadable, Handed}
 
 -- ---- choices
 
@@ -104,13 +105,17 @@ module _ (s : List ℕ) (at : ℕ) (h : spanOk s at ≡ true) where
   span-few = omega (arith, span-whole, span-field .greatest, span-field .content)
 
   -- the peers' bytes, by their place and number
-  pub span-bytes : bytesAt (32 * ((length (contentAt s at) - 4) / 32)) s (at + 7) ≡ drop 4 (contentAt s at)
+  span-bytes : bytesAt (32 * ((length (contentAt s at) - 4) / 32)) s (at + 7) ≡ drop 4 (contentAt s at)
   unfolding contentAt
   span-bytes =
       rest-of 4 (32 * ((length (contentAt s at) - 4) / 32)) (nextAt s at - (at + 3)) (at + 3) (at + 7) s
       (omega (arith, span-whole, content-length s at))
       (omega arith)
       (omega (arith, span-field .end, span-field .least))
+
+  -- what the code's span stands for
+  pub span-held : spanOf s (codeSpanAt s at) ≡ spanAt s at
+  span-held = rw span-bytes
 
 pub last-within : (s : List ℕ) (at : ℕ) → lastOk s at ≡ true → at + 3 + 4 ≤ length s
 unfolding lastOk
@@ -119,10 +124,6 @@ last-within s at h =
     omega (arith, f .least, f .end)
 
 -- ---- spans one behind the other
-
--- what a span of the code is past the end of a list
-abbrev noSpan : code.Span
-noSpan = record { first = 0; place = 0; peers = 0 }
 
 module _ (s : List ℕ) where
   spansOf-append : (a b : List code.Span) → spansOf s (a ++ b) ≡ spansOf s a ++ spansOf s b
@@ -181,6 +182,38 @@ pub stored : (s : List ℕ) (l : List code.Span) (n : ℕ) (x : code.Span) (y : 
 stored s l n x y o h e =
     rw (← e, add-one n, take-suc-set l n x h, spansOf-append s (take n l) (x ∷ []), spansThen-append (spansOf s (take n l)) (spansOf s (x ∷ [])) o)
 
+-- the entries while they are filled: behind the first n stands no span, and they will be those n and the spans from a place on
+pub record Filled (s : List ℕ) (l : List code.Span) (n at : ℕ) : Type 0 where
+  pub behind : drop n l ≡ replicate (4 - n) noSpan
+  pub ahead : codeSpansFrom 4 s 0 ≡ take n l ++ codeSpansFrom (4 - n) s at
+
+module _ (s : List ℕ) (l : List code.Span) (n at : ℕ) (f : Filled s l n at) where
+  filled : codeSpansFrom (4 - n) s at ≡ replicate (4 - n) noSpan → l ≡ codeSpansFrom 4 s 0
+  filled e = sym (f .ahead ∙ rw (e, ← f .behind) (take-append-drop n l))
+
+  pub filled-full : n ≡ 4 → l ≡ codeSpansFrom 4 s 0
+  unfolding codeSpansFrom
+  filled-full e = filled (rw e)
+
+  module _ (h : n < 4) where
+    entries-step : codeSpansFrom (4 - n) s at
+        ≡ pick (spanOk s at) (codeSpanAt s at ∷ codeSpansFrom (4 - (n + 1)) s (nextAt s at)) (replicate (4 - n) noSpan)
+    unfolding codeSpansFrom
+    entries-step = let e : 4 - n ≡ suc (4 - (n + 1)) = omega arith in rw e
+
+    pub filled-end : spanOk s at ≡ false → l ≡ codeSpansFrom 4 s 0
+    filled-end e = filled (entries-step ∙ rw e)
+
+    pub filled-step : (x : code.Span) → n < length l → spanOk s at ≡ true → x ≡ codeSpanAt s at → Filled s (set l n x) (n + 1) (nextAt s at)
+    filled-step x g ok e =
+        let m : 4 - n ≡ suc (4 - (n + 1)) = omega arith in
+        record {
+          behind = drop-set-lt (n + 1) l n x (omega arith) ∙ (sym (drop-drop 1 n l) ∙ rw (f .behind, m));
+          ahead =
+              f .ahead
+              ∙ rw (entries-step, ok, ← e, add-one n, take-suc-set l n x g) (sym (append-snoc (take n l) x _));
+        }
+
 then-none : (l : List Span) → spansThen l none ≡ none
 then-none [] = refl
 then-none (x ∷ l) = ap (spanThen x) (then-none l)
@@ -208,6 +241,12 @@ read-is s l end h = ap ifUsable h ∙ (usable (spansOf s l) (lastOk s end) (litt
 pub not-empty : (s : List ℕ) (l : List code.Span) → 0 < length l → isEmpty (spansOf s l) ≡ false
 not-empty s [] h = absurd (omega arith)
 not-empty s (x ∷ l) h = refl
+
+-- what is handed out where nothing was read
+pub unread : (s : List ℕ) (r : code-read.ReadSchedule) → r ≡ unreadable → readSchedule s ≡ none → (readScheduleOf s r ≡ readSchedule s) × Handed s r
+unread s r e h =
+    let f : r .readable ≡ false = rw e in
+    (rw (e, h), record { few = rw e (omega arith); entries = λ g. let z : _≡_ {A = ℕ} 0 1 = cc in absurd (omega arith); nothing = λ g. e })
 
 -- ---- first rounds, by neighbours
 

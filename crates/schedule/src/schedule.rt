@@ -7,7 +7,7 @@ ghost use Prim.Native.Nat.{ℕ, _≤_, min};
 ghost use lib.ListN.{length, take};
 ghost use Rattle.parts.specs.Bytes.{bytesAt};
 ghost use Rattle.map.specs.Rows.{peersOf, rising};
-ghost use Rattle.schedule.specs.Schedule.{spanAt, spanOk, lastOk, readSchedule, spanFor, peersFor, requireRegularPoints, spanOf, firstsOf, SpansRead, scheduleOf, readScheduleOf, indexOf, requireOf};
+ghost use Rattle.schedule.specs.Schedule.{spanOk, lastOk, readSchedule, spanFor, peersFor, requireRegularPoints, firstsOf, codeSpanAt, SpansRead, scheduleOf, readScheduleOf, unreadable, Handed, peerBytes, indexOf, requireOf};
 
 const WAVE_ROUNDS: u32 = 4;
 
@@ -100,7 +100,7 @@ fn is_last_known(s: &[u8], at: usize) -> bool
 // The span at a place.
 fn span_at(s: &[u8], at: usize) -> Span
     requires { ⌜ (at ≤ length (now s)) × (spanOk (now s) at ≡ true) ⌝ }
-    ensures { λ r. ⌜ spanOf (now (s .entry)) r ≡ spanAt (now (s .entry)) at ⌝ }
+    ensures { λ r. ⌜ r ≡ codeSpanAt (now (s .entry)) at ⌝ }
 {
     let content = record::content_at(s, at);
     Span {
@@ -153,38 +153,45 @@ fn are_firsts_rising(spans: [Span; 4], count: usize) -> bool
     true
 }
 
+// What is handed out where there is no schedule.
+fn unreadable() -> ReadSchedule
+    ensures { λ r. ⌜ r ≡ unreadable ⌝ }
+{
+    let spans = [NO_SPAN; 4];
+    let schedule = Schedule {
+        spans,
+        count: 0,
+        last_known: 0,
+    };
+    ReadSchedule {
+        readable: false,
+        schedule,
+    }
+}
+
 // The schedule of a slice that holds one and nothing behind it.
 pub fn read_schedule(s: &[u8]) -> ReadSchedule
     ensures { λ r. ⌜ readScheduleOf (now (s .entry)) r ≡ readSchedule (now (s .entry)) ⌝ }
+    ensures { λ r. ⌜ Handed (now (s .entry)) r ⌝ }
 {
     let read = read_spans(s);
     let spans = read.spans;
     let count = read.count;
     let end = read.end;
-    let mut schedule = Schedule {
-        spans,
-        count,
-        last_known: 0,
-    };
     if count == 0 {
-        return ReadSchedule {
-            readable: false,
-            schedule,
-        };
+        return unreadable();
     }
     if !are_firsts_rising(spans, count) {
-        return ReadSchedule {
-            readable: false,
-            schedule,
-        };
+        return unreadable();
     }
     if !is_last_known(s, end) {
-        return ReadSchedule {
-            readable: false,
-            schedule,
-        };
+        return unreadable();
     }
-    schedule.last_known = parts::u32_at(s, end + 3);
+    let schedule = Schedule {
+        spans,
+        count,
+        last_known: parts::u32_at(s, end + 3),
+    };
     ReadSchedule {
         readable: true,
         schedule,
@@ -222,6 +229,7 @@ fn part(s: &[u8], at: usize, n: usize) -> &[u8]
 // The peers of a round, as a part of the schedule's bytes.
 pub fn peers_for(s: &[u8], c: Schedule, round: u32) -> &[u8]
     ensures { λ r. ⌜ peersOf 32 (now r) ≡ peersFor (scheduleOf (now (s .entry)) c) round ⌝ }
+    ensures { λ r. ⌜ now r ≡ peerBytes (now (s .entry)) c round ⌝ }
 {
     let index = span_for(c, round);
     match index {

@@ -200,12 +200,15 @@ module _ (k r old out : List ℕ) (i j found : ℕ) (w : Walked k r old out i j 
       passed-next : (a : ℕ) → a < j → i + 1 < length r → getD k a 0 < getD r (i + 1) 0
       passed-next a g f = omega (arith, w .passed a g h, rising-less r i (i + 1) rises (omega arith) f)
 
-      pub walked-same : orderAt k j (getD r i 0) ≡ Same → Walked k r old out (i + 1) j found
+      pub walked-same : orderAt k j (getD r i 0) ≡ Same → Walked k r old out (i + 1) (j + 1) found
       walked-same o =
           let p = orderAt-same k j (getD r i 0) o in
           let e = known-next k r i h (has-here k (getD r i 0) j set-rises (p .0) (p .1)) in
           record {
-            passed = passed-next;
+            passed = λ a g f. elim (decLt a j) [
+              | yes q ↦ passed-next a q f
+              | no q ↦ (let d : a ≡ j = omega arith in rw (d, p .1) (rising-less r i (i + 1) rises (omega arith) f))
+            ];
             few = omega (arith, w .few);
             count = rw e (w .count);
             same = w .same;

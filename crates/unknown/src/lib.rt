@@ -39,7 +39,10 @@ pub fn unknown_peers(rows: &[u8], width: usize, scheduled: &[u8], out: &mut [u8]
         let order = order_at(scheduled, j, m, rows, width, i);
         match order {
             Order::Less => j += 1,
-            Order::Same => i += 1,
+            Order::Same => {
+                i += 1;
+                j += 1;
+            }
             Order::More => {
                 let peer = map::peer_at(rows, width, i);
                 write::put_id(out, 32 * found, peer);

@@ -59,11 +59,32 @@ pub fn verify_point(
     let Verified::Passed = new else {
         return new;
     };
-    let well_formed = check_well_formed::check_well_formed(conf, rec, info);
+    let at = record::find_places(rec);
+    let includes = record::content_from(rec, at.includes, 2);
+    let witness = record::content_from(rec, at.witness, 3);
+    let evidence = record::content_from(rec, at.evidence, 4);
+    let well_formed = check_well_formed::check_well_formed(
+        conf,
+        includes,
+        witness,
+        evidence,
+        rec,
+        info,
+    );
     let Verified::Passed = well_formed else {
         return well_formed;
     };
-    check_peers::check_peers(conf, schedule, spans, rec, info, peers)
+    check_peers::check_peers(
+        conf,
+        schedule,
+        spans,
+        includes,
+        witness,
+        evidence,
+        rec,
+        info,
+        peers,
+    )
 }
 
 // Numbers 1 to 5 in number order, then the verdict.

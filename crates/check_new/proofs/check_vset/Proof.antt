@@ -15,7 +15,7 @@ use Rattle.check_new.proofs.check_vset.Tie as tie
 counted : (c : tie.After-count) →
     let a = c .before .before .before .args in
     c .count .result ≡ length (peersFor (scheduleOf (now (a .schedule)) (a .spans)) (a .round))
-counted c = c .count .ensures ∙ ap length (c .before .peers-for .ensures)
+counted c = c .count .ensures ∙ ap length (c .before .peers-for .ensures .0)
 
 peers-for-requires : tie.Need-peers-for-requires
 peers-for-requires c κs = search needs

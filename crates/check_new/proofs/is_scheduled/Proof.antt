@@ -13,10 +13,10 @@ peers-for-requires c κs = search needs
 contains-requires : tie.Need-contains-requires
 contains-requires c κs =
     let st = c .before .before in
-    (omega arith, ap rising (c .peers-for .ensures) ∙ peers-few _ _ (st .args .round) (st .pre) .rises)
+    (omega arith, ap rising (c .peers-for .ensures .0) ∙ peers-few _ _ (st .args .round) (st .pre) .rises)
 
 returns : tie.Need-returns
-returns c = rw (← c .before .peers-for .ensures) (c .contains .ensures)
+returns c = rw (← c .before .peers-for .ensures .0) (c .contains .ensures)
 
 pub is-scheduled-spec : {M : Type 1} → statement M
 is-scheduled-spec = tie.close (tie.spec peers-for-requires contains-requires returns)

@@ -36,52 +36,54 @@ few c round l e = rw e (peers-few (now (c .args .schedule)) (schedule c) round (
 
 -- evidence
 abbrev start : tie.After-check-evidence-peers → tie.Start
-start c = c .before .before .before .before .before .before .before
+start c = c .before .before .before .before .before .before .before .before .before .before .before .before .before .before
 
 evidence : (c : tie.After-check-evidence-peers) →
     let b = start c in
-    Told (sets b) (point b) (evidenceRows (settings b) (sets b) (point b)) (verifiedOf (c .check-evidence-peers .result)) (now (b .args .peers)) (c .check-evidence-peers .last .1 .1 .1 .1 .0)
+    Told (sets b) (point b) (evidenceRows (settings b) (sets b) (point b)) (verifiedOf (c .check-evidence-peers .result)) (now (b .args .peers)) (c .check-evidence-peers .last .1 .1 .1 .1 .1 .0)
 unfolding scheduled
-evidence c = c .check-evidence-peers .ensures (sets (start c)) (sym (c .before .before .peers-for .ensures))
+evidence c = c .check-evidence-peers .ensures (sets (start c)) (sym (c .before .before .before .before .before .before .peers-for .ensures .0))
 
 -- includes, where evidence passed
 abbrev first : tie.After-check-includes-peers → tie.After-check-evidence-peers
-first c = c .before .before .before .before .before .before .before .before
+first c = c .before .before .before .before .before .before
 
 includes : (c : tie.After-check-includes-peers) →
     let b = start (first c) in
-    Told (sets b) (point b) (includesRows (sets b) (point b)) (verifiedOf (c .check-includes-peers .result)) (first c .check-evidence-peers .last .1 .1 .1 .1 .0) (c .check-includes-peers .last .1 .1 .1 .0)
+    Told (sets b) (point b) (includesRows (sets b) (point b)) (verifiedOf (c .check-includes-peers .result)) (first c .check-evidence-peers .last .1 .1 .1 .1 .1 .0) (c .check-includes-peers .last .1 .1 .1 .1 .0)
 unfolding scheduled
 includes c =
-    let b = start (first c) in
-    c .check-includes-peers .ensures (sets b) (sym (c .before .before .peers-for2 .ensures ∙ ap (peersFor (schedule b)) (c .before .before .before .includes-round .ensures)))
+    let e = first c in
+    let b = start e in
+    c .check-includes-peers .ensures (sets b) (sym (e .before .before .before .before .peers-for2 .ensures .0 ∙ ap (peersFor (schedule b)) (e .before .before .before .before .before .includes-round .ensures)))
 
 passed : (c : tie.After-check-includes-peers) → verifiedOf (first c .check-evidence-peers .result) ≡ none
-passed c = ap verifiedOf (c .before .before .before .before .enum-told .given .1)
+passed c = ap verifiedOf (c .before .before .enum-told .given .1)
 
 -- witness, where includes passed too
 abbrev second : tie.After-check-witness-peers → tie.After-check-includes-peers
-second c = c .before .before .before .before .before .before .before .before
+second c = c .before .before .before .before .before .before
 
 witness : (c : tie.After-check-witness-peers) →
     let b = start (first (second c)) in
-    Told (sets b) (point b) (witnessRows (settings b) (sets b) (point b)) (verifiedOf (c .check-witness-peers .result)) (second c .check-includes-peers .last .1 .1 .1 .0) (c .check-witness-peers .last .1 .1 .1 .1 .0)
+    Told (sets b) (point b) (witnessRows (settings b) (sets b) (point b)) (verifiedOf (c .check-witness-peers .result)) (second c .check-includes-peers .last .1 .1 .1 .1 .0) (c .check-witness-peers .last .1 .1 .1 .1 .1 .0)
 unfolding scheduled
 witness c =
-    let b = start (first (second c)) in
-    c .check-witness-peers .ensures (sets b) (sym (c .before .before .peers-for3 .ensures ∙ ap (peersFor (schedule b)) (c .before .before .before .rounds-back .ensures)))
+    let e = first (second c) in
+    let b = start e in
+    c .check-witness-peers .ensures (sets b) (sym (e .before .before .peers-for3 .ensures .0 ∙ ap (peersFor (schedule b)) (e .before .before .before .rounds-back .ensures)))
 
 passed2 : (c : tie.After-check-witness-peers) → verifiedOf (second c .check-includes-peers .result) ≡ none
-passed2 c = ap verifiedOf (c .before .before .before .before .enum-told3 .given .1)
+passed2 c = ap verifiedOf (c .before .before .enum-told3 .given .1)
 
 peers-for-requires : tie.Need-peers-for-requires
 peers-for-requires c κs = search needs
 
 check-evidence-peers-requires : tie.Need-check-evidence-peers-requires
 check-evidence-peers-requires c κs =
-    let b = c .before .before .before .before .before .before in
-    let f = few b _ _ (c .before .peers-for .ensures) in
-    (b .pre .1 .0, (f .rises, (f .few, b .pre .1 .1)))
+    let b = c .before .before .before .before .before .before .before .before .before .before .before .before .before in
+    let f = few b _ _ (c .before .before .before .before .before .peers-for .ensures .0) in
+    (b .pre .1 .0, (b .pre .1 .1 .0 .2, (f .rises, (f .few, b .pre .1 .1 .1))))
 
 enum-told : tie.Need-enum-told
 enum-told c = search needs
@@ -108,10 +110,10 @@ peers-for-requires-2 c κs = search needs
 
 check-includes-peers-requires : tie.Need-check-includes-peers-requires
 check-includes-peers-requires c κs =
-    let e = c .before .before .before .before .before .before .before in
+    let e = c .before .before .before .before .before in
     let b = start e in
-    let f = few b _ _ (c .before .peers-for2 .ensures) in
-    (b .pre .1 .0, (f .rises, (f .few, omega (arith, b .pre .1 .1, e .check-evidence-peers .kept .1 .1 .1 .1 .0))))
+    let f = few b _ _ (e .before .before .before .before .peers-for2 .ensures .0) in
+    (b .pre .1 .0, (b .pre .1 .1 .0 .0, (f .rises, (f .few, omega (arith, b .pre .1 .1 .1, e .check-evidence-peers .kept .1 .1 .1 .1 .1 .0)))))
 
 enum-told-3 : tie.Need-enum-told-3
 enum-told-3 c = search needs
@@ -138,10 +140,10 @@ peers-for-requires-3 c κs = search needs
 
 check-witness-peers-requires : tie.Need-check-witness-peers-requires
 check-witness-peers-requires c κs =
-    let i = c .before .before .before .before .before .before .before in
+    let i = c .before .before .before .before .before in
     let b = start (first i) in
-    let f = few b _ _ (c .before .peers-for3 .ensures) in
-    (b .pre .1 .0, (f .rises, omega (arith, b .pre .1 .1, first i .check-evidence-peers .kept .1 .1 .1 .1 .0, i .check-includes-peers .kept .1 .1 .1 .0)))
+    let f = few b _ _ (first i .before .before .peers-for3 .ensures .0) in
+    (b .pre .1 .0, (b .pre .1 .1 .0 .1, (f .rises, omega (arith, b .pre .1 .1 .1, first i .check-evidence-peers .kept .1 .1 .1 .1 .1 .0, i .check-includes-peers .kept .1 .1 .1 .1 .0))))
 
 same-length-3 : tie.Need-same-length-3
 same-length-3 c = search needs
@@ -160,20 +162,20 @@ check-peers-spec =
     tie.close
     (tie.spec
     peers-for-requires
+    includes-round-requires
+    peers-for-requires-2
+    rounds-back-requires
+    peers-for-requires-3
     check-evidence-peers-requires
     enum-told
     enum-told-2
     same-length
     returns
-    includes-round-requires
-    peers-for-requires-2
     check-includes-peers-requires
     enum-told-3
     enum-told-4
     same-length-2
     returns-2
-    rounds-back-requires
-    peers-for-requires-3
     check-witness-peers-requires
     same-length-3
     returns-3)

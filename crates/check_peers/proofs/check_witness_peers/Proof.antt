@@ -18,20 +18,20 @@ use borrow.Author.Needs.{needs}
 use Rattle.check_peers.proofs.check_witness_peers.Statement.{statement}
 use Rattle.check_peers.proofs.check_witness_peers.Tie as tie
 
--- the point, and where its witness was taken, counted and compared
+-- the point, and where its witness was counted and compared
 abbrev point : tie.Start → PointInfo
 point c = pointOf (now (c .args .rec)) (c .args .info)
 
-abbrev start : tie.After-witness → tie.Start
+abbrev start : tie.After-id → tie.Start
 start c = c .before .before .before .before .before
 
-abbrev taken : tie.After-unknown-peers → tie.After-witness
+abbrev taken : tie.After-unknown-peers → tie.After-id
 taken c = c .before .before .before .before .before .before .before
 
-rows : (c : tie.After-witness) → peers (point (start c) .witness) ≡ peersOf 64 (now (c .witness .result))
-rows c = peers-pairsOf _ ∙ sym (ap (peersOf 64) (c .witness .ensures))
+rows : (c : tie.After-id) → peers (point (start c) .witness) ≡ peersOf 64 (now (start c .args .witness))
+rows c = ap peers (sym (start c .pre .1 .0)) ∙ peers-pairsOf _
 
-many : (c : tie.After-witness) → length (peersOf 64 (now (c .witness .result))) ≡ length (point (start c) .witness)
+many : (c : tie.After-id) → length (peersOf 64 (now (start c .args .witness))) ≡ length (point (start c) .witness)
 many c = sym (ap length (rows c)) ∙ peers-length _
 
 read : (c : tie.Start) → Readable (now (c .args .rec)) (point c)
@@ -46,9 +46,6 @@ above c = omega (arith, c .before .before .rounds-back .ensures, c .if2 .left)
 told : (c : tie.After-unknown-peers) (k : Scheduled) → k .witness ≡ peersOf 32 (now (start (taken c) .args .known)) →
     Compared (unknownIn (k .witness) (peers (point (start (taken c)) .witness))) (now (start (taken c) .args .peers)) (c .unknown-peers .last .1 .1 .1 .0) (c .unknown-peers .result)
 told c k e = compared _ _ _ _ _ _ _ e (rows (taken c)) (c .unknown-peers .ensures .0) (c .unknown-peers .ensures .1)
-
-witness-requires : tie.Need-witness-requires
-witness-requires c κs = search needs
 
 count-requires : tie.Need-count-requires
 count-requires c κs = search needs
@@ -71,13 +68,13 @@ unknown-peers-requires : tie.Need-unknown-peers-requires
 unknown-peers-requires c κs =
     let t = c .before .before .before .before .before .before in
     let r = read (start t) in
-    (omega arith, (rw (← rows t) (r .witness .rise), (start t .pre .1 .0, omega (arith, many t, r .witness .few, start t .pre .1 .1))))
+    (omega arith, (rw (← rows t) (r .witness .rise), (start t .pre .1 .1 .0, omega (arith, many t, r .witness .few, start t .pre .1 .1 .1))))
 
 cast-t18 : tie.Need-cast-t18
 cast-t18 c =
     let u = c .before .before .before in
     let t = taken u in
-    record { fits = omega (arith, u .unknown-peers .ensures .0, unknown-few (peersOf 32 (now (start t .args .known))) (peersOf 64 (now (t .witness .result))), many t, read (start t) .witness .few) }
+    record { fits = omega (arith, u .unknown-peers .ensures .0, unknown-few (peersOf 32 (now (start t .args .known))) (peersOf 64 (now (start t .args .witness))), many t, read (start t) .witness .few) }
 
 same-length : tie.Need-same-length
 same-length c = search needs
@@ -101,7 +98,6 @@ pub check-witness-peers-spec : {M : Type 1} → statement M
 check-witness-peers-spec =
     tie.close
     (tie.spec
-    witness-requires
     count-requires
     returns
     rounds-back-requires

@@ -9,7 +9,7 @@ use lib.Dec.{eqb}
 use denote.Ref.{now}
 use Rattle.base.specs.Base.{concat, firstOf, isSome}
 use Rattle.base.proofs.Laws.{row-here, row-behind}
-use Rattle.map.specs.Rows.{peersOf, has, peers}
+use Rattle.map.specs.Rows.{has, peers, rising}
 use Rattle.map.proofs.Laws.{peers-pairsOf}
 use Rattle.point.specs.Point.{PointInfo, prevDigest, requiresPrevPoint}
 use Rattle.point.specs.Reading.{pointOf}
@@ -21,7 +21,7 @@ use Rattle.check_well_formed.proofs.check_own_points.Statement.{stateme
 use Rattle.check_well_formed.proofs.check_own_points.Tie as tie
 
 abbrev start : tie.After-is-found → tie.Start
-start c = c .before .before .before .before
+start c = c .before .before .before .before .before .before .before
 
 abbrev point : tie.Start → PointInfo
 point c = pointOf (now (c .args .rec)) (c .args .info)
@@ -38,27 +38,30 @@ lacks c =
     sym (c .lacks-prev-point .ensures ∙ ap (λ (b : Bool). requiresPrevPoint (p .role) && not b) (prev (c .before)))
 
 unequal : (c : tie.After-equal) →
-    let p = point (start (c .before .before .before .before .before)) in
+    let p = point (start (c .before .before .before .before)) in
     equal (isEmpty (p .evidence)) (isSome (prevDigest p)) ≡ c .equal .result
 unequal c =
-    let e = c .before .before in
-    let f = e .before .before .before in
-    let p = point (start f) in
-    let empty : eqb (c .before .count .result) 0 ≡ isEmpty (p .evidence) = rw (c .before .count .ensures, e .evidence .ensures) (sym (empty-length (p .evidence))) in
+    let f = c .before .before .before .before in
+    let b = start f in
+    let p = point b in
+    let empty : eqb (c .before .count .result) 0 ≡ isEmpty (p .evidence) = rw (c .before .count .ensures, b .pre .1 .2) (sym (empty-length (p .evidence))) in
     sym (c .equal .ensures ∙ (ap (λ (b : Bool). equal b (f .is-found .result)) empty ∙ ap (equal (isEmpty (p .evidence))) (prev f)))
 
 among-evidence : (c : tie.After-contains) →
-    let p = point (start (c .before .before .before .before .before .before .before)) in
+    let p = point (start (c .before .before .before .before .before .before)) in
     has (p .evidence) (p .id .author) ≡ c .contains .result
 among-evidence c =
-    let e = c .before .before .before .before in
-    let p = point (start (e .before .before .before)) in
-    sym (c .contains .ensures ∙ ap (λ (s : List ℕ). has (peersOf 32 s) (p .id .author)) (e .evidence .ensures))
+    let b = start (c .before .before .before .before .before .before) in
+    let p = point b in
+    sym (c .contains .ensures ∙ ap (λ (l : List ℕ). has l (p .id .author)) (b .pre .1 .2))
 
 among-witness : (c : tie.After-contains2) →
-    let p = point (start (c .before .before .before .before .before .before .before .before .before .before)) in
+    let p = point (start (c .before .before .before .before .before .before .before .before)) in
     has (peers (p .witness)) (p .id .author) ≡ c .contains2 .result
-among-witness c = sym (c .contains2 .ensures ∙ rw (c .before .witness .ensures, ← peers-pairsOf _))
+among-witness c =
+    let b = start (c .before .before .before .before .before .before .before .before) in
+    let p = point b in
+    sym (c .contains2 .ensures ∙ ap (λ (l : List ℕ). has l (p .id .author)) (sym (peers-pairsOf (now (b .args .witness))) ∙ ap peers (b .pre .1 .1)))
 
 -- what is left of the table
 has-prev : (c : tie.Else1) →
@@ -68,13 +71,13 @@ unfolding ownPointRows
 has-prev c = row-behind _ _ _ (lacks (c .before) ∙ c .if1 .left)
 
 proven : (c : tie.Else2) →
-    let p = point (start (c .before .before .before .before .before .before)) in
+    let p = point (start (c .before .before .before .before .before)) in
     firstOf (concat (ownPointRows p)) ≡ firstOf (concat (drop 2 (ownPointRows p)))
 unfolding ownPointRows
-proven c = has-prev (c .before .before .before .before) ∙ row-behind _ _ _ (unequal (c .before) ∙ c .if2 .left)
+proven c = has-prev (c .before .before .before) ∙ row-behind _ _ _ (unequal (c .before) ∙ c .if2 .left)
 
 not-evidence : (c : tie.Else3) →
-    let p = point (start (c .before .before .before .before .before .before .before .before)) in
+    let p = point (start (c .before .before .before .before .before .before .before)) in
     firstOf (concat (ownPointRows p)) ≡ firstOf (concat (drop 3 (ownPointRows p)))
 unfolding ownPointRows
 not-evidence c = proven (c .before .before) ∙ row-behind _ _ _ (among-evidence (c .before) ∙ c .if3 .left)
@@ -92,9 +95,6 @@ returns : tie.Need-returns
 unfolding ownPointRows
 returns c = sym (row-here _ _ _ (lacks (c .before) ∙ c .if1 .taken))
 
-evidence-requires : tie.Need-evidence-requires
-evidence-requires c κs = search needs
-
 count-requires : tie.Need-count-requires
 count-requires c κs = search needs
 
@@ -103,32 +103,29 @@ equal-requires c κs = search needs
 
 returns-2 : tie.Need-returns-2
 unfolding ownPointRows
-returns-2 c = sym (has-prev (c .before .before .before .before) ∙ row-here _ _ _ (unequal (c .before) ∙ c .if2 .taken))
+returns-2 c = sym (has-prev (c .before .before .before) ∙ row-here _ _ _ (unequal (c .before) ∙ c .if2 .taken))
 
 contains-requires : tie.Need-contains-requires
 contains-requires c κs =
-    let e = c .before .before .before in
-    (omega arith, rw (e .evidence .ensures) (readable _ _ (start (e .before .before .before) .pre) .evidence .rise))
+    let b = start (c .before .before .before .before .before) in
+    (omega arith, ap rising (b .pre .1 .2) ∙ readable _ _ (b .pre .0) .evidence .rise)
 
 returns-3 : tie.Need-returns-3
 unfolding ownPointRows
 returns-3 c = sym (proven (c .before .before) ∙ row-here _ _ _ (among-evidence (c .before) ∙ c .if3 .taken))
 
-witness-requires : tie.Need-witness-requires
-witness-requires c κs = search needs
-
 contains-requires-2 : tie.Need-contains-requires-2
 contains-requires-2 c κs =
-    let f = c .before .before .before .before .before .before .before .before .before in
-    (omega arith, rw (c .witness .ensures, ← peers-pairsOf _) (readable _ _ (start f .pre) .witness .rise))
+    let b = start (c .before .before .before .before .before .before .before) in
+    (omega arith, ap rising (sym (peers-pairsOf (now (b .args .witness))) ∙ ap peers (b .pre .1 .1)) ∙ readable _ _ (b .pre .0) .witness .rise)
 
 returns-4 : tie.Need-returns-4
 unfolding ownPointRows
-returns-4 c = sym (not-evidence (c .before .before .before) ∙ row-here _ _ _ (among-witness (c .before) ∙ c .if4 .taken))
+returns-4 c = sym (not-evidence (c .before .before) ∙ row-here _ _ _ (among-witness (c .before) ∙ c .if4 .taken))
 
 returns-5 : tie.Need-returns-5
 unfolding ownPointRows
-returns-5 c = sym (not-evidence (c .before .before .before) ∙ last-test _ _ (among-witness (c .before) ∙ c .if4 .left))
+returns-5 c = sym (not-evidence (c .before .before) ∙ last-test _ _ (among-witness (c .before) ∙ c .if4 .left))
 
 pub check-own-points-spec : {M : Type 1} → statement M
 check-own-points-spec =
@@ -138,13 +135,11 @@ check-own-points-spec =
     is-found-requires
     lacks-prev-point-requires
     returns
-    evidence-requires
     count-requires
     equal-requires
     returns-2
     contains-requires
     returns-3
-    witness-requires
     contains-requires-2
     returns-4
     returns-5)

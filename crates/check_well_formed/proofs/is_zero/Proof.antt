@@ -1,5 +1,5 @@
 -- `is_zero` meets its contract: zeros stand for the number 0.
-use Rattle.parts.specs.Parts.{number}
+use Rattle.parts.proofs.Laws.{number-zero}
 use borrow.Author.Needs.{needs}
 use Rattle.check_well_formed.proofs.is_zero.Statement.{statement}
 use Rattle.check_well_formed.proofs.is_zero.Tie as tie
@@ -14,8 +14,7 @@ enum-told : tie.Need-enum-told
 enum-told c = search needs
 
 returns : tie.Need-returns
-unfolding number
-returns c = rw (c .before .before .digest .given .1) (c .same .ensures)
+returns c = rw (c .before .before .digest .given .1) (rw number-zero at (c .same .ensures))
 
 returns-2 : tie.Need-returns-2
 returns-2 c = search needs

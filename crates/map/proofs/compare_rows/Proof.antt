@@ -29,7 +29,7 @@ unfolding peerAt
 returns c =
     let b = c .before .before .before in
     let a = b .args in
-    cc (c .compare-at .ensures, peersOf-at (a .width) (now (a .rows)) (a .i) (b .pre .0 .1), peersOf-at (a .other-width) (now (a .others)) (a .j) (b .pre .1 .1))
+    rw (peersOf-at (a .width) (now (a .rows)) (a .i) (b .pre .0 .1), peersOf-at (a .other-width) (now (a .others)) (a .j) (b .pre .1 .1)) (c .compare-at .ensures)
 
 pub compare-rows-spec : {M : Type 1} → statement M
 compare-rows-spec =

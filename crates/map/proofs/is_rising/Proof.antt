@@ -29,7 +29,7 @@ told : (c : tie.After-compare-rows Inv-loop μ-loop) →
     let j = c .before .before .loop .j in
     let l = peersOf (a .width) (now (a .rows)) in
     order (getD l j 0) (getD l (j + 1) 0) ≡ c .compare-rows .result
-told c = cc
+told c = sym (c .compare-rows .ensures)
 
 -- one turn: the list from `j` on rises if the two neighbours do and the list from `j + 1` on does
 turn : (c : tie.After-compare-rows Inv-loop μ-loop) →

@@ -19,11 +19,11 @@ abbrev μ-loop : tie.MeasureT-loop
 μ-loop rows width peer lo₀ hi₀ lo hi = hi - lo
 
 -- the comparison is that of the peer in the middle with the one looked for
-told : (c : tie.After-compare Inv-loop μ-loop) →
-    let at-loop = c .before .before .before in
+told : (c : tie.After-compare-row Inv-loop μ-loop) →
+    let at-loop = c .before .before in
     let a = at-loop .before .before .before .args in
-    order (getD (peersOf (a .width) (now (a .rows))) (at-loop .loop .lo + (at-loop .loop .hi - at-loop .loop .lo) / 2) 0) (number (a .peer)) ≡ c .compare .result
-told c = cc
+    order (getD (peersOf (a .width) (now (a .rows))) (at-loop .loop .lo + (at-loop .loop .hi - at-loop .loop .lo) / 2) 0) (number (a .peer)) ≡ c .compare-row .result
+told c = sym (c .compare-row .ensures)
 
 count-requires : tie.Need-count-requires Inv-loop μ-loop
 count-requires c κs = search needs
@@ -37,18 +37,15 @@ sub-mid c = search needs
 add-mid : tie.Need-add-mid Inv-loop μ-loop
 add-mid c = let a = c .before .before .before .before .args in omega (arith, peersOf-fits (a .width) (now (a .rows)))
 
-peer-at-requires : tie.Need-peer-at-requires Inv-loop μ-loop
-peer-at-requires c κs = search needs
-
-compare-requires : tie.Need-compare-requires Inv-loop μ-loop
-compare-requires c κs = search needs
+compare-row-requires : tie.Need-compare-row-requires Inv-loop μ-loop
+compare-row-requires c κs = search needs
 
 enum-told : tie.Need-enum-told Inv-loop μ-loop
 enum-told c = search needs
 
 returns : tie.Need-returns Inv-loop μ-loop
 returns c =
-    let at-loop = c .before .before .before .before .before in
+    let at-loop = c .before .before .before .before in
     let start = at-loop .before .before .before in
     let a = start .args in
     sym (find-rising (peersOf (a .width) (now (a .rows))) (number (a .peer)) _ (start .pre .1) (omega arith) (order-same _ _ (told (c .before .before) ∙ c .enum-told .given .1)))
@@ -64,7 +61,7 @@ loop-less c = search needs
 
 loop-again : tie.Need-loop-again Inv-loop μ-loop
 loop-again c =
-    let at-loop = c .before .before .before .before .before in
+    let at-loop = c .before .before .before .before in
     let start = at-loop .before .before .before in
     let a = start .args in
     bracket-up (peersOf (a .width) (now (a .rows))) (number (a .peer)) (at-loop .loop .lo) (at-loop .loop .hi) _ (start .pre .1) (at-loop .loop .inv) (omega arith) (omega arith) (order-less _ _ (told (c .before .before) ∙ c .enum-told2 .given .1))
@@ -77,7 +74,7 @@ loop-less-2 c = search needs
 
 loop-again-2 : tie.Need-loop-again-2 Inv-loop μ-loop
 loop-again-2 c =
-    let at-loop = c .before .before .before .before .before in
+    let at-loop = c .before .before .before .before in
     let start = at-loop .before .before .before in
     let a = start .args in
     bracket-down (peersOf (a .width) (now (a .rows))) (number (a .peer)) (at-loop .loop .lo) (at-loop .loop .hi) _ (start .pre .1) (at-loop .loop .inv) (omega arith) (omega arith) (order-more _ _ (told (c .before .before) ∙ c .enum-told3 .given .1))
@@ -95,8 +92,7 @@ search-spec =
     loop-holds
     sub-mid
     add-mid
-    peer-at-requires
-    compare-requires
+    compare-row-requires
     enum-told
     returns
     enum-told-2

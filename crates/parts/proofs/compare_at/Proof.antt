@@ -6,6 +6,7 @@ use denote.Ref.{now}
 use borrow.Author.Needs.{needs}
 use Rattle.parts.specs.Bytes.{idAt}
 use Rattle.parts.specs.Parts.{order, orderThen, orderOfRest}
+use Rattle.parts.specs.declared.Order.{Order}
 use Rattle.parts.proofs.Laws.{Bytes, places-order, then-less, then-more, then-same}
 use Rattle.parts.proofs.compare_at.Statement.{statement}
 use Rattle.parts.proofs.compare_at.Tie as tie
@@ -19,6 +20,9 @@ bytes-s c k = omega (arith, c .before .before .before .shared-slice-known .given
 bytes-t : (c : tie.After-big64-at2) → Bytes (now (start c .args .t))
 bytes-t c k = omega (arith, c .before .before .shared-slice-known2 .given k)
 
+by-words : {a b x y : ℕ} (o rest : Order) → a ≡ x → b ≡ y → o ≡ orderThen x y rest → o ≡ orderThen a b rest
+by-words o rest e f h = rw (e, f) h
+
 -- the order of the ids by the words that were read
 told : (c : tie.After-big64-at2) →
     let a = start c .args in
@@ -26,7 +30,8 @@ told : (c : tie.After-big64-at2) →
     ≡ orderThen (c .before .big64-at .result) (c .big64-at2 .result) (orderOfRest (now (a .s)) (a .at) (now (a .t)) (a .from))
 told c =
     let a = start c .args in
-    cc (places-order (now (a .s)) (now (a .t)) (a .at) (a .from) (bytes-s c) (bytes-t c) (start c .pre .0) (start c .pre .1))
+    by-words _ _ (c .before .big64-at .ensures) (c .big64-at2 .ensures)
+    (places-order (now (a .s)) (now (a .t)) (a .at) (a .from) (bytes-s c) (bytes-t c) (start c .pre .0) (start c .pre .1))
 
 big64-at-requires : tie.Need-big64-at-requires
 big64-at-requires c κs = search needs

@@ -51,7 +51,23 @@ by-number-requires-3 c κs = search needs
 
 returns : tie.Need-returns
 unfolding orderOfRest
-returns c = cc
+returns c =
+    let two = c .before in
+    let one = two .before in
+    let last = one .before in
+    let third = last .before .before in
+    let first = third .before .before in
+    rw (
+      c .by-number3 .ensures,
+      two .by-number2 .ensures,
+      one .by-number .ensures,
+      first .before .big64-at .ensures,
+      first .big64-at2 .ensures,
+      third .before .big64-at3 .ensures,
+      third .big64-at4 .ensures,
+      last .before .big64-at5 .ensures,
+      last .big64-at6 .ensures,
+    )
 
 pub compare-rest-spec : {M : Type 1} → statement M
 compare-rest-spec =

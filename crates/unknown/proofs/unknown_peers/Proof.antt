@@ -7,7 +7,7 @@ use denote.Ref.{now}
 use Rattle.map.specs.Rows.{peersOf}
 use Rattle.map.proofs.Laws.{peersOf-fits}
 use Rattle.unknown.specs.Unknown.{orderAt}
-use Rattle.unknown.proofs.Laws.{orderAt-less, Walked, walked-start, walked-less, walked-same, walked-more, walked-done}
+use Rattle.unknown.proofs.Laws.{orderAt-less, orderAt-same, Walked, walked-start, walked-less, walked-same, walked-more, walked-done}
 use borrow.Author.Needs.{needs}
 use Rattle.unknown.proofs.unknown_peers.Statement.{statement}
 use Rattle.unknown.proofs.unknown_peers.Tie as tie
@@ -65,6 +65,12 @@ add-i c =
     let l = c .before .before .before .before in
     let a = start l .args in
     omega (arith, peersOf-fits (a .width) (now (a .rows)))
+
+add-j-2 : tie.Need-add-j-2 Inv-loop μ-loop
+add-j-2 c =
+    let l = c .before .before .before .before in
+    let a = start l .args in
+    omega (arith, peersOf-fits 32 (now (a .scheduled)), orderAt-same _ _ _ (told (c .before .before) ∙ c .enum-told2 .given .1) .0)
 
 loop-less-2 : tie.Need-loop-less-2 Inv-loop μ-loop
 loop-less-2 c = search needs
@@ -131,6 +137,7 @@ unknown-peers-spec =
     loop-again
     enum-told-2
     add-i
+    add-j-2
     loop-less-2
     loop-again-2
     enum-told-3

@@ -34,7 +34,7 @@ abbrev schedule : tie.After-spans → Schedule
 schedule c = scheduleOf (now (start (first c) .args .schedule)) (c .before .before .before .read-schedule .result .schedule)
 
 has-schedule : (c : tie.After-spans) → readSchedule (now (start (first c) .args .schedule)) ≡ some (schedule c)
-has-schedule c = schedule-read _ (c .before .before .before .read-schedule .result) (c .before .before .before .read-schedule .ensures) (c .before .if1 .left)
+has-schedule c = schedule-read _ (c .before .before .before .read-schedule .result) (c .before .before .before .read-schedule .ensures .0) (c .before .if1 .left)
 
 -- the point
 abbrev second : tie.After-known-told2 → tie.After-spans
@@ -75,7 +75,7 @@ returns-2 : tie.Need-returns-2
 returns-2 c =
     let r = c .before .before in
     let k = r .before in
-    answer-number (all (start k)) 2 _ (no-schedule _ _ _ _ _ _ (has-settings k) (schedule-unread _ (r .read-schedule .result) (r .read-schedule .ensures) (c .if1 .taken)))
+    answer-number (all (start k)) 2 _ (no-schedule _ _ _ _ _ _ (has-settings k) (schedule-unread _ (r .read-schedule .result) (r .read-schedule .ensures .0) (c .if1 .taken)))
 
 read-point-requires : tie.Need-read-point-requires
 read-point-requires c κs = search needs

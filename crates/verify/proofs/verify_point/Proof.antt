@@ -2,6 +2,7 @@
 use mathlib.Core.Path.{_≡_, ap}
 use mathlib.Core.Option.{none}
 use denote.Ref.{now}
+use Rattle.map.specs.Rows.{peersOf, pairsOf}
 use Rattle.point.specs.Point.{PointInfo}
 use Rattle.point.specs.Reading.{pointOf}
 use Rattle.schedule.specs.Settings.{Settings, settingsOf}
@@ -38,10 +39,10 @@ new c =
     told-new (settings b) (schedule b) (point b) (sets b) _ _ (c .check-new .ensures)
 
 abbrev first : tie.After-check-well-formed → tie.After-check-new
-first c = c .before .before .before
+first c = c .before .before .before .before .before .before .before
 
 passed : (c : tie.After-check-well-formed) → verifiedOf (first c .check-new .result) ≡ none
-passed c = ap verifiedOf (c .before .enum-told .given .1)
+passed c = ap verifiedOf (c .before .before .before .before .before .enum-told .given .1)
 
 formed : (c : tie.After-check-well-formed) →
     let b = start (first c) in
@@ -67,8 +68,31 @@ returns c =
     told-first (sets b) (point b) (newRows (settings b) (schedule b) (point b)) (wellFormedRows (settings b) (point b)) (peerRows (settings b) (sets b) (point b))
     _ (c .enum-told2 .given .0 .0) _ _ (ap verifiedOf (c .enum-told2 .given .1)) (new n)
 
+find-places-requires : tie.Need-find-places-requires
+find-places-requires c κs = search needs
+
+content-from-requires : tie.Need-content-from-requires
+content-from-requires c κs = c .find-places .ensures .0 .1
+
+content-from-requires-2 : tie.Need-content-from-requires-2
+content-from-requires-2 c κs = c .before .find-places .ensures .1 .0 .0
+
+content-from-requires-3 : tie.Need-content-from-requires-3
+content-from-requires-3 c κs = c .before .before .find-places .ensures .1 .0 .1
+
+-- the maps that were looked up are the point's
+abbrev handed : tie.After-content-from3 → tie.Start
+handed c = c .before .before .before .before .before .before .before .before .before .before
+
+maps : (c : tie.After-content-from3) →
+    let p = point (handed c) in
+    (pairsOf (now (c .before .before .content-from .result)) ≡ p .includes)
+    × (pairsOf (now (c .before .content-from2 .result)) ≡ p .witness)
+    × (peersOf 32 (now (c .content-from3 .result)) ≡ p .evidence)
+maps c = (ap pairsOf (c .before .before .content-from .ensures), ap pairsOf (c .before .content-from2 .ensures), ap (peersOf 32) (c .content-from3 .ensures))
+
 check-well-formed-requires : tie.Need-check-well-formed-requires
-check-well-formed-requires c κs = search needs
+check-well-formed-requires c κs = (handed c .pre .1 .0, maps c)
 
 enum-told-3 : tie.Need-enum-told-3
 enum-told-3 c = search needs
@@ -85,7 +109,10 @@ returns-2 c =
     _ _ _ (passed w) (new (first w)) _ (c .enum-told4 .given .0 .0) _ (ap verifiedOf (c .enum-told4 .given .1)) (formed w)
 
 check-peers-requires : tie.Need-check-peers-requires
-check-peers-requires c κs = search needs
+check-peers-requires c κs =
+    let m = c .before .before .before .before in
+    let b = handed m in
+    (b .pre .0, (b .pre .1 .0, (maps m, b .pre .1 .1)))
 
 same-length : tie.Need-same-length
 same-length c = search needs
@@ -107,6 +134,10 @@ verify-point-spec =
     enum-told
     enum-told-2
     returns
+    find-places-requires
+    content-from-requires
+    content-from-requires-2
+    content-from-requires-3
     check-well-formed-requires
     enum-told-3
     enum-told-4

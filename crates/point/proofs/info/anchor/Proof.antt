@@ -1,10 +1,11 @@
 -- `anchor` meets its contract.
-use mathlib.Core.Path.{_≡_, _∙_}
+use mathlib.Core.Path.{_≡_, sym, _∙_}
+use mathlib.Core.Bool.{true, false}
 use borrow.Author.Needs.{needs}
 use denote.Ref.{now}
-use Rattle.point.specs.Point.{top, target, anchor}
+use Rattle.point.specs.Point.{target}
 use Rattle.point.specs.Reading.{pointIdOf, pointOf}
-use Rattle.point.proofs.Laws.{link-in}
+use Rattle.point.proofs.Laws.{link-in, view-is}
 use Rattle.point.proofs.info.anchor.Statement.{statement}
 use Rattle.point.proofs.info.anchor.Tie as tie
 
@@ -30,16 +31,14 @@ is-anchor-stage-requires : tie.Need-is-anchor-stage-requires
 is-anchor-stage-requires c κs = search needs
 
 returns : tie.Need-returns
-unfolding anchor top
 returns c =
     let a = c .before .before in
-    rw (← a .is-anchor-stage .ensures, c .before .if1 .taken, ← leads (a .before)) (cc)
+    view-is _ _ true _ _ (sym (c .before .if1 .taken) ∙ a .is-anchor-stage .ensures) (leads (a .before)) (a .before .before .before .source .ensures)
 
 returns-2 : tie.Need-returns-2
-unfolding anchor top
 returns-2 c =
     let a = c .before in
-    rw (← a .is-anchor-stage .ensures, c .if1 .left, ← leads (a .before)) (cc)
+    view-is _ _ false _ _ (sym (c .if1 .left) ∙ a .is-anchor-stage .ensures) (leads (a .before)) (a .before .before .before .source .ensures)
 
 pub anchor-spec : {M : Type 1} → statement M
 anchor-spec =

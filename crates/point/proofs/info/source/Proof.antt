@@ -2,9 +2,9 @@
 use mathlib.Core.Path.{_≡_, ap, _∙_}
 use borrow.Author.Needs.{needs}
 use denote.Ref.{now}
-use Rattle.point.specs.Point.{through, anchorLink, source}
+use Rattle.point.specs.Point.{through, anchorLink, orZero}
 use Rattle.point.specs.Reading.{throughOf, pointOf}
-use Rattle.point.proofs.Laws.{link-in}
+use Rattle.point.proofs.Laws.{link-in, source-is}
 use Rattle.point.proofs.info.source.Statement.{statement}
 use Rattle.point.proofs.info.source.Tie as tie
 
@@ -35,10 +35,11 @@ peer-requires : tie.Need-peer-requires
 peer-requires c κs = search needs
 
 returns : tie.Need-returns
-unfolding source
 returns c =
-    let t = c .before .before .before .before in
-    rw (← link t) (cc)
+    let d = c .before in
+    let s = d .before in
+    let t = s .before .before in
+    source-is _ _ _ _ _ _ (link t) (s .before .round .ensures) (d .digest-or-zero .ensures ∙ ap orZero (s .digest-safe .ensures)) (c .peer .ensures)
 
 pub source-spec : {M : Type 1} → statement M
 source-spec =

@@ -21,7 +21,7 @@ id-at-requires-2 c κs = search needs
 
 returns : tie.Need-returns
 unfolding pointIdAt
-returns c = cc
+returns c = rw (c .before .before .u32-at .ensures, c .before .id-at .ensures, c .id-at2 .ensures)
 
 pub point-id-at-spec : {M : Type 1} → statement M
 point-id-at-spec =

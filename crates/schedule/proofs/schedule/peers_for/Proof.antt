@@ -7,7 +7,7 @@ use lib.ListN.{length, take, length-take, length-map}
 use denote.Ref.{now}
 use borrow.Author.Needs.{needs}
 use Rattle.map.specs.Rows.{peersOf}
-use Rattle.schedule.specs.Schedule.{spanFor, peersFor, scheduleOf, indexOf}
+use Rattle.schedule.specs.Schedule.{spanFor, peersFor, scheduleOf, peerBytes, indexOf}
 use Rattle.schedule.proofs.Laws.{spansOf-length, spansOf-peers, span-below, no-span-no-peers}
 use Rattle.schedule.proofs.schedule.peers_for.Statement.{statement}
 use Rattle.schedule.proofs.schedule.peers_for.Tie as tie
@@ -70,20 +70,21 @@ part-result-end : tie.Need-part-result-end
 part-result-end c = search needs
 
 returns : tie.Need-returns
-unfolding peersFor
+unfolding peersFor peerBytes
 returns c =
     let i = c .before .before .before .before .before in
     let a = i .before .before .before .before .args in
-    rw (found i) (ap (peersOf 32) (c .part .ensures) ∙ sym (spansOf-peers (now (a .s)) (a .c .spans) (a .c .count) (i .index .given .0 .0) (within i)))
+    rw (found i) (ap (peersOf 32) (c .part .ensures) ∙ sym (spansOf-peers (now (a .s)) (a .c .spans) (a .c .count) (i .index .given .0 .0) (within i)), c .part .ensures)
 
 returns-2 : tie.Need-returns-2
-unfolding peersOf
+unfolding peersOf peerBytes
 returns-2 c =
     let e = c .before in
     let f = e .before .before in
     let a = f .before .before .args in
     let s = now (a .s) in
-    sym (no-span-no-peers (scheduleOf s (a .c)) (a .round) (sym (f .span-for .ensures s) ∙ ap indexOf (e .enum-told .given .1)))
+    let outside = sym (f .span-for .ensures s) ∙ ap indexOf (e .enum-told .given .1) in
+    (sym (no-span-no-peers (scheduleOf s (a .c)) (a .round) outside), rw outside)
 
 pub peers-for-spec : {M : Type 1} → statement M
 peers-for-spec =

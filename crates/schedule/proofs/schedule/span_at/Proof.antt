@@ -1,10 +1,10 @@
--- `schedule::schedule::span_at` meets its contract: the peers' bytes are the content behind the first round.
+-- `schedule::schedule::span_at` meets its contract: the field is long enough for the first round.
 use Prim.Native.Nat.{_≤_}
 use native.Mathlib.Omega.{arith}
 use lib.ListN.{length}
 use denote.Ref.{now}
 use borrow.Author.Needs.{needs}
-use Rattle.schedule.proofs.Laws.{span-field, span-bytes}
+use Rattle.schedule.proofs.Laws.{span-field}
 use Rattle.schedule.proofs.schedule.span_at.Statement.{statement}
 use Rattle.schedule.proofs.schedule.span_at.Tie as tie
 
@@ -31,10 +31,7 @@ cast-t9 : tie.Need-cast-t9
 cast-t9 c = omega (arith, sized (c .before))
 
 returns : tie.Need-returns
-returns c =
-    let a = c .before .before .before in
-    let s = now (a .args .s) in
-    rw (c .u32-at .ensures, c .before .content-at .ensures, span-bytes s (a .args .at) (a .pre .1))
+returns c = rw (c .u32-at .ensures, c .before .content-at .ensures)
 
 pub span-at-spec : {M : Type 1} → statement M
 span-at-spec =
