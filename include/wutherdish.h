@@ -2,7 +2,7 @@
  * Wutherdish: verdicts on Tycho points, as calls for other languages.
  *
  * The library is target/staticlib/libwutherdish.a, made by `rt staticlib wutherdish` from the repository's root.
- * What the bytes of settings, schedules and records mean is laid down in document 01.
+ * What the bytes of settings, schedules, records and lists mean is laid down in document 01.
  */
 #ifndef WUTHERDISH_H
 #define WUTHERDISH_H
@@ -13,7 +13,26 @@
 /* A peer buffer of this many bytes or more is enough: 255 peers of 32 bytes. */
 #define WUTHERDISH_PEER_BUFFER 8160
 
-/* The length of an answer in bytes. */
+/*
+ * The length of an answer in bytes. An answer, little-endian:
+ *
+ *   at  bytes  what
+ *    0      1  0 valid, 1 trans-invalid, 2 invalid, 3 ill-formed, 4 fail, 5 verification passed
+ *    1      1  the reason's number: 2 to 19 if invalid, 3 to 16 if ill-formed, else 0
+ *    2     68  the point that an invalid reason names, or the root cause of trans-invalid: round (4), digest (32),
+ *              author (32); zeros if none
+ *   70      1  map: 0 evidence, 1 includes, 2 witness, 255 none; trans-invalid: the one that the root cause came
+ *              through, 1 or 2
+ *   71      1  role: 0 proof, 1 trigger, 255 none
+ *   72      4  first number: ill-formed 6 the payload's bytes, 7 the StructureIssue as declared, 1 to 7, 8 the seq_no,
+ *              14 the map's length, 16 the leader flag; invalid 16 the seq_no, 17 1 for the link's target and 0 for its
+ *              source, 18 the dependency's ill-formed number; fail: the peer count; else 0
+ *   76      4  second number: ill-formed 7 the flag of ExpectedGenesis, 14 the F of the peer count; invalid 16 the
+ *              previous seq_no, or 2^32-1 if there is none; fail: the round; else 0
+ *   80      1  trans-invalid: the number of the root cause's reason, 1 to 20; else 0
+ *   81     32  trans-invalid: the peer that the root cause came through; else zeros
+ *  113      1  how many unknown peers stand in the peer buffer (ill-formed 12; else 0)
+ */
 #define WUTHERDISH_ANSWER 114
 
 #ifdef __cplusplus
@@ -21,44 +40,48 @@ extern "C" {
 #endif
 
 /*
- * Verifies a point: BasicVerifier::verify of the Rust.
- *
- * Returns document 01's number, or 0 for a verdict. The numbers, tested in this order:
+ * The calls below return document 01's number, or 0 for a verdict. The numbers, tested in this order; verifying has the
+ * first five:
  *
  *   1  settings are unreadable or outside their limits
  *   2  the schedule is unreadable
  *   3  the point record is unreadable
- *   4  the point's round or a time of it is outside the domain
+ *   4  the point's round or a time of it is outside the domain, or the leader flag is over 1, or the presence over 3
  *   5  the peer buffer is under 8,160 bytes
+ *   6  a verified point above genesis: its round or the fourth after it is in no span of the schedule
+ *   7  the list is needed, and unreadable or outside the domain
+ *   8  the list is needed, and its entries are not the point's dependencies
+ *   9  the list is needed, and the previous point's entry is not certified
  *
  * With a number no lent byte changes, the answer's included. With 0 the answer's 114 bytes are set, and the unknown
  * peers, if there are any, stand at the front of the peer buffer, 32 bytes each, rising; its other bytes keep what
- * they held. Settings, schedule and record are never written.
- *
- * The answer, little-endian:
- *
- *   at  bytes  what
- *    0      1  3 ill-formed, 4 fail, 5 verification passed
- *    1      1  the reason's number, 3 to 14 if ill-formed, else 0
- *    2     68  zeros (verifying names no point)
- *   70      1  map: 0 evidence, 1 includes, 2 witness, 255 none
- *   71      1  role: 0 proof, 1 trigger, 255 none
- *   72      4  first number: reason 6 the payload's bytes, 7 the StructureIssue as declared, 1 to 7, 8 the seq_no,
- *              14 the map's length; fail: the peer count; else 0
- *   76      4  second number: reason 7 the flag of ExpectedGenesis, 14 the F of the peer count; fail: the round;
- *              else 0
- *   80      1  0
- *   81     32  zeros
- *  113      1  how many unknown peers stand in the peer buffer (reason 12; else 0)
+ * they held. What is lent as const is never written.
  *
  * The caller's part: no pointer is null, not even with the length 0; each has as many bytes behind it as its length
  * says, the answer 114; and the peer buffer and the answer overlap neither each other nor the rest.
  */
+
+/* Verifies a point, as BasicVerifier::verify of the Rust: ill-formed with a reason up to 14, fail, or passed. */
 uint8_t wutherdish_verify(const uint8_t *settings, size_t settings_len,
                           const uint8_t *schedule, size_t schedule_len,
                           const uint8_t *record, size_t record_len,
                           uint8_t *peers, size_t peers_len,
                           uint8_t answer[WUTHERDISH_ANSWER]);
+
+/*
+ * Judges a point, as BasicVerifier::verify and then Verifier::validate of the Rust: any answer but passed.
+ *
+ * leader: 1 if the point's author leads its round, else 0. presence: how many of the point's round and the two before
+ * it, counted in that order, are in the DAG. list: the point's dependencies in the order of their arrival. It is needed
+ * if the point is verified, above genesis and not ill-formed, and the presence is 2 or 3; else it is not read.
+ */
+uint8_t wutherdish_judge(const uint8_t *settings, size_t settings_len,
+                         const uint8_t *schedule, size_t schedule_len,
+                         const uint8_t *record, size_t record_len,
+                         uint8_t leader, uint8_t presence,
+                         const uint8_t *list, size_t list_len,
+                         uint8_t *peers, size_t peers_len,
+                         uint8_t answer[WUTHERDISH_ANSWER]);
 
 #ifdef __cplusplus
 }

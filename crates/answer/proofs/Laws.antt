@@ -3,16 +3,24 @@ use Prim.Native.Nat.{ℕ, _+_, _-_, _≤_, _<_}
 use native.Mathlib.Omega.{arith}
 use mathlib.Core.Path.{_≡_, refl, ap, sym, _∙_}
 use mathlib.Core.Bool.{Bool, true, false}
+use mathlib.Core.Option.{Option, none, some}
 use mathlib.Core.List.{List, [], _∷_, _++_}
 use lib.Dec.{eqb}
 use lib.ListN.{length, set, getD, length-append}
+use borrow.Author.Tests.{ne-eqb}
+use Rattle.base.specs.Base.{pick}
 use Rattle.parts.specs.Bytes.{putAt}
 use Rattle.write.proofs.Laws.{put-is, put-put}
+use Rattle.point.specs.Point.{PointId, Through, throughPeer}
+use Rattle.point.specs.Point as point
 use Rattle.point.specs.declared.data.AnchorStageRole.{AnchorStageRole}
 use Rattle.point.specs.declared.data.AnchorStageRole.the-variants.{Proof, Trigger}
 use Rattle.point.specs.declared.data.PointMap.{PointMap}
 use Rattle.point.specs.declared.data.PointMap.the-variants.{Evidence, Includes, Witness}
 use Rattle.reasons.specs.IllFormed.{illFormedNumber}
+use Rattle.reasons.specs.Invalid.{InvalidReason, NoRoundInDag, DependencyRoundDropped, NotTrigger, TerminalTriggerBeforeLastProof, TimeNotGreaterThanInPrevPoint, AnchorProofDoesntInheritAnchorTime, AnchorTimeNotInheritedFromProof, MustHaveReferencedPrevPoint, MustHaveSkippedRound, DependencyTimeTooFarInFuture, NewerAnchorInDependency, AnchorLink, AnchorLinkRole, AnchorLinkBadPath, BadStickySequence, TriggerProofMismatch, DepIllFormed, DepNotFound, invalidNumber}
+use Rattle.reasons.specs.Verdict as verdict
+use Rattle.reasons.specs.declared.ill_formed.UninitVset.{UninitVset}
 use Rattle.reasons.specs.declared.ill_formed.StructureIssue.{StructureIssue}
 use Rattle.reasons.specs.declared.ill_formed.StructureIssue.the-variants.{ExpectedGenesis, BadGenesisPrevPoint, AuthorInMap, TriggerBadProofLink, Link, AnchorTime, NoPrevPoint}
 use Rattle.reasons.specs.declared.ill_formed.IllFormedReason.{IllFormedReason}
@@ -21,7 +29,7 @@ use Rattle.reasons.specs.declared.ill_formed.VerifyError.{VerifyError}
 use Rattle.reasons.specs.declared.ill_formed.VerifyError.the-variants.{Fail, IllFormed}
 use Rattle.reasons.specs.declared.ill_formed.Verified.{Verified}
 use Rattle.reasons.specs.declared.ill_formed.Verified.the-variants.{Passed, Failed}
-use Rattle.answer.specs.Answer.{Answer, Values, mapNumber, roleNumber, flag, issueValues, illFormedValues, verifiedAnswer, answerBytes}
+use Rattle.answer.specs.Answer.{Answer, Values, mapNumber, roleNumber, flag, issueValues, illFormedValues, failAnswer, verifiedAnswer, prevSeqNo, invalidValues, invalidId, throughNumber, verdictAnswer, answerBytes}
 
 pub answer-length : (a : Answer) → length (answerBytes a) ≡ 114
 unfolding answerBytes
@@ -78,14 +86,61 @@ reasonOf n v =
     (n - 3)
     (BadWaveLink (eqb (v .first) 1))
 
+abbrev carriedBy : Answer → Values
+carriedBy a = record { map = a .map; role = a .role; first = a .first; second = a .second; unknown = a .unknown }
+
+abbrev failOf : Answer → UninitVset
+failOf a = record { len = a .first; round = a .second; map = mapOf (a .map) }
+
 abbrev verifiedOf : Answer → Verified
 verifiedOf a =
     getD
-    (Failed (IllFormed (reasonOf (a .reason) (record { map = a .map; role = a .role; first = a .first; second = a .second; unknown = a .unknown })))
-    ∷ Failed (Fail (record { len = a .first; round = a .second; map = mapOf (a .map) }))
+    (Failed (IllFormed (reasonOf (a .reason) (carriedBy a)))
+    ∷ Failed (Fail (failOf a))
     ∷ [])
     (a .kind - 3)
     Passed
+
+abbrev prevOf : ℕ → Option ℕ
+prevOf n = pick (eqb n 4294967295) none (some n)
+
+abbrev invalidOf : ℕ → PointId → Values → InvalidReason
+invalidOf n i v =
+    getD
+    (NoRoundInDag (mapOf (v .map))
+    ∷ DependencyRoundDropped
+    ∷ NotTrigger i
+    ∷ TerminalTriggerBeforeLastProof i
+    ∷ TimeNotGreaterThanInPrevPoint i
+    ∷ AnchorProofDoesntInheritAnchorTime i
+    ∷ AnchorTimeNotInheritedFromProof i
+    ∷ MustHaveReferencedPrevPoint i
+    ∷ MustHaveSkippedRound i
+    ∷ DependencyTimeTooFarInFuture i
+    ∷ NewerAnchorInDependency (roleOf (v .role)) i
+    ∷ AnchorLink (roleOf (v .role)) i
+    ∷ AnchorLinkRole (roleOf (v .role)) i
+    ∷ AnchorLinkBadPath (roleOf (v .role)) i
+    ∷ BadStickySequence i (prevOf (v .second)) (v .first)
+    ∷ TriggerProofMismatch i (eqb (v .first) 1)
+    ∷ DepIllFormed i (v .first)
+    ∷ [])
+    (n - 2)
+    (DepNotFound i)
+
+abbrev throughOf : ℕ → ℕ → Through
+throughOf m x = getD (point.Includes x ∷ []) (m - 1) (point.Witness x)
+
+abbrev verdictOf : Answer → verdict.Verdict
+verdictOf a =
+    getD
+    (verdict.Valid
+    ∷ verdict.TransInvalid (record { to = a .id; reason = a .rootReason; through = throughOf (a .map) (a .peer) })
+    ∷ verdict.Invalid (invalidOf (a .reason) (a .id) (carriedBy a))
+    ∷ verdict.IllFormed (reasonOf (a .reason) (carriedBy a))
+    ∷ [])
+    (a .kind)
+    (verdict.Fail (failOf a))
 
 map-back : (m : PointMap) → mapOf (mapNumber m) ≡ m
 map-back Evidence = refl
@@ -125,11 +180,56 @@ reason-back (LackOfPeers n f m) = ap (LackOfPeers n f) (map-back m)
 reason-back NotRegular = refl
 reason-back (BadWaveLink b) = ap BadWaveLink (flag-back b)
 
+fail-back : (u : UninitVset) → failOf (failAnswer u) ≡ u
+fail-back u = ap (λ (m : PointMap). record { len = u .len; round = u .round; map = m }) (map-back (u .map))
+
 answer-back : (v : Verified) → verifiedOf (verifiedAnswer v) ≡ v
 answer-back Passed = refl
-answer-back (Failed (Fail u)) = ap (λ (m : PointMap). Failed (Fail (record { len = u .len; round = u .round; map = m }))) (map-back (u .map))
-answer-back (Failed (IllFormed r)) = ap (λ (r : IllFormedReason). Failed (IllFormed r)) (reason-back r)
+answer-back (Failed (Fail u)) = ap (λ u. Failed (Fail u)) (fail-back u)
+answer-back (Failed (IllFormed r)) = ap (λ r. Failed (IllFormed r)) (reason-back r)
 
 -- two verdicts with the same answer are the same
 pub answer-injective : (v w : Verified) → verifiedAnswer v ≡ verifiedAnswer w → v ≡ w
 answer-injective v w e = sym (answer-back v) ∙ (ap verifiedOf e ∙ answer-back w)
+
+-- the same of what judging finds, where a previous seq_no is a byte as it is in a record: 2^32-1 stands for none
+abbrev pub PrevIsByte : verdict.Verdict → Type 0
+PrevIsByte v = (i : PointId) (m n : ℕ) → v ≡ verdict.Invalid (BadStickySequence i (some m) n) → m < 256
+
+prev-back : (m : ℕ) → m < 256 → prevOf m ≡ some m
+prev-back m h = simp (ne-eqb m 4294967295 (λ e. omega arith))
+
+invalid-back : (r : InvalidReason) → PrevIsByte (verdict.Invalid r) → invalidOf (invalidNumber r) (invalidId r) (invalidValues r) ≡ r
+invalid-back (NoRoundInDag m) h = ap NoRoundInDag (map-back m)
+invalid-back DependencyRoundDropped h = refl
+invalid-back (NotTrigger i) h = refl
+invalid-back (TerminalTriggerBeforeLastProof i) h = refl
+invalid-back (TimeNotGreaterThanInPrevPoint i) h = refl
+invalid-back (AnchorProofDoesntInheritAnchorTime i) h = refl
+invalid-back (AnchorTimeNotInheritedFromProof i) h = refl
+invalid-back (MustHaveReferencedPrevPoint i) h = refl
+invalid-back (MustHaveSkippedRound i) h = refl
+invalid-back (DependencyTimeTooFarInFuture i) h = refl
+invalid-back (NewerAnchorInDependency g i) h = ap (λ g. NewerAnchorInDependency g i) (role-back g)
+invalid-back (AnchorLink g i) h = ap (λ g. AnchorLink g i) (role-back g)
+invalid-back (AnchorLinkRole g i) h = ap (λ g. AnchorLinkRole g i) (role-back g)
+invalid-back (AnchorLinkBadPath g i) h = ap (λ g. AnchorLinkBadPath g i) (role-back g)
+invalid-back (BadStickySequence i none n) h = refl
+invalid-back (BadStickySequence i (some m) n) h = ap (λ o. BadStickySequence i o n) (prev-back m (h i m n refl))
+invalid-back (TriggerProofMismatch i b) h = ap (TriggerProofMismatch i) (flag-back b)
+invalid-back (DepIllFormed i n) h = refl
+invalid-back (DepNotFound i) h = refl
+
+through-back : (t : Through) → throughOf (throughNumber t) (throughPeer t) ≡ t
+through-back (point.Includes x) = refl
+through-back (point.Witness x) = refl
+
+verdict-back : (v : verdict.Verdict) → PrevIsByte v → verdictOf (verdictAnswer v) ≡ v
+verdict-back (verdict.Fail u) h = ap verdict.Fail (fail-back u)
+verdict-back (verdict.IllFormed r) h = ap verdict.IllFormed (reason-back r)
+verdict-back (verdict.Invalid r) h = ap verdict.Invalid (invalid-back r h)
+verdict-back (verdict.TransInvalid d) h = ap (λ (t : Through). verdict.TransInvalid (record { to = d .to; reason = d .reason; through = t })) (through-back (d .through))
+verdict-back verdict.Valid h = refl
+
+pub verdict-injective : (v w : verdict.Verdict) → PrevIsByte v → PrevIsByte w → verdictAnswer v ≡ verdictAnswer w → v ≡ w
+verdict-injective v w h g e = sym (verdict-back v h) ∙ (ap verdictOf e ∙ verdict-back w g)

@@ -1,16 +1,20 @@
 -- Document 01's number and values of every verdict, and the 114 bytes in which a caller gets them.
 use Prim.Native.Nat.{ℕ}
 use mathlib.Core.Bool.{Bool, true, false}
+use mathlib.Core.Option.{Option, none, some}
 use mathlib.Core.List.{List, [], _∷_, _++_}
 use Rattle.parts.specs.Bytes.{bigBytes, littleBytes}
 use Rattle.parts.specs.Parts.{number}
-use Rattle.point.specs.Point.{PointId}
+use Rattle.point.specs.Point.{PointId, Through, Includes, Witness, throughPeer}
 use Rattle.point.specs.Reading.{pointIdOf}
 use Rattle.point.specs.declared.data.AnchorStageRole.{AnchorStageRole}
 use Rattle.point.specs.declared.data.AnchorStageRole.the-variants.{Proof, Trigger}
 use Rattle.point.specs.declared.data.PointMap.{PointMap}
 use Rattle.point.specs.declared.data.PointMap.the-variants as map
 use Rattle.reasons.specs.IllFormed.{illFormedNumber}
+use Rattle.reasons.specs.Invalid.{InvalidReason, NoRoundInDag, DependencyRoundDropped, NotTrigger, TerminalTriggerBeforeLastProof, TimeNotGreaterThanInPrevPoint, AnchorProofDoesntInheritAnchorTime, AnchorTimeNotInheritedFromProof, MustHaveReferencedPrevPoint, MustHaveSkippedRound, DependencyTimeTooFarInFuture, NewerAnchorInDependency, AnchorLink, AnchorLinkRole, AnchorLinkBadPath, BadStickySequence, TriggerProofMismatch, DepIllFormed, DepNotFound, invalidNumber, InvalidDependency}
+use Rattle.reasons.specs.declared.ill_formed.UninitVset.{UninitVset}
+use Rattle.reasons.specs.Verdict as verdict
 use Rattle.reasons.specs.declared.ill_formed.StructureIssue.{StructureIssue}
 use Rattle.reasons.specs.declared.ill_formed.StructureIssue.the-variants.{ExpectedGenesis, BadGenesisPrevPoint, AuthorInMap, TriggerBadProofLink, Link, AnchorTime, NoPrevPoint}
 use Rattle.reasons.specs.declared.ill_formed.IllFormedReason.{IllFormedReason}
@@ -87,13 +91,16 @@ illFormedValues (LackOfPeers n f m) = values (mapNumber m) 255 n (f .0) 0
 illFormedValues NotRegular = values 255 255 0 0 0
 illFormedValues (BadWaveLink b) = values 255 255 (flag b) 0 0
 
--- an answer that names no point and no root cause
-abbrev pub plain : ℕ → ℕ → Values → Answer
-plain k n v =
+abbrev pub noPoint : PointId
+noPoint = record { round = 0; digest = 0; author = 0 }
+
+-- an answer that names a point, and no root cause
+abbrev pub named : ℕ → ℕ → PointId → Values → Answer
+named k n i v =
     record {
       kind = k;
       reason = n;
-      id = record { round = 0; digest = 0; author = 0 };
+      id = i;
       map = v .map;
       role = v .role;
       first = v .first;
@@ -103,11 +110,94 @@ plain k n v =
       unknown = v .unknown;
     }
 
--- "3 ill-formed, 4 fail, 5 verification passed"; of a Fail "the peer count" and "the round"
+-- an answer that names neither
+abbrev pub plain : ℕ → ℕ → Values → Answer
+plain k n v = named k n noPoint v
+
+-- of a Fail "the peer count" and "the round"
+abbrev pub failAnswer : UninitVset → Answer
+failAnswer u = plain 4 0 (values (mapNumber (u .map)) 255 (u .len) (u .round) 0)
+
+-- "3 ill-formed, 4 fail, 5 verification passed"
 abbrev pub verifiedAnswer : Verified → Answer
 verifiedAnswer Passed = plain 5 0 (values 255 255 0 0 0)
-verifiedAnswer (Failed (Fail u)) = plain 4 0 (values (mapNumber (u .map)) 255 (u .len) (u .round) 0)
+verifiedAnswer (Failed (Fail u)) = failAnswer u
 verifiedAnswer (Failed (IllFormed r)) = plain 3 (illFormedNumber r) (illFormedValues r)
+
+-- "the previous seq_no or 2^32−1"
+abbrev pub prevSeqNo : Option ℕ → ℕ
+prevSeqNo none = 4294967295
+prevSeqNo (some n) = n
+
+-- "invalid 16 seq_no, 17 1 if target, 18 the dependency's ill-formed number"; "invalid 16 the previous seq_no .."
+abbrev pub invalidValues : InvalidReason → Values
+invalidValues (NoRoundInDag m) = values (mapNumber m) 255 0 0 0
+invalidValues DependencyRoundDropped = values 255 255 0 0 0
+invalidValues (NotTrigger i) = values 255 255 0 0 0
+invalidValues (TerminalTriggerBeforeLastProof i) = values 255 255 0 0 0
+invalidValues (TimeNotGreaterThanInPrevPoint i) = values 255 255 0 0 0
+invalidValues (AnchorProofDoesntInheritAnchorTime i) = values 255 255 0 0 0
+invalidValues (AnchorTimeNotInheritedFromProof i) = values 255 255 0 0 0
+invalidValues (MustHaveReferencedPrevPoint i) = values 255 255 0 0 0
+invalidValues (MustHaveSkippedRound i) = values 255 255 0 0 0
+invalidValues (DependencyTimeTooFarInFuture i) = values 255 255 0 0 0
+invalidValues (NewerAnchorInDependency g i) = values 255 (roleNumber g) 0 0 0
+invalidValues (AnchorLink g i) = values 255 (roleNumber g) 0 0 0
+invalidValues (AnchorLinkRole g i) = values 255 (roleNumber g) 0 0 0
+invalidValues (AnchorLinkBadPath g i) = values 255 (roleNumber g) 0 0 0
+invalidValues (BadStickySequence i o n) = values 255 255 n (prevSeqNo o) 0
+invalidValues (TriggerProofMismatch i b) = values 255 255 (flag b) 0 0
+invalidValues (DepIllFormed i n) = values 255 255 n 0 0
+invalidValues (DepNotFound i) = values 255 255 0 0 0
+
+-- "the point id that the reason names"
+abbrev pub invalidId : InvalidReason → PointId
+invalidId (NoRoundInDag m) = noPoint
+invalidId DependencyRoundDropped = noPoint
+invalidId (NotTrigger i) = i
+invalidId (TerminalTriggerBeforeLastProof i) = i
+invalidId (TimeNotGreaterThanInPrevPoint i) = i
+invalidId (AnchorProofDoesntInheritAnchorTime i) = i
+invalidId (AnchorTimeNotInheritedFromProof i) = i
+invalidId (MustHaveReferencedPrevPoint i) = i
+invalidId (MustHaveSkippedRound i) = i
+invalidId (DependencyTimeTooFarInFuture i) = i
+invalidId (NewerAnchorInDependency g i) = i
+invalidId (AnchorLink g i) = i
+invalidId (AnchorLinkRole g i) = i
+invalidId (AnchorLinkBadPath g i) = i
+invalidId (BadStickySequence i o n) = i
+invalidId (TriggerProofMismatch i b) = i
+invalidId (DepIllFormed i n) = i
+invalidId (DepNotFound i) = i
+
+abbrev pub throughNumber : Through → ℕ
+throughNumber (Includes x) = mapNumber map.Includes
+throughNumber (Witness x) = mapNumber map.Witness
+
+-- "for trans-invalid the map it came through", "the root's reason", "the peer it came through"; "0 for trans-invalid" as reason number
+abbrev pub dependencyAnswer : InvalidDependency → Answer
+dependencyAnswer d =
+    record {
+      kind = 1;
+      reason = 0;
+      id = d .to;
+      map = throughNumber (d .through);
+      role = 255;
+      first = 0;
+      second = 0;
+      rootReason = d .reason;
+      peer = throughPeer (d .through);
+      unknown = 0;
+    }
+
+-- "0 valid, 1 trans-invalid, 2 invalid, 3 ill-formed, 4 fail"
+abbrev pub verdictAnswer : verdict.Verdict → Answer
+verdictAnswer (verdict.Fail u) = failAnswer u
+verdictAnswer (verdict.IllFormed r) = plain 3 (illFormedNumber r) (illFormedValues r)
+verdictAnswer (verdict.Invalid r) = named 2 (invalidNumber r) (invalidId r) (invalidValues r)
+verdictAnswer (verdict.TransInvalid d) = dependencyAnswer d
+verdictAnswer verdict.Valid = plain 0 0 (values 255 255 0 0 0)
 
 -- ---- the 114 bytes
 

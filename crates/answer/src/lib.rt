@@ -3,15 +3,24 @@ use parts::Id;
 use point::AnchorStageRole;
 use point::PointId;
 use point::PointMap;
+use point::Through;
 use reasons::IllFormedReason;
+use reasons::InvalidDependency;
+use reasons::InvalidReason;
+use reasons::PrevSeqNo;
 use reasons::StructureIssue;
+use reasons::UninitVset;
+use reasons::Verdict;
 use reasons::Verified;
 use reasons::VerifyError;
 ghost use mathlib.Core.Path.{_≡_};
 ghost use Prim.Native.Nat.{_≤_};
 ghost use lib.ListN.{length};
 ghost use Rattle.parts.specs.Bytes.{putAt};
-ghost use Rattle.answer.specs.Answer.{mapNumber, roleNumber, flag, values, issueValues, illFormedValues, plain, verifiedAnswer, headBytes, numberBytes, rootBytes, answerBytes, valuesOf, answerOf};
+ghost use Rattle.point.specs.Reading.{pointIdOf, throughOf};
+ghost use Rattle.reasons.specs.Invalid.{prevSeqNoOf, reasonOf, dependencyOf};
+ghost use Rattle.reasons.specs.Verdict.{verdictOf};
+ghost use Rattle.answer.specs.Answer.{mapNumber, roleNumber, flag, values, issueValues, illFormedValues, named, plain, failAnswer, verifiedAnswer, prevSeqNo, invalidValues, invalidId, throughNumber, dependencyAnswer, verdictAnswer, headBytes, numberBytes, rootBytes, answerBytes, valuesOf, answerOf};
 
 // What a reason carries beside its number.
 pub struct Values {
@@ -111,21 +120,10 @@ fn of_ill_formed(reason: IllFormedReason) -> Values
     }
 }
 
-// An answer that names no point and no root cause.
-fn plain(kind: u8, reason: u8, v: Values) -> Answer
-    ensures { λ r. ⌜ answerOf r ≡ plain kind reason (valuesOf v) ⌝ }
+// An answer that names a point, and no root cause.
+fn named(kind: u8, reason: u8, id: PointId, v: Values) -> Answer
+    ensures { λ r. ⌜ answerOf r ≡ named kind reason (pointIdOf id) (valuesOf v) ⌝ }
 {
-    let zeros = Id {
-        a: 0,
-        b: 0,
-        c: 0,
-        d: 0,
-    };
-    let id = PointId {
-        round: 0,
-        digest: zeros,
-        author: zeros,
-    };
     Answer {
         kind,
         reason,
@@ -135,9 +133,27 @@ fn plain(kind: u8, reason: u8, v: Values) -> Answer
         first: v.first,
         second: v.second,
         root_reason: 0,
-        peer: zeros,
+        peer: parts::NO_ID,
         unknown: v.unknown,
     }
+}
+
+// An answer that names no point and no root cause.
+fn plain(kind: u8, reason: u8, v: Values) -> Answer
+    ensures { λ r. ⌜ answerOf r ≡ plain kind reason (valuesOf v) ⌝ }
+{
+    named(kind, reason, point::NO_POINT, v)
+}
+
+fn of_fail(u: UninitVset) -> Answer
+    ensures { λ r. ⌜ answerOf r ≡ failAnswer u ⌝ }
+{
+    let map = u.map;
+    plain(
+        4,
+        0,
+        carried(map_number(map), NONE, u.len as u32, u.round, 0),
+    )
 }
 
 pub fn of_verified(verified: Verified) -> Answer
@@ -146,16 +162,113 @@ pub fn of_verified(verified: Verified) -> Answer
     match verified {
         Verified::Passed => plain(5, 0, carried(NONE, NONE, 0, 0, 0)),
         Verified::Failed(error) => match error {
-            VerifyError::Fail(u) => {
-                let map = u.map;
-                plain(
-                    4,
-                    0,
-                    carried(map_number(map), NONE, u.len as u32, u.round, 0),
-                )
-            }
+            VerifyError::Fail(u) => of_fail(u),
             VerifyError::IllFormed(reason) => plain(3, reason.number(), of_ill_formed(reason)),
         },
+    }
+}
+
+// The previous seq_no, or the greatest number where there is none.
+fn prev_seq_no(prev: PrevSeqNo) -> u32
+    ensures { λ r. ⌜ r ≡ prevSeqNo (prevSeqNoOf prev) ⌝ }
+{
+    match prev {
+        PrevSeqNo::SeqNo(n) => n as u32,
+        PrevSeqNo::NoSeqNo => u32::MAX,
+    }
+}
+
+fn of_invalid(reason: InvalidReason) -> Values
+    ensures { λ r. ⌜ valuesOf r ≡ invalidValues (reasonOf reason) ⌝ }
+{
+    match reason {
+        InvalidReason::NoRoundInDag(m) => carried(map_number(m), NONE, 0, 0, 0),
+        InvalidReason::DependencyRoundDropped => carried(NONE, NONE, 0, 0, 0),
+        InvalidReason::NotTrigger(_) => carried(NONE, NONE, 0, 0, 0),
+        InvalidReason::TerminalTriggerBeforeLastProof(_) => carried(NONE, NONE, 0, 0, 0),
+        InvalidReason::TimeNotGreaterThanInPrevPoint(_) => carried(NONE, NONE, 0, 0, 0),
+        InvalidReason::AnchorProofDoesntInheritAnchorTime(_) => carried(NONE, NONE, 0, 0, 0),
+        InvalidReason::AnchorTimeNotInheritedFromProof(_) => carried(NONE, NONE, 0, 0, 0),
+        InvalidReason::MustHaveReferencedPrevPoint(_) => carried(NONE, NONE, 0, 0, 0),
+        InvalidReason::MustHaveSkippedRound(_) => carried(NONE, NONE, 0, 0, 0),
+        InvalidReason::DependencyTimeTooFarInFuture(_) => carried(NONE, NONE, 0, 0, 0),
+        InvalidReason::NewerAnchorInDependency(g, _) => carried(NONE, role_number(g), 0, 0, 0),
+        InvalidReason::AnchorLink(g, _) => carried(NONE, role_number(g), 0, 0, 0),
+        InvalidReason::AnchorLinkRole(g, _) => carried(NONE, role_number(g), 0, 0, 0),
+        InvalidReason::AnchorLinkBadPath(g, _) => carried(NONE, role_number(g), 0, 0, 0),
+        InvalidReason::BadStickySequence(_, prev, n) => {
+            carried(NONE, NONE, n as u32, prev_seq_no(prev), 0)
+        }
+        InvalidReason::TriggerProofMismatch(_, b) => carried(NONE, NONE, flag(b), 0, 0),
+        InvalidReason::DepIllFormed(_, n) => carried(NONE, NONE, n as u32, 0, 0),
+        InvalidReason::DepNotFound(_) => carried(NONE, NONE, 0, 0, 0),
+    }
+}
+
+// The point that a reason names, or none.
+fn id_of(reason: InvalidReason) -> PointId
+    ensures { λ r. ⌜ pointIdOf r ≡ invalidId (reasonOf reason) ⌝ }
+{
+    match reason {
+        InvalidReason::NoRoundInDag(_) => point::NO_POINT,
+        InvalidReason::DependencyRoundDropped => point::NO_POINT,
+        InvalidReason::NotTrigger(id) => id,
+        InvalidReason::TerminalTriggerBeforeLastProof(id) => id,
+        InvalidReason::TimeNotGreaterThanInPrevPoint(id) => id,
+        InvalidReason::AnchorProofDoesntInheritAnchorTime(id) => id,
+        InvalidReason::AnchorTimeNotInheritedFromProof(id) => id,
+        InvalidReason::MustHaveReferencedPrevPoint(id) => id,
+        InvalidReason::MustHaveSkippedRound(id) => id,
+        InvalidReason::DependencyTimeTooFarInFuture(id) => id,
+        InvalidReason::NewerAnchorInDependency(_, id) => id,
+        InvalidReason::AnchorLink(_, id) => id,
+        InvalidReason::AnchorLinkRole(_, id) => id,
+        InvalidReason::AnchorLinkBadPath(_, id) => id,
+        InvalidReason::BadStickySequence(id, _, _) => id,
+        InvalidReason::TriggerProofMismatch(id, _) => id,
+        InvalidReason::DepIllFormed(id, _) => id,
+        InvalidReason::DepNotFound(id) => id,
+    }
+}
+
+fn through_number(through: Through) -> u8
+    ensures { λ r. ⌜ r ≡ throughNumber (throughOf through) ⌝ }
+{
+    match through {
+        Through::Includes(_) => 1,
+        Through::Witness(_) => 2,
+    }
+}
+
+// A root cause, with what it came through.
+fn of_dependency(d: InvalidDependency) -> Answer
+    ensures { λ r. ⌜ answerOf r ≡ dependencyAnswer (dependencyOf d) ⌝ }
+{
+    let id = d.to;
+    let through = d.through;
+    Answer {
+        kind: 1,
+        reason: 0,
+        id,
+        map: through_number(through),
+        role: NONE,
+        first: 0,
+        second: 0,
+        root_reason: d.reason,
+        peer: through.peer(),
+        unknown: 0,
+    }
+}
+
+pub fn of_verdict(verdict: Verdict) -> Answer
+    ensures { λ r. ⌜ answerOf r ≡ verdictAnswer (verdictOf verdict) ⌝ }
+{
+    match verdict {
+        Verdict::Fail(u) => of_fail(u),
+        Verdict::IllFormed(reason) => plain(3, reason.number(), of_ill_formed(reason)),
+        Verdict::Invalid(reason) => { named(2, reason.number(), id_of(reason), of_invalid(reason)) }
+        Verdict::TransInvalid(d) => of_dependency(d),
+        Verdict::Valid => plain(0, 0, carried(NONE, NONE, 0, 0, 0)),
     }
 }
 

@@ -4,12 +4,13 @@ use Rattle.base.specs.Base.{concat, firstOf, lastOf}
 use Rattle.map.specs.Rows.{get, find, findFrom, has, peers}
 use Rattle.point.specs.Point.{digestSafe, prevDigest, source, target, top}
 use Rattle.verifier.specs.Verify.{linksOwn, targetTooNew, badLink, ownPointRows, linkRows, structureRows, genesisStructureRows, stickyFault}
-use Rattle.verifier.specs.Invalid.{invalidNumber, hasDagRound}
-use Rattle.verifier.specs.Validate.{sameId, proofRow, triggerProofRow, timeRow, newerRow, stickyRow, reachedRow, targetRow, anchorTimeRow, carriedRow, sourceRow, pointRows, taken, dependencyTrail, entryTrail, directTrail, recordOf, isNewer, join}
+use Rattle.reasons.specs.Invalid.{dagRound}
+use Rattle.verifier.specs.DagPoint.{linkIds, pointView, depView}
+use Rattle.verifier.specs.Validate.{sameId, proofRow, triggerProofRow, timeRow, newerRow, stickyRow, reachedRow, targetRow, anchorTimeRow, carriedRow, sourceRow, anchorRows, pointRows, taken, dependencyTrail, entryTrail, directTrail, recordOf, isNewer, join}
 use Rattle.claims.specs.Edges.{Edges, conf}
 
 pub edges : Edges
-unfolding concat firstOf lastOf get find findFrom has peers digestSafe prevDigest linksOwn targetTooNew badLink ownPointRows linkRows structureRows genesisStructureRows stickyFault conf source target top invalidNumber hasDagRound sameId proofRow triggerProofRow timeRow newerRow stickyRow reachedRow targetRow anchorTimeRow carriedRow sourceRow pointRows taken dependencyTrail entryTrail directTrail recordOf isNewer join
+unfolding concat firstOf lastOf get find findFrom has peers digestSafe prevDigest linksOwn targetTooNew badLink ownPointRows linkRows structureRows genesisStructureRows stickyFault conf source target top dagRound sameId proofRow triggerProofRow timeRow newerRow stickyRow reachedRow targetRow anchorTimeRow carriedRow sourceRow pointRows taken dependencyTrail entryTrail directTrail recordOf isNewer join anchorRows linkIds pointView depView
 edges =
     record {
       near = refl;

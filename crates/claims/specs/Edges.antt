@@ -16,7 +16,8 @@ use Rattle.reasons.specs.declared.ill_formed.IllFormedReason.the-variants.{TooM
 use Rattle.reasons.specs.declared.ill_formed.VerifyError.{VerifyError}
 use Rattle.reasons.specs.declared.ill_formed.VerifyError.the-variants.{IllFormed}
 use Rattle.verifier.specs.Verify.{structureRows, genesisStructureRows, stickyFault}
-use Rattle.verifier.specs.Invalid.{InvalidReason, invalidNumber, InvalidDependency, DagPoint, Valid, TransInvalid, NotFound, Dropped, Entry}
+use Rattle.reasons.specs.Invalid.{InvalidReason, invalidNumber, InvalidDependency}
+use Rattle.verifier.specs.DagPoint.{DagPoint, Valid, TransInvalid, NotFound, Dropped, Entry, pointView}
 use Rattle.verifier.specs.Validate.{directTrail, recordOf, join}
 
 -- settings with sticky_anchors 3, a clock skew of 500 and a history of 21
@@ -102,7 +103,7 @@ numberOf none = 0
 numberOf (some reason) = invalidNumber reason
 
 abbrev pub given : List Entry → ℕ
-given l = numberOf (lastOf (directTrail conf false judged false l))
+given l = numberOf (lastOf (directTrail conf false (pointView judged) false l))
 
 -- a root cause at round 90 with this reason
 abbrev pub rootAt90 : ℕ → InvalidDependency
@@ -131,8 +132,8 @@ pub record Edges : Type 0 where
   pub lastTooSoon : firstOf (stickyFault conf (stickyAnchors (AnchorProof 2 true))) ≡ some (IllFormed BadLastStickyFlag)
   pub lastInTime : firstOf (stickyFault conf (stickyAnchors (AnchorProof 3 true))) ≡ none
   -- P6 Root 90, history 21: recorded at r−1 = 110, not at 111
-  pub inWindow : recordOf conf (pointAt 111 [] [] Regular 9 1) false (Includes 2) (TransInvalid judged (targetAt 90) 6) ≡ some (rootAt90 6)
-  pub pastWindow : recordOf conf (pointAt 112 [] [] Regular 9 1) false (Includes 2) (TransInvalid judged (targetAt 90) 6) ≡ none
+  pub inWindow : recordOf conf 111 false (Includes 2) (TransInvalid judged (targetAt 90) 6) ≡ some (rootAt90 6)
+  pub pastWindow : recordOf conf 112 false (Includes 2) (TransInvalid judged (targetAt 90) 6) ≡ none
   -- P7 Equal rounds: reason 2 then 6 records 6; 6 then 2 keeps 6
   pub dagRoundLater : join (some (rootAt90 2)) (some (rootAt90 6)) ≡ some (rootAt90 6)
   pub dagRoundFirst : join (some (rootAt90 6)) (some (rootAt90 2)) ≡ some (rootAt90 6)

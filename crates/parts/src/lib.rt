@@ -15,6 +15,14 @@ pub struct Id {
     pub d: u64,
 }
 
+// The id of four zeros, where there is none.
+pub const NO_ID: Id = Id {
+    a: 0,
+    b: 0,
+    c: 0,
+    d: 0,
+};
+
 // How one id stands to another.
 pub enum Order {
     Less,

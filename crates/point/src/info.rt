@@ -47,11 +47,11 @@ pub struct AnchorView {
     pub source: PointId,
 }
 
-const NO_DIGEST: Id = Id {
-    a: 0,
-    b: 0,
-    c: 0,
-    d: 0,
+// No point's id.
+pub const NO_POINT: PointId = PointId {
+    round: 0,
+    digest: parts::NO_ID,
+    author: parts::NO_ID,
 };
 
 // The includes, the witness and the evidence of a record, as parts of it.
@@ -157,7 +157,7 @@ fn digest_or_zero(found: Found) -> Id
 {
     match found {
         Found::Digest(digest) => digest,
-        Found::Absent => NO_DIGEST,
+        Found::Absent => parts::NO_ID,
     }
 }
 

@@ -9,6 +9,7 @@ pub use data::AnchorStageRole;
 pub use data::PointMap;
 pub use data::PointRole;
 pub use info::AnchorView;
+pub use info::NO_POINT;
 pub use info::PointId;
 pub use info::PointInfo;
 pub use info::StickyAnchors;

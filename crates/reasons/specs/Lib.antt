@@ -1,1 +1,3 @@
 pub mod IllFormed
+pub mod Invalid
+pub mod Verdict

@@ -2,7 +2,7 @@
 ghost use mathlib.Core.Path.{_≡_};
 ghost use Prim.Native.Nat.{_<_, _≤_};
 ghost use lib.ListN.{length};
-ghost use Rattle.record.specs.Record.{rowOf, fieldOk, nextAt, contentAt, startOf, contentOf, recordEnd, endOf, wellShaped};
+ghost use Rattle.record.specs.Record.{fieldOk, nextAt, contentAt, startOf, contentOf, recordEnd, endOf, wellShaped};
 
 // A row of the table of fields: the tag, and the least and the greatest length of the content.
 pub struct Row {
@@ -77,13 +77,6 @@ pub enum End {
     Unreadable,
 }
 
-fn row_at(k: usize) -> Row
-    requires { ⌜ k < 9 ⌝ }
-    ensures { λ r. ⌜ r ≡ rowOf k ⌝ }
-{
-    ROWS[k]
-}
-
 // Where the field behind the one at a place starts; a field that is cut off ends with the slice.
 pub fn next(s: &[u8], at: usize) -> usize
     requires { ⌜ at ≤ length (now s) ⌝ }
@@ -138,10 +131,12 @@ pub fn field_ok(s: &[u8], at: usize, row: Row) -> bool
 pub fn record_end(s: &[u8]) -> End
     ensures { λ r. ⌜ endOf r ≡ recordEnd (now (s .entry)) ⌝ }
 {
+    let rows = ROWS;
     let mut k = 0;
     let mut at = 0;
     while k < 9 {
-        if !field_ok(s, at, row_at(k)) {
+        let row = rows[k];
+        if !field_ok(s, at, row) {
             return End::Unreadable;
         }
         at = next(s, at);

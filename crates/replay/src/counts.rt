@@ -2,6 +2,7 @@
 pub struct Counts {
     pub place: u64,
     pub verify: u64,
+    pub judge: u64,
     pub other: u64,
     pub different: u64,
 }
@@ -9,6 +10,7 @@ pub struct Counts {
 pub const NONE: Counts = Counts {
     place: 0,
     verify: 0,
+    judge: 0,
     other: 0,
     different: 0,
 };
@@ -26,6 +28,12 @@ pub fn next_place(c: Counts) -> Counts {
 pub fn one_verify(c: Counts) -> Counts {
     let mut c = c;
     c.verify = next(c.verify);
+    c
+}
+
+pub fn one_judge(c: Counts) -> Counts {
+    let mut c = c;
+    c.judge = next(c.judge);
     c
 }
 

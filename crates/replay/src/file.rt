@@ -3,6 +3,7 @@ use crate::case;
 use crate::compare;
 use crate::counts;
 use crate::counts::Counts;
+use crate::judge_case;
 use crate::verify_case;
 use cases::Head;
 
@@ -15,6 +16,15 @@ fn run_verify(c: Counts, fd: i32, head: Head, buf: &mut [u8], peers: &mut [u8]) 
     verify_case::replay(c, case, buf, peers)
 }
 
+fn run_judge(c: Counts, fd: i32, head: Head, buf: &mut [u8], peers: &mut [u8]) -> Counts {
+    let c = counts::one_judge(c);
+    let case = case::read_case(fd, head, buf);
+    if !case.is_whole {
+        return compare::no_room(c);
+    }
+    judge_case::replay(c, case, buf, peers)
+}
+
 fn run_other(c: Counts, fd: i32, head: Head, buf: &mut [u8]) -> Counts {
     case::read_case(fd, head, buf);
     counts::one_other(c)
@@ -25,6 +35,7 @@ fn run_case(c: Counts, fd: i32, head: Head, buf: &mut [u8], peers: &mut [u8]) ->
     let kind = head.kind;
     match kind {
         1 => run_verify(c, fd, head, buf, peers),
+        2 => run_judge(c, fd, head, buf, peers),
         _ => run_other(c, fd, head, buf),
     }
 }

@@ -1,9 +1,12 @@
 // Replays stored cases against the code: makes each call that a case lists, with buffers that are filled beforehand, and
 // compares every byte of them with the answer that the case expects. Each argument names a file of cases.
+// data/judge.bin is a sample of the 6,437 judge cases among the vectors: the two smallest of each outcome (a number, or a
+// verdict with its reason) at each pair of flags, and of each outcome with the same map, role, issue, flag and root's reason.
 mod case;
 mod compare;
 mod counts;
 mod file;
+mod judge_case;
 mod print;
 mod verify_case;
 
@@ -11,12 +14,13 @@ use counts::Counts;
 use print::line;
 
 // A case, and the peers that a call hands back.
-const CASE_ROOM: usize = 131072;
+const CASE_ROOM: usize = 1048576;
 
 const PEERS_ROOM: usize = 16384;
 
 fn report(c: Counts) {
     line(b"verify cases", c.verify);
+    line(b"judge cases", c.judge);
     line(b"other cases", c.other);
     line(b"different", c.different);
 }

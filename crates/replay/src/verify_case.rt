@@ -5,7 +5,7 @@ use crate::compare;
 use crate::compare::LENT;
 use crate::counts::Counts;
 
-fn fill(s: &mut [u8], byte: u8) {
+pub fn fill(s: &mut [u8], byte: u8) {
     let mut i = 0;
     while i < s.len() {
         s[i] = byte;
@@ -14,7 +14,7 @@ fn fill(s: &mut [u8], byte: u8) {
 }
 
 // The little-endian number of a blob of four bytes; of any other, more than there is room for.
-fn length_of(s: &[u8]) -> usize {
+pub fn length_of(s: &[u8]) -> usize {
     if s.len() != 4 {
         return usize::MAX;
     }

@@ -1,4 +1,4 @@
 pub mod Verify
 pub mod Found
-pub mod Invalid
+pub mod DagPoint
 pub mod Validate

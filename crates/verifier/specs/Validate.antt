@@ -7,13 +7,15 @@ use mathlib.Core.Option.{Option, none, some}
 use mathlib.Core.List.{List, [], _∷_, _++_}
 use lib.Dec.{leb, ltb, eqb}
 use Rattle.base.specs.Base.{pick, iff, concat, lastOf}
-use Rattle.point.specs.Point.{PointId, Through, Includes, Witness, PointInfo, isAnchorProof, isAnchorTrigger, isAnchorStage, prevDigest, Sticky, stickyAnchors, through, anchorLink, source, target, top}
+use Rattle.point.specs.Point.{PointId, Through, Includes, Witness, PointInfo, isAnchorProof, isAnchorTrigger, isAnchorStage, Sticky, stickyAnchors, through, anchorLink}
 use Rattle.point.specs.declared.data.AnchorStageRole.{AnchorStageRole}
 use Rattle.point.specs.declared.data.AnchorStageRole.the-variants.{Proof, Trigger}
 use Rattle.point.specs.declared.data.PointMap.the-variants as map
+use Rattle.point.specs.declared.data.PointRole.{PointRole}
 use Rattle.schedule.specs.Settings.{Settings}
 use Rattle.verifier.specs.Verify.{isEmpty}
-use Rattle.verifier.specs.Invalid.{InvalidReason, NoRoundInDag, DependencyRoundDropped, NotTrigger, TerminalTriggerBeforeLastProof, TimeNotGreaterThanInPrevPoint, AnchorProofDoesntInheritAnchorTime, AnchorTimeNotInheritedFromProof, MustHaveReferencedPrevPoint, MustHaveSkippedRound, DependencyTimeTooFarInFuture, NewerAnchorInDependency, AnchorLink, AnchorLinkRole, AnchorLinkBadPath, BadStickySequence, TriggerProofMismatch, DepIllFormed, DepNotFound, hasDagRound, InvalidDependency, DagPoint, Valid, TransInvalid, Invalid, IllFormed, NotFound, Dropped, Entry, IndirectEntry}
+use Rattle.verifier.specs.DagPoint.{DagPoint, Valid, TransInvalid, Invalid, IllFormed, NotFound, Dropped, Entry, IndirectEntry, entryId, isDropped, PointView, pointView, linksIn, DepView, depView, topIn}
+use Rattle.reasons.specs.Invalid.{InvalidReason, NoRoundInDag, DependencyRoundDropped, NotTrigger, TerminalTriggerBeforeLastProof, TimeNotGreaterThanInPrevPoint, AnchorProofDoesntInheritAnchorTime, AnchorTimeNotInheritedFromProof, MustHaveReferencedPrevPoint, MustHaveSkippedRound, DependencyTimeTooFarInFuture, NewerAnchorInDependency, AnchorLink, AnchorLinkRole, AnchorLinkBadPath, BadStickySequence, TriggerProofMismatch, DepIllFormed, DepNotFound, hasDagRound, InvalidDependency}
 
 -- PartialEq of PointId
 unfoldable pub sameId : PointId → PointId → Bool
@@ -29,34 +31,41 @@ abbrev pub firstOnly : List InvalidReason → List InvalidReason
 firstOnly [] = []
 firstOnly (x ∷ l) = x ∷ []
 
-unfoldable pub proofRow : Bool → PointInfo → PointInfo → List InvalidReason
+-- behind a proof stands a trigger, and no terminal one before the sequence's last; neither is asked where regular points are
+-- required
+abbrev pub notTrigger : Bool → PointRole → PointRole → Bool
+notTrigger required own proven = not required && (isAnchorProof proven && not (isAnchorTrigger own))
+
+abbrev pub endsTooSoon : Bool → PointRole → PointRole → Bool
+endsTooSoon required own proven =
+    not required && (isAnchorProof proven && (not (isAnchorProof own) && isOpen (stickyAnchors proven)))
+
+unfoldable pub proofRow : Bool → PointView → DepView → List InvalidReason
 unfolding concat
 proofRow required p q =
     firstOnly (concat
-    (iff (not required && (isAnchorProof (q .role) && not (isAnchorTrigger (p .role)))) (NotTrigger (q .id))
-    ∷ iff (not required && (isAnchorProof (q .role) && (not (isAnchorProof (p .role)) && isOpen (stickyAnchors (q .role)))))
-    (TerminalTriggerBeforeLastProof (q .id))
+    (iff (notTrigger required (p .role) (q .role)) (NotTrigger (q .id))
+    ∷ iff (endsTooSoon required (p .role) (q .role)) (TerminalTriggerBeforeLastProof (q .id))
     ∷ iff (leb (p .time) (q .time)) (TimeNotGreaterThanInPrevPoint (q .id))
     ∷ iff (isAnchorProof (p .role) && not (eqb (p .anchorTime) (q .time))) (AnchorProofDoesntInheritAnchorTime (q .id))
     ∷ []))
 
 -- ---- check_trigger_proof
 
-unfoldable pub triggerProofRow : PointInfo → PointInfo → Bool → List InvalidReason
-unfolding target top sameId
+unfoldable pub triggerProofRow : PointView → DepView → Bool → List InvalidReason
+unfolding sameId
 triggerProofRow p q isTarget =
-    iff (leb (target Proof p .round) (top Proof q .round) && not (sameId (target Proof p) (top Proof q)))
+    iff (leb (linksIn Proof p .target .round) (topIn Proof q .round) && not (sameId (linksIn Proof p .target) (topIn Proof q)))
     (TriggerProofMismatch (q .id) isTarget)
 
 -- ---- check_valid, of a dependency q whose point is at hand
 
 -- "max_allowed_dep_time"
-unfoldable pub timeRow : Settings → PointInfo → PointInfo → List InvalidReason
+unfoldable pub timeRow : Settings → PointView → DepView → List InvalidReason
 timeRow c p q = iff (ltb (p .time + c .clockSkewMillis) (q .time)) (DependencyTimeTooFarInFuture (q .id))
 
-unfoldable pub newerRow : AnchorStageRole → PointInfo → PointInfo → List InvalidReason
-unfolding target top
-newerRow g p q = iff (ltb (target g p .round) (top g q .round)) (NewerAnchorInDependency g (q .id))
+unfoldable pub newerRow : AnchorStageRole → PointView → DepView → List InvalidReason
+newerRow g p q = iff (ltb (linksIn g p .target .round) (topIn g q .round)) (NewerAnchorInDependency g (q .id))
 
 abbrev pub seqNo : Option Sticky → Option ℕ
 seqNo none = none
@@ -66,54 +75,61 @@ abbrev pub follows : Option ℕ → ℕ → Bool
 follows none n = false
 follows (some m) n = eqb (m + 1) n
 
-unfoldable pub stickyRow : Settings → PointInfo → Option Sticky → List InvalidReason
+unfoldable pub stickyRow : Settings → DepView → Option Sticky → List InvalidReason
 stickyRow c q none = []
 stickyRow c q (some k) =
     iff (ltb 0 (k .seqNo) && not (leb (k .seqNo) (c .stickyAnchors) && follows (seqNo (stickyAnchors (q .role))) (k .seqNo)))
     (BadStickySequence (q .id) (seqNo (stickyAnchors (q .role))) (k .seqNo))
 
 -- of a link's target that has the role
-unfoldable pub reachedRow : Settings → AnchorStageRole → PointInfo → PointInfo → List InvalidReason
+unfoldable pub reachedRow : Settings → AnchorStageRole → PointView → DepView → List InvalidReason
 unfolding stickyRow triggerProofRow
 reachedRow c Proof p q = stickyRow c q (stickyAnchors (p .role))
 reachedRow c Trigger p q = triggerProofRow p q true
 
-unfoldable pub targetRow : Settings → AnchorStageRole → PointInfo → PointInfo → List InvalidReason
-unfolding sameId target reachedRow
+unfoldable pub targetRow : Settings → AnchorStageRole → PointView → DepView → List InvalidReason
+unfolding sameId reachedRow
 targetRow c g p q =
-    pick (sameId (q .id) (target g p))
+    pick (sameId (q .id) (linksIn g p .target))
     (pick (isAnchorStage g (q .role)) (reachedRow c g p q) (AnchorLink g (q .id) ∷ []))
     []
 
-unfoldable pub anchorTimeRow : PointInfo → PointInfo → List InvalidReason
+unfoldable pub anchorTimeRow : PointView → DepView → List InvalidReason
 anchorTimeRow p q =
     iff (not (isAnchorProof (p .role)) && not (eqb (q .anchorTime) (p .anchorTime))) (AnchorTimeNotInheritedFromProof (q .id))
 
 -- of a link's source: what the link carries on
-unfoldable pub carriedRow : AnchorStageRole → PointInfo → PointInfo → List InvalidReason
-unfolding anchorTimeRow sameId target triggerProofRow
+unfoldable pub carriedRow : AnchorStageRole → PointView → DepView → List InvalidReason
+unfolding anchorTimeRow sameId triggerProofRow
 carriedRow Proof p q = anchorTimeRow p q
-carriedRow Trigger p q = pick (sameId (q .id) (target Trigger p)) [] (triggerProofRow p q false)
+carriedRow Trigger p q = pick (sameId (q .id) (linksIn Trigger p .target)) [] (triggerProofRow p q false)
 
-unfoldable pub sourceRow : AnchorStageRole → PointInfo → PointInfo → List InvalidReason
-unfolding sameId source target top carriedRow
+unfoldable pub sourceRow : AnchorStageRole → PointView → DepView → List InvalidReason
+unfolding sameId carriedRow
 sourceRow g p q =
-    pick (sameId (q .id) (source g p))
-    (iff (not (sameId (top g q) (target g p))) (AnchorLinkBadPath g (q .id)) ++ carriedRow g p q)
+    pick (sameId (q .id) (linksIn g p .source))
+    (iff (not (sameId (topIn g q) (linksIn g p .target))) (AnchorLinkBadPath g (q .id)) ++ carriedRow g p q)
     []
 
+-- of a dependency that is a link's target or source
+unfoldable pub anchorRows : Settings → PointView → DepView → List (List InvalidReason)
+unfolding targetRow sourceRow
+anchorRows c p q =
+    targetRow c Proof p q
+    ∷ targetRow c Trigger p q
+    ∷ sourceRow Proof p q
+    ∷ sourceRow Trigger p q
+    ∷ []
+
 -- the rows of one dependency, in the source's order
-unfoldable pub pointRows : Settings → Bool → Bool → PointInfo → PointInfo → List (List InvalidReason)
-unfolding proofRow timeRow newerRow targetRow sourceRow
+unfoldable pub pointRows : Settings → Bool → Bool → PointView → DepView → List (List InvalidReason)
+unfolding concat proofRow timeRow newerRow anchorRows
 pointRows c required isPrevPoint p q =
     pick isPrevPoint (proofRow required p q) []
     ∷ timeRow c p q
     ∷ newerRow Proof p q
     ∷ newerRow Trigger p q
-    ∷ targetRow c Proof p q
-    ∷ targetRow c Trigger p q
-    ∷ sourceRow Proof p q
-    ∷ sourceRow Trigger p q
+    ∷ concat (anchorRows c p q)
     ∷ []
 
 -- ---- check_valid, of one direct entry
@@ -126,28 +142,19 @@ pub data Taken : Type 0 where
   asVersion : Taken
   aside : Taken
 
-abbrev pub entryId : DagPoint → PointId
-entryId (Valid q) = q .id
-entryId (TransInvalid q root n) = q .id
-entryId (Invalid q n) = q .id
-entryId (IllFormed i n) = i
-entryId (NotFound i) = i
-entryId Dropped = record { round = 0; digest = 0; author = 0 }
-
 abbrev pub takenOwn : PointId → Option ℕ → Taken
 takenOwn i none = asVersion
 takenOwn i (some d) = pick (eqb d (i .digest)) asPrevPoint aside
 
-unfoldable pub taken : PointInfo → PointId → Taken
-unfolding prevDigest
+unfoldable pub taken : PointView → PointId → Taken
 taken p i =
-    pick (eqb (i .round) (p .id .round - 1) && eqb (i .author) (p .id .author)) (takenOwn i (prevDigest p)) asDependency
+    pick (eqb (i .round) (p .id .round - 1) && eqb (i .author) (p .id .author)) (takenOwn i (p .prevDigest)) asDependency
 
-unfoldable pub dependencyTrail : Settings → Bool → Bool → PointInfo → DagPoint → List InvalidReason
-unfolding concat pointRows
-dependencyTrail c required isPrevPoint p (Valid q) = concat (pointRows c required isPrevPoint p q)
-dependencyTrail c required isPrevPoint p (TransInvalid q root n) = concat (pointRows c required isPrevPoint p q)
-dependencyTrail c required isPrevPoint p (Invalid q n) = concat (pointRows c required isPrevPoint p q)
+unfoldable pub dependencyTrail : Settings → Bool → Bool → PointView → DagPoint → List InvalidReason
+unfolding concat pointRows depView
+dependencyTrail c required isPrevPoint p (Valid q) = concat (pointRows c required isPrevPoint p (depView q))
+dependencyTrail c required isPrevPoint p (TransInvalid q root n) = concat (pointRows c required isPrevPoint p (depView q))
+dependencyTrail c required isPrevPoint p (Invalid q n) = concat (pointRows c required isPrevPoint p (depView q))
 dependencyTrail c required isPrevPoint p (IllFormed i n) = DepIllFormed i n ∷ []
 dependencyTrail c required isPrevPoint p (NotFound i) = DepNotFound i ∷ []
 dependencyTrail c required isPrevPoint p Dropped = []
@@ -162,26 +169,18 @@ versionTrail e (IllFormed i n) = MustHaveSkippedRound i ∷ []
 versionTrail e (NotFound i) = iff (e .certified) (MustHaveReferencedPrevPoint i)
 versionTrail e Dropped = []
 
-abbrev pub entryTrailAs : Settings → Bool → PointInfo → Taken → Entry → List InvalidReason
+abbrev pub entryTrailAs : Settings → Bool → PointView → Taken → Entry → List InvalidReason
 entryTrailAs c required p asDependency e = dependencyTrail c required false p (e .state)
 entryTrailAs c required p asPrevPoint e = dependencyTrail c required true p (e .state)
 entryTrailAs c required p asVersion e = versionTrail e (e .state)
 entryTrailAs c required p aside e = []
 
-unfoldable pub entryTrail : Settings → Bool → PointInfo → Entry → List InvalidReason
+unfoldable pub entryTrail : Settings → Bool → PointView → Entry → List InvalidReason
 unfolding dependencyTrail taken
 entryTrail c required p e = entryTrailAs c required p (taken p (entryId (e .state))) e
 
-abbrev pub isDropped : DagPoint → Bool
-isDropped (Valid q) = false
-isDropped (TransInvalid q root n) = false
-isDropped (Invalid q n) = false
-isDropped (IllFormed i n) = false
-isDropped (NotFound i) = false
-isDropped Dropped = true
-
 -- the direct list: "A dropped entry ends the direct list and sets its reason only if none is set"; `set` says that one is
-unfoldable pub directTrail : Settings → Bool → PointInfo → Bool → List Entry → List InvalidReason
+unfoldable pub directTrail : Settings → Bool → PointView → Bool → List Entry → List InvalidReason
 unfolding entryTrail
 directTrail c required p set [] = []
 directTrail c required p set (e ∷ l) =
@@ -191,50 +190,49 @@ directTrail c required p set (e ∷ l) =
 
 -- ---- check_indirect_links
 
-abbrev pub indirectRow : AnchorStageRole → PointInfo → PointInfo → List InvalidReason
+abbrev pub indirectRow : AnchorStageRole → PointView → DepView → List InvalidReason
 indirectRow Proof p q = anchorTimeRow p q
 indirectRow Trigger p q = triggerProofRow p q true
 
-unfoldable pub indirectPointRows : Settings → AnchorStageRole → PointInfo → PointInfo → List (List InvalidReason)
+unfoldable pub indirectPointRows : Settings → AnchorStageRole → PointView → DepView → List (List InvalidReason)
 unfolding timeRow anchorTimeRow triggerProofRow
 indirectPointRows c g p q =
     timeRow c p q
     ∷ pick (isAnchorStage g (q .role)) (indirectRow g p q) (AnchorLinkRole g (q .id) ∷ [])
     ∷ []
 
-unfoldable pub indirectEntryTrail : Settings → AnchorStageRole → PointInfo → DagPoint → List InvalidReason
-unfolding concat indirectPointRows
-indirectEntryTrail c g p (Valid q) = concat (indirectPointRows c g p q)
-indirectEntryTrail c g p (TransInvalid q root n) = concat (indirectPointRows c g p q)
-indirectEntryTrail c g p (Invalid q n) = concat (indirectPointRows c g p q)
+unfoldable pub indirectEntryTrail : Settings → AnchorStageRole → PointView → DagPoint → List InvalidReason
+unfolding concat indirectPointRows depView
+indirectEntryTrail c g p (Valid q) = concat (indirectPointRows c g p (depView q))
+indirectEntryTrail c g p (TransInvalid q root n) = concat (indirectPointRows c g p (depView q))
+indirectEntryTrail c g p (Invalid q n) = concat (indirectPointRows c g p (depView q))
 indirectEntryTrail c g p (IllFormed i n) = DepIllFormed i n ∷ []
 indirectEntryTrail c g p (NotFound i) = DepNotFound i ∷ []
 indirectEntryTrail c g p Dropped = []
 
 -- "dropped ones are skipped"
-unfoldable pub indirectTrail : Settings → PointInfo → List IndirectEntry → List InvalidReason
+unfoldable pub indirectTrail : Settings → PointView → List IndirectEntry → List InvalidReason
 unfolding indirectEntryTrail
 indirectTrail c p [] = []
 indirectTrail c p (a ∷ l) = indirectEntryTrail c (a .role) p (a .entry .state) ++ indirectTrail c p l
 
 -- ---- dependency: what is recorded
 
--- what an entry would have recorded, reached through t. The window is of trans-invalid entries alone: "while r−1 is less than
--- the root's round plus commit_history_rounds".
-unfoldable pub recordOf : Settings → PointInfo → Bool → Through → DagPoint → Option InvalidDependency
-recordOf c p certified t (Valid q) = none
-recordOf c p certified t (TransInvalid q root n) =
-    pick (certified || leb (root .round + c .commitHistoryRounds) (p .id .round - 1))
+-- what an entry would have recorded, reached through t from a point of a round. The window is of trans-invalid entries alone:
+-- "while r−1 is less than the root's round plus commit_history_rounds".
+unfoldable pub recordOf : Settings → ℕ → Bool → Through → DagPoint → Option InvalidDependency
+recordOf c round certified t (Valid q) = none
+recordOf c round certified t (TransInvalid q root n) =
+    pick (certified || leb (root .round + c .commitHistoryRounds) (round - 1))
     none
     (some (record { to = root; reason = n; through = t }))
-recordOf c p certified t (Invalid q n) = pick certified none (some (record { to = q .id; reason = n; through = t }))
-recordOf c p certified t (IllFormed i n) = none
-recordOf c p certified t (NotFound i) = none
-recordOf c p certified t Dropped = none
+recordOf c round certified t (Invalid q n) = pick certified none (some (record { to = q .id; reason = n; through = t }))
+recordOf c round certified t (IllFormed i n) = none
+recordOf c round certified t (NotFound i) = none
+recordOf c round certified t Dropped = none
 
 -- "A new one replaces the old if its round is greater, or equal and only the new reason has a DAG round"
 unfoldable pub isNewer : InvalidDependency → InvalidDependency → Bool
-unfolding hasDagRound
 isNewer old new =
     ltb (old .to .round) (new .to .round)
     || (eqb (old .to .round) (new .to .round) && (not (hasDagRound (old .reason)) && hasDagRound (new .reason)))
@@ -246,27 +244,30 @@ join (some old) none = some old
 join (some old) (some new) = pick (isNewer old new) (some new) (some old)
 
 -- a direct entry came through its author's place: includes at r-1, else witness
-abbrev pub directThrough : PointInfo → PointId → Through
-directThrough p i = pick (eqb (i .round) (p .id .round - 1)) (Includes (i .author)) (Witness (i .author))
+abbrev pub directThrough : ℕ → PointId → Through
+directThrough round i = pick (eqb (i .round) (round - 1)) (Includes (i .author)) (Witness (i .author))
 
-abbrev pub recordAs : Settings → PointInfo → Taken → Entry → Option InvalidDependency
-recordAs c p asDependency e = recordOf c p (e .certified) (directThrough p (entryId (e .state))) (e .state)
-recordAs c p asPrevPoint e = recordOf c p (e .certified) (directThrough p (entryId (e .state))) (e .state)
-recordAs c p asVersion e = none
-recordAs c p aside e = none
+abbrev pub recordAs : Settings → ℕ → Taken → Entry → Option InvalidDependency
+recordAs c round asDependency e = recordOf c round (e .certified) (directThrough round (entryId (e .state))) (e .state)
+recordAs c round asPrevPoint e = recordOf c round (e .certified) (directThrough round (entryId (e .state))) (e .state)
+recordAs c round asVersion e = none
+recordAs c round aside e = none
 
-unfoldable pub directRecord : Settings → PointInfo → Option InvalidDependency → List Entry → Option InvalidDependency
-unfolding join taken recordOf
+unfoldable pub entryRecord : Settings → PointView → Entry → Option InvalidDependency
+unfolding taken recordOf
+entryRecord c p e = recordAs c (p .id .round) (taken p (entryId (e .state))) e
+
+unfoldable pub directRecord : Settings → PointView → Option InvalidDependency → List Entry → Option InvalidDependency
+unfolding join entryRecord
 directRecord c p old [] = old
-directRecord c p old (e ∷ l) =
-    pick (isDropped (e .state)) old (directRecord c p (join old (recordAs c p (taken p (entryId (e .state))) e)) l)
+directRecord c p old (e ∷ l) = pick (isDropped (e .state)) old (directRecord c p (join old (entryRecord c p e)) l)
 
 -- an indirect entry came through its link's map and peer
 unfoldable pub indirectRecord : Settings → PointInfo → Option InvalidDependency → List IndirectEntry → Option InvalidDependency
 unfolding join recordOf
 indirectRecord c p old [] = old
 indirectRecord c p old (a ∷ l) =
-    indirectRecord c p (join old (recordOf c p (a .entry .certified) (through (anchorLink (a .role) p)) (a .entry .state))) l
+    indirectRecord c p (join old (recordOf c (p .id .round) (a .entry .certified) (through (anchorLink (a .role) p)) (a .entry .state))) l
 
 -- ---- validate
 
@@ -282,11 +283,13 @@ resultWith none none = isValid
 
 -- "Indirect entries are judged only if the direct ones gave no reason"; "Invalid wins over a record"
 unfoldable pub overLists : Settings → Bool → PointInfo → List Entry → List IndirectEntry → ValidateResult
-unfolding lastOf directTrail indirectTrail directRecord indirectRecord
+unfolding lastOf directTrail indirectTrail directRecord indirectRecord pointView
 overLists c required p es ts =
     resultWith
-    (lastOf (pick (isEmpty (directTrail c required p false es)) (indirectTrail c p ts) (directTrail c required p false es)))
-    (indirectRecord c p (directRecord c p none es) ts)
+    (lastOf
+    (pick (isEmpty (directTrail c required (pointView p) false es)) (indirectTrail c (pointView p) ts)
+    (directTrail c required (pointView p) false es)))
+    (indirectRecord c p (directRecord c (pointView p) none es) ts)
 
 -- "Presence 0 and 1 give `NoRoundInDag` of evidence and of includes, the list unread. With presence 2, .. a non-empty witness
 -- gives `NoRoundInDag(Witness)` before any other reason."

@@ -1,10 +1,12 @@
 // The calls for other languages, over the proved ones.
+use judge::JudgeAnswer;
 use verify::VerifyAnswer;
 ghost use mathlib.Core.Path.{_≡_};
 ghost use mathlib.Core.Bool.{true};
 ghost use lib.ListN.{length};
 ghost use Rattle.verify.specs.Call.{tested, verifyWith, verifyBuffer};
-ghost use Rattle.wutherdish.specs.Calls.{verifyNumber, verifyAnswer};
+ghost use Rattle.judge.specs.Judge.{flagsOk, judgeWith};
+ghost use Rattle.wutherdish.specs.Calls.{verifyNumber, verifyAnswer, judgeNumber, judgeAnswer};
 
 // Verifies a point. Answers document 01's number, or 0 with the verdict in `answer` and the unknown peers in `peers`; with a
 // number no lent byte changes.
@@ -25,6 +27,32 @@ pub extern "C" fn wutherdish_verify(
         VerifyAnswer::Number(n) => n,
         VerifyAnswer::Verdict(v) => {
             answer::put_answer(answer, answer::of_verified(v));
+            0
+        }
+    }
+}
+
+// Judges a point by the list of its dependencies, in the order of their arrival; answers as verifying does.
+#[no_mangle]
+pub extern "C" fn wutherdish_judge(
+    settings: &[u8],
+    schedule: &[u8],
+    rec: &[u8],
+    leader: u8,
+    presence: u8,
+    list: &[u8],
+    peers: &mut [u8],
+    answer: &mut [u8; 114],
+) -> u8
+    ensures { λ r. ⌜ r ≡ judgeNumber (judgeWith leader presence (now (list .entry)) (tested (now (settings .entry)) (now (schedule .entry)) (now (rec .entry)) (flagsOk leader presence) (length (now (peers .entry))))) ⌝ }
+    ensures { λ r. ⌜ now (answer .exit) ≡ judgeAnswer (judgeWith leader presence (now (list .entry)) (tested (now (settings .entry)) (now (schedule .entry)) (now (rec .entry)) (flagsOk leader presence) (length (now (peers .entry))))) (now (answer .entry)) ⌝ }
+    ensures { λ r. ⌜ now (peers .exit) ≡ verifyBuffer (tested (now (settings .entry)) (now (schedule .entry)) (now (rec .entry)) (flagsOk leader presence) (length (now (peers .entry)))) (now (peers .entry)) ⌝ }
+{
+    let judged = judge::judge(settings, schedule, rec, leader, presence, list, peers);
+    match judged {
+        JudgeAnswer::Number(n) => n,
+        JudgeAnswer::Verdict(v) => {
+            answer::put_answer(answer, answer::of_verdict(v));
             0
         }
     }

@@ -85,7 +85,7 @@ impl Feed {
             None => (State::NotFound(id), Cert::default()),
         };
         let (certified, first_valid) = (cert.is_certified(), self.is_first_valid(&id));
-        Listed { entry: Entry { indirect, certified, first_valid, state }, cert }
+        Listed::new(Entry { indirect, certified, first_valid, state }, cert)
     }
 
     /// The earliest valid entry of that author and round.

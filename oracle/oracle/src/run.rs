@@ -15,7 +15,7 @@ use tycho::dag::{
 use tycho::effects::ValidateCtx;
 use tycho::engine::MempoolConfig;
 use tycho::intercom::{Downloader, PeerSchedule, PeerScheduleStateless};
-use tycho::models::{Cert, PointInfo, PointMap};
+use tycho::models::{Cert, DagPoint, PointInfo, PointMap};
 use tycho::storage::MempoolStore;
 use tycho::{FastHashMap, set_leader_place};
 
@@ -27,7 +27,7 @@ mod arrivals;
 pub mod convert;
 
 use arrivals::{Arrivals, arrival};
-use convert::{config, point_id, point_info, schedule, validated, verify_error};
+use convert::{config, dag_point, point_id, point_info, schedule, validated, verify_error};
 
 thread_local! {
     static GUARDED: Cell<bool> = const { Cell::new(false) };
@@ -89,21 +89,27 @@ pub fn judge(read: &Read, leader: bool, presence: u8, list: &[u8]) -> Answer {
     }
 }
 
-/// An entry with its certificate.
+/// An entry with its certificate, and as the DAG resolves it.
 pub struct Listed {
-    pub entry: Entry,
-    pub cert: Cert,
+    entry: Entry,
+    cert: Cert,
+    point: Option<DagPoint>,
 }
 
 impl Listed {
+    pub fn new(entry: Entry, cert: Cert) -> Self {
+        let point = dag_point(&entry, &cert);
+        Self { entry, cert, point }
+    }
+
     /// Entries that are certified as their flags say.
-    fn of_case(entries: Vec<Entry>, conf: &MempoolConfig) -> Vec<Self> {
+    pub fn of_case(entries: Vec<Entry>, conf: &MempoolConfig) -> Vec<Self> {
         let listed = |entry: Entry| {
             let cert = Cert::default();
             if entry.certified {
                 cert.certify(conf);
             }
-            Self { entry, cert }
+            Self::new(entry, cert)
         };
         entries.into_iter().map(listed).collect()
     }
@@ -200,13 +206,20 @@ impl<'a> Node<'a> {
     }
 
     pub fn validate_listed(&self, leader: bool, presence: u8, listed: &[Listed], cert: Cert) -> ValidateResult {
+        match self.listed_round(leader, presence, listed) {
+            Ok(round) => self.validate(Some(round), cert),
+            Err(spare_drop) => self.validate_spare_drop(leader, spare_drop),
+        }
+    }
+
+    /// The judged point's own round over those of its list; the direct entries alone where no DAG gives them.
+    pub fn listed_round(&self, leader: bool, presence: u8, listed: &[Listed]) -> Result<DagRound, Arrivals> {
         let (direct, indirect) = listed.split_at(listed.partition_point(|listed| listed.entry.indirect.is_none()));
         let arrivals = Arrivals::new(&self.read.point, presence, direct);
         if arrivals.spare_drop {
-            return self.validate_spare_drop(leader, arrivals);
+            return Err(arrivals);
         }
-        let slots = self.indirect_slots(indirect);
-        self.validate(Some(self.round(leader, Some(arrivals.prev), slots)), cert)
+        Ok(self.round(leader, Some(arrivals.prev), self.indirect_slots(indirect)))
     }
 
     /// All dependencies are listed before a dropped entry that no DAG gives. `check_valid` would end there:

@@ -3,20 +3,46 @@
 use cases::random::Random;
 use oracle::file::Case;
 
-/// The case of this seed at this place, damaged.
+use crate::kind::as_judge;
+
+/// The case of this seed at this place, damaged in what verifying reads.
 pub fn damaged(seed: u64, place: u64) -> Case {
     let mut case = cases::case(seed, place);
     let mut random = Random::new(!seed, place);
-    let (settings, schedule, record, peer_buffer) = match &mut case {
-        Case::Verify { settings, schedule, record, peer_buffer }
-        | Case::Judge { settings, schedule, record, peer_buffer, .. } => (settings, schedule, record, peer_buffer),
-    };
+    damage_inputs(&mut random, &mut case);
+    case
+}
+
+/// The case of this seed at this place as a judge case, damaged in any of what judging reads.
+pub fn judge_damaged(seed: u64, place: u64) -> Case {
+    let mut case = as_judge(cases::case(seed, place));
+    let mut random = Random::new(!seed, place);
+    if random.chance(1, 3) {
+        damage_inputs(&mut random, &mut case);
+        return case;
+    }
+    let Case::Judge { leader, presence, list, .. } = &mut case else { return case };
+    if random.chance(1, 8) {
+        *leader = flag(&mut random);
+    }
+    if random.chance(1, 8) {
+        *presence = flag(&mut random);
+    }
+    for _ in 0..random.pick(&[1, 1, 1, 2, 3]) {
+        damage_list(&mut random, list);
+    }
+    case
+}
+
+fn damage_inputs(random: &mut Random, case: &mut Case) {
+    let (Case::Verify { settings, schedule, record, peer_buffer }
+    | Case::Judge { settings, schedule, record, peer_buffer, .. }) = case;
     let buffer_alone = random.chance(1, 16);
     if buffer_alone || random.chance(1, 16) {
-        *peer_buffer = buffer_length(&mut random);
+        *peer_buffer = buffer_length(random);
     }
     if buffer_alone {
-        return case;
+        return;
     }
     let bytes = match random.below(6) {
         0 => settings,
@@ -24,15 +50,31 @@ pub fn damaged(seed: u64, place: u64) -> Case {
         _ => record,
     };
     for _ in 0..random.pick(&[1, 1, 1, 2, 3]) {
-        damage(&mut random, bytes);
+        damage(random, bytes);
     }
-    case
+}
+
+/// In the domain, just outside it, or anything.
+fn flag(random: &mut Random) -> u8 {
+    let any = random.number() as u8;
+    random.pick(&[0, 1, 2, 3, 4, 255, any])
 }
 
 /// Around the least length that is enough.
 fn buffer_length(random: &mut Random) -> u32 {
     let near = random.between(8_160 - 40, 8_160 + 40);
     random.pick(&[near, 8_158, 8_159, 8_160, 8_161, 0, 1, 32, 16_320, 65_536])
+}
+
+/// A list's entries are damaged too, and the heads of its fields more often than the rest.
+fn damage_list(random: &mut Random, list: &mut Vec<u8>) {
+    match random.below(8) {
+        0..3 => change_head(random, list),
+        3 => repeat_entry(random, list),
+        4 => remove_entry(random, list),
+        5 => move_entry(random, list),
+        _ => damage(random, list),
+    }
 }
 
 fn damage(random: &mut Random, bytes: &mut Vec<u8>) {
@@ -55,6 +97,21 @@ fn change_byte(random: &mut Random, bytes: &mut [u8]) {
         return;
     }
     let place = random.below(bytes.len());
+    change_at(random, bytes, place);
+}
+
+/// Changes a field's tag, its length or one of its first bytes.
+fn change_head(random: &mut Random, bytes: &mut [u8]) {
+    let fields = fields(bytes);
+    if fields.is_empty() {
+        return;
+    }
+    let field = random.pick(&fields);
+    let place = random.pick(&[0, 1, 3, 3, 4, 4, 5, 5, 6, 6]).min(field.length + 2);
+    change_at(random, bytes, field.start + place);
+}
+
+fn change_at(random: &mut Random, bytes: &mut [u8], place: usize) {
     let old = bytes[place];
     let flipped = old ^ (1 << random.below(8));
     let other = random.number() as u8;
@@ -171,6 +228,50 @@ fn repeat_field(random: &mut Random, bytes: &mut Vec<u8>) {
     let copy = bytes[from.start..from.end()].to_vec();
     let end = if random.chance(1, 2) { to.end() } else { to.start };
     bytes.splice(to.start..end, copy);
+}
+
+/// An entry stands once more, behind any other.
+fn repeat_entry(random: &mut Random, list: &mut Vec<u8>) {
+    let entries = entries(list);
+    if entries.is_empty() {
+        return;
+    }
+    let (from, to) = (random.pick(&entries), random.pick(&entries));
+    let copy = list[from.0..from.1].to_vec();
+    list.splice(to.1..to.1, copy);
+}
+
+fn remove_entry(random: &mut Random, list: &mut Vec<u8>) {
+    let entries = entries(list);
+    if entries.is_empty() {
+        return;
+    }
+    let (start, end) = random.pick(&entries);
+    list.drain(start..end);
+}
+
+/// An entry goes to the end or to the front.
+fn move_entry(random: &mut Random, list: &mut [u8]) {
+    let entries = entries(list);
+    if entries.is_empty() {
+        return;
+    }
+    let (start, end) = random.pick(&entries);
+    if random.chance(1, 2) {
+        list[start..].rotate_left(end - start);
+    } else {
+        list[..end].rotate_right(end - start);
+    }
+}
+
+/// Where each entry of a list starts and ends: at tag 19, or at tag 16 without 19 before it.
+fn entries(list: &[u8]) -> Vec<(usize, usize)> {
+    let fields = fields(list);
+    let tag = |place: usize| list[fields[place].start];
+    let starts = |place: &usize| tag(*place) == 19 || (tag(*place) == 16 && (*place == 0 || tag(*place - 1) != 19));
+    let starts: Vec<usize> = (0..fields.len()).filter(starts).map(|place| fields[place].start).collect();
+    let ends = starts.iter().skip(1).copied().chain([list.len()]);
+    starts.iter().copied().zip(ends).collect()
 }
 
 /// The place of a field's tag, and its content's length.

@@ -4,7 +4,7 @@ use oracle::Answer;
 use oracle::file::Case;
 use plain::Prepared;
 
-use crate::inputs::{Expected, Inputs, Lent};
+use crate::lent::{Expected, Lent};
 use crate::report::report;
 
 /// The one panic of the Rust inside document 01's domain: a set of 254 or 255 peers.
@@ -17,26 +17,25 @@ pub enum Agreed {
     Plain(Answer),
 }
 
-/// Runs a case as a verify case; the error says how the two differ.
+/// Runs a case; the error says how the two differ.
 pub fn compare(case: &Case, lent: &mut Lent) -> Result<Agreed, String> {
-    let inputs = Inputs::from(case);
-    lent.call(&inputs);
-    match inputs.answer() {
+    lent.call(case);
+    match case.answer() {
         Answer::Panic(message) if message.starts_with(KNOWN_PANIC) => {
-            let answer = Prepared::new(&inputs.to_case()).answer(None);
-            agree(&inputs, &answer, lent)?;
+            let answer = Prepared::new(case).answer(None);
+            agree(case, &answer, lent)?;
             Ok(Agreed::Plain(answer))
         }
         answer => {
-            agree(&inputs, &answer, lent)?;
+            agree(case, &answer, lent)?;
             Ok(Agreed::Rust(answer))
         }
     }
 }
 
-fn agree(inputs: &Inputs<'_>, answer: &Answer, lent: &Lent) -> Result<(), String> {
+fn agree(case: &Case, answer: &Answer, lent: &Lent) -> Result<(), String> {
     match Expected::new(answer) {
         Some(expected) if lent.is(&expected) => Ok(()),
-        expected => Err(report(inputs, &format!("the oracle: {answer}"), expected.as_ref(), lent)),
+        expected => Err(report(case, &format!("the oracle: {answer}"), expected.as_ref(), lent)),
     }
 }

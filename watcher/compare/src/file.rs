@@ -1,30 +1,28 @@
-//! The verify cases of a file, laid out as vectors/README.md says, against the answers in it.
+//! The cases of a file, laid out as vectors/README.md says, against the answers in it.
 
 use oracle::file::{self, Case};
 use watcher::ANSWER;
 
-use crate::inputs::{Expected, FILL, Inputs, Lent};
+use crate::lent::{Expected, FILL, Lent};
 use crate::report::report;
 
 pub fn run(path: &str) -> Result<(), String> {
     let bytes = std::fs::read(path).map_err(|e| format!("{path}: {e}"))?;
     let cases = file::read(&bytes).ok_or_else(|| format!("{path}: not a whole file of cases"))?;
     let mut lent = Lent::new();
-    let mut same = 0;
     for (place, (case, answer)) in cases.iter().enumerate() {
-        if !matches!(case, Case::Verify { .. }) {
-            continue;
-        }
         let expected = expected(answer).ok_or_else(|| format!("{path}: case {place} has no whole answer"))?;
-        let inputs = Inputs::from(case);
-        lent.call(&inputs);
+        lent.call(case);
         if !lent.is(&expected) {
-            let report = report(&inputs, "the file:", Some(&expected), &lent);
+            let report = report(case, "the file:", Some(&expected), &lent);
             return Err(format!("{path}: case {place} differs\n{report}"));
         }
-        same += 1;
     }
-    println!("{path}: {same} verify cases answered as the file says, peer buffers byte for byte");
+    let judged = cases.iter().filter(|(case, _)| matches!(case, Case::Judge { .. })).count();
+    let verified = cases.len() - judged;
+    println!(
+        "{path}: {verified} verify and {judged} judge cases answered as the file says, peer buffers byte for byte"
+    );
     Ok(())
 }
 

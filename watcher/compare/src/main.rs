@@ -3,7 +3,9 @@
 mod damage;
 mod difference;
 mod file;
-mod inputs;
+mod kind;
+mod lent;
+mod permute;
 mod report;
 mod run;
 mod tally;
@@ -11,20 +13,38 @@ mod tally;
 use std::process::ExitCode;
 
 use cases::case;
-use damage::damaged;
+use damage::{damaged, judge_damaged};
+use kind::{as_judge, as_verify};
+use oracle::file::Case;
+use permute::permuted;
 
 const USAGE: &str = "compare COMMAND
-  cases SEED COUNT [THREADS]     generated cases, as verify cases, through the oracle and the library
-  damaged SEED COUNT [THREADS]   the same cases with damaged bytes
-  file FILE                      the verify cases of a file, against the answers in it
+  cases SEED COUNT [THREADS]           generated cases, as verify cases, through the oracle and the library
+  damaged SEED COUNT [THREADS]         the same cases with damaged bytes
+  judge SEED COUNT [THREADS]           generated cases, as judge cases
+  judge-damaged SEED COUNT [THREADS]   the same cases with damaged bytes
+  permutations SEED COUNT [THREADS]    those of the judge cases with short lists, in every order of the entries
+  file FILE                            the cases of a file, against the answers in it
 THREADS is 1 or 2, by default 2";
+
+/// What a command compares: a name, and the cases of a seed at a place.
+type Comparison = (&'static str, fn(u64, u64) -> Vec<Case>);
+
+const CASES: Comparison = ("generated", |seed, place| vec![as_verify(case(seed, place))]);
+const DAMAGED: Comparison = ("damaged", |seed, place| vec![as_verify(damaged(seed, place))]);
+const JUDGE: Comparison = ("generated judge", |seed, place| vec![as_judge(case(seed, place))]);
+const JUDGE_DAMAGED: Comparison = ("damaged judge", |seed, place| vec![judge_damaged(seed, place)]);
+const PERMUTATIONS: Comparison = ("permuted", permuted);
 
 fn main() -> ExitCode {
     let arguments: Vec<String> = std::env::args().skip(1).collect();
     let words: Vec<&str> = arguments.iter().map(String::as_str).collect();
     let result = match words[..] {
-        ["cases", ref words @ ..] => range(words).and_then(|range| run::run("generated", case, &range)),
-        ["damaged", ref words @ ..] => range(words).and_then(|range| run::run("damaged", damaged, &range)),
+        ["cases", ref words @ ..] => run(CASES, words),
+        ["damaged", ref words @ ..] => run(DAMAGED, words),
+        ["judge", ref words @ ..] => run(JUDGE, words),
+        ["judge-damaged", ref words @ ..] => run(JUDGE_DAMAGED, words),
+        ["permutations", ref words @ ..] => run(PERMUTATIONS, words),
         ["file", path] => file::run(path),
         _ => Err(USAGE.to_string()),
     };
@@ -35,6 +55,10 @@ fn main() -> ExitCode {
             ExitCode::FAILURE
         }
     }
+}
+
+fn run((name, make): Comparison, words: &[&str]) -> Result<(), String> {
+    run::run(name, make, &range(words)?)
 }
 
 /// SEED COUNT [THREADS]

@@ -2,17 +2,14 @@
 
 use std::fmt::Write;
 
-use crate::inputs::{Expected, FILL, Inputs, Lent};
+use oracle::file::Case;
+
+use crate::lent::{Expected, FILL, Lent};
 
 /// The case in hex, what was expected and what the library left behind.
-pub fn report(inputs: &Inputs<'_>, heading: &str, expected: Option<&Expected>, lent: &Lent) -> String {
-    let mut lines = vec![
-        format!("settings {}", hex(inputs.settings)),
-        format!("schedule {}", hex(inputs.schedule)),
-        format!("record {}", hex(inputs.record)),
-        format!("peer buffer of {} bytes", inputs.peer_buffer),
-        heading.to_string(),
-    ];
+pub fn report(case: &Case, heading: &str, expected: Option<&Expected>, lent: &Lent) -> String {
+    let mut lines = inputs(case);
+    lines.push(heading.to_string());
     if let Some(expected) = expected {
         lines.push(format!("  number {}, answer {}", expected.number, hex(&expected.answer)));
         lines.push(format!("  peer buffer's front {}", hex(expected.unknown.as_flattened())));
@@ -21,6 +18,22 @@ pub fn report(inputs: &Inputs<'_>, heading: &str, expected: Option<&Expected>, l
     lines.push(format!("  number {}, answer {}", lent.number, hex(&lent.answer)));
     lines.push(format!("  peer buffer's front {}", hex(touched(&lent.peers))));
     lines.join("\n")
+}
+
+fn inputs(case: &Case) -> Vec<String> {
+    let (Case::Verify { settings, schedule, record, peer_buffer }
+    | Case::Judge { settings, schedule, record, peer_buffer, .. }) = case;
+    let mut lines = vec![
+        format!("settings {}", hex(settings)),
+        format!("schedule {}", hex(schedule)),
+        format!("record {}", hex(record)),
+        format!("peer buffer of {peer_buffer} bytes"),
+    ];
+    if let Case::Judge { leader, presence, list, .. } = case {
+        lines.push(format!("leader {leader}, presence {presence}"));
+        lines.push(format!("list {}", hex(list)));
+    }
+    lines
 }
 
 /// The buffer up to the last byte that isn't what it was filled with.

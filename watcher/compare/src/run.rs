@@ -8,7 +8,7 @@ use std::time::Instant;
 use oracle::file::Case;
 
 use crate::difference::compare;
-use crate::inputs::Lent;
+use crate::lent::Lent;
 use crate::tally::Tally;
 
 /// The cases of a seed at the places under `count`.
@@ -32,7 +32,7 @@ struct Shared {
 }
 
 /// Compares the cases that `make` gives by seed and place; fails with the first difference.
-pub fn run(name: &str, make: fn(u64, u64) -> Case, range: &Range) -> Result<(), String> {
+pub fn run(name: &str, make: fn(u64, u64) -> Vec<Case>, range: &Range) -> Result<(), String> {
     let start = Instant::now();
     let shared = Shared { next: AtomicU64::new(0), end: AtomicU64::new(range.count), found: Mutex::new(None) };
     let mut tally = Tally::default();
@@ -44,18 +44,19 @@ pub fn run(name: &str, make: fn(u64, u64) -> Case, range: &Range) -> Result<(), 
         }
     });
     if let Some((place, report)) = shared.found.into_inner().expect("no thread panicked") {
-        return Err(format!("seed {}, {name} case {place} differs\n{report}", range.seed));
+        return Err(format!("seed {}, a {name} case at place {place} differs\n{report}", range.seed));
     }
     tally.print();
     let seconds = start.elapsed().as_secs_f64();
     let Range { seed, count, threads } = range;
-    println!("seed {seed}: {count} {name} cases in {seconds:.1} s, threads {threads}: no difference");
+    let cases = tally.cases();
+    println!("seed {seed}, {count} places: {cases} {name} cases in {seconds:.1} s, threads {threads}: no difference");
     Ok(())
 }
 
 impl Shared {
     /// Takes blocks of places until all are taken or a lower place differs.
-    fn work(&self, make: impl Fn(u64) -> Case) -> Tally {
+    fn work(&self, make: impl Fn(u64) -> Vec<Case>) -> Tally {
         let mut tally = Tally::default();
         let mut lent = Lent::new();
         loop {
@@ -67,10 +68,11 @@ impl Shared {
                 if place >= self.end.load(Ordering::Relaxed) {
                     break;
                 }
-                let case = make(place);
-                match compare(&case, &mut lent) {
-                    Ok(agreed) => tally.add(&case, &agreed),
-                    Err(report) => self.found(place, report),
+                for case in make(place) {
+                    match compare(&case, &mut lent) {
+                        Ok(agreed) => tally.add(&case, &agreed),
+                        Err(report) => self.found(place, report),
+                    }
                 }
             }
         }

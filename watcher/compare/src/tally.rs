@@ -31,6 +31,10 @@ impl Tally {
         }
     }
 
+    pub fn cases(&self) -> u64 {
+        sum(self.compared.iter()) + sum(self.panicked.iter())
+    }
+
     pub fn print(&self) {
         for (label, count) in &self.compared {
             println!("{count:9} {label}");

@@ -1,8 +1,11 @@
 //! What the numbers and the 114 bytes of a call mean.
 
+mod invalid;
+
 use crate::ANSWER;
 use crate::reasons::{
-    AnchorStageRole, IllFormedReason, PeerCount, PointMap, Refusal, StructureIssue, UninitVset, Verified, VerifyError,
+    AnchorStageRole, IllFormedReason, PeerCount, PointMap, Refusal, StructureIssue, UninitVset, Verdict, Verified,
+    VerifyError,
 };
 
 /// The refusal with this number.
@@ -13,16 +16,32 @@ pub fn refusal(number: u8) -> Option<Refusal> {
         3 => Refusal::Record,
         4 => Refusal::Domain,
         5 => Refusal::Short,
+        6 => Refusal::Horizon,
+        7 => Refusal::Entries,
+        8 => Refusal::Mismatch,
+        9 => Refusal::Uncovered,
         _ => return None,
     })
 }
 
-/// The verdict of an answer, with its unknown peers at the front of the peer buffer.
+/// The verdict of verifying, with its unknown peers at the front of the peer buffer.
 pub fn verified<'p>(answer: &[u8; ANSWER], peers: &'p [u8]) -> Option<Verified<'p>> {
     Some(match answer[0] {
         5 => Verified::Passed,
         4 => Verified::Failed(VerifyError::Fail(uninit_vset(answer)?)),
         3 => Verified::Failed(VerifyError::IllFormed(ill_formed(answer, peers)?)),
+        _ => return None,
+    })
+}
+
+/// The verdict of judging, likewise.
+pub fn verdict<'p>(answer: &[u8; ANSWER], peers: &'p [u8]) -> Option<Verdict<'p>> {
+    Some(match answer[0] {
+        4 => Verdict::Fail(uninit_vset(answer)?),
+        3 => Verdict::IllFormed(ill_formed(answer, peers)?),
+        2 => Verdict::Invalid(invalid::reason(answer)?),
+        1 => Verdict::TransInvalid(invalid::dependency(answer)?),
+        0 => Verdict::Valid,
         _ => return None,
     })
 }
@@ -106,10 +125,10 @@ mod tests {
     use AnchorStageRole::{Proof, Trigger};
     use PointMap::{Evidence, Includes, Witness};
 
-    const NONE: u8 = 255;
+    pub const NONE: u8 = 255;
 
     /// Kind, reason, map, role, first and second number, laid out.
-    fn laid_out(kind: u8, reason: u8, map: u8, role: u8, first: u32, second: u32) -> [u8; ANSWER] {
+    pub fn laid_out(kind: u8, reason: u8, map: u8, role: u8, first: u32, second: u32) -> [u8; ANSWER] {
         let mut answer = [0; ANSWER];
         (answer[0], answer[1], answer[70], answer[71]) = (kind, reason, map, role);
         answer[72..76].copy_from_slice(&first.to_le_bytes());
@@ -120,23 +139,26 @@ mod tests {
     fn assert_ill_formed(answer: &[u8; ANSWER], reason: IllFormedReason<'_>) {
         assert_eq!(reason.number(), answer[1]);
         assert_eq!(verified(answer, &[]), Some(Verified::Failed(VerifyError::IllFormed(reason))));
+        assert_eq!(verdict(answer, &[]), Some(Verdict::IllFormed(reason)));
     }
 
     #[test]
     fn numbers_are_refusals() {
-        for number in 1..=5 {
+        for number in 1..=9 {
             assert_eq!(refusal(number).map(Refusal::number), Some(number));
         }
         assert_eq!(refusal(0), None);
-        assert_eq!(refusal(6), None);
+        assert_eq!(refusal(10), None);
     }
 
     #[test]
-    fn passed_and_fail() {
+    fn passed_valid_and_fail() {
         assert_eq!(verified(&laid_out(5, 0, NONE, NONE, 0, 0), &[]), Some(Verified::Passed));
+        assert_eq!(verdict(&laid_out(0, 0, NONE, NONE, 0, 0), &[]), Some(Verdict::Valid));
         let vset = UninitVset { len: 2, round: 70_000, map: Witness };
         let fail = laid_out(4, 0, 2, NONE, 2, 70_000);
         assert_eq!(verified(&fail, &[]), Some(Verified::Failed(VerifyError::Fail(vset))));
+        assert_eq!(verdict(&fail, &[]), Some(Verdict::Fail(vset)));
     }
 
     #[test]
@@ -196,7 +218,12 @@ mod tests {
 
     #[test]
     fn other_bytes_are_no_answer() {
-        assert_eq!(verified(&laid_out(6, 0, NONE, NONE, 0, 0), &[]), None);
+        for kind in [0, 1, 2, 6] {
+            assert_eq!(verified(&laid_out(kind, 0, NONE, NONE, 0, 0), &[]), None);
+        }
+        for kind in [1, 2, 5, 6] {
+            assert_eq!(verdict(&laid_out(kind, 0, NONE, NONE, 0, 0), &[]), None);
+        }
         assert_eq!(verified(&laid_out(3, 17, NONE, NONE, 0, 0), &[]), None);
         assert_eq!(verified(&laid_out(3, 11, NONE, NONE, 0, 0), &[]), None);
         assert_eq!(verified(&laid_out(3, 7, NONE, NONE, 8, 0), &[]), None);

@@ -1,14 +1,16 @@
 //! Wutherdish for Rust hosts: the proved calls on byte slices, with their answers as Rust enums.
 //!
-//! What the bytes of settings, schedules and records mean is laid down in document 01.
+//! What the bytes of settings, schedules, records and lists mean is laid down in document 01.
 
 mod answer;
+mod invalid;
 pub mod raw;
 mod reasons;
 
+pub use invalid::{Digest, IndirectLink, InvalidDependency, InvalidReason, PointId, Through};
 pub use reasons::{
-    AnchorStageRole, IllFormedReason, Peer, PeerCount, PointMap, Refusal, StructureIssue, UninitVset, Verified,
-    VerifyError,
+    AnchorStageRole, IllFormedReason, Peer, PeerCount, PointMap, Refusal, StructureIssue, UninitVset, Verdict,
+    Verified, VerifyError,
 };
 
 /// Peer buffers of this length or more are enough: 255 peers of 32 bytes.
@@ -52,6 +54,64 @@ pub fn verify_into(settings: &[u8], schedule: &[u8], record: &[u8], peers: &mut 
             schedule.len(),
             record.as_ptr(),
             record.len(),
+            peers.as_mut_ptr(),
+            peers.len(),
+            answer,
+        )
+    }
+}
+
+/// Judges a point by the list of its dependencies, in the order of their arrival. `leader` is 1 if the point's author
+/// leads its round, else 0; `presence` says how many of the point's round and the two before it, counted in that order,
+/// are in the DAG. Unknown peers are handed back as [`verify`] does.
+///
+/// ```
+/// use watcher::{PEER_BUFFER, Refusal, judge};
+///
+/// let mut peers = [0; PEER_BUFFER];
+/// assert_eq!(judge(&[], &[], &[], 0, 3, &[], &mut peers), Err(Refusal::Settings));
+/// ```
+pub fn judge<'p>(
+    settings: &[u8],
+    schedule: &[u8],
+    record: &[u8],
+    leader: u8,
+    presence: u8,
+    list: &[u8],
+    peers: &'p mut [u8],
+) -> Result<Verdict<'p>, Refusal> {
+    let mut bytes = [0; ANSWER];
+    match judge_into(settings, schedule, record, leader, presence, list, peers, &mut bytes) {
+        0 => Ok(answer::verdict(&bytes, peers).expect("the call's contract: an answer of judging")),
+        number => Err(answer::refusal(number).expect("the call's contract: a number from 1 to 9")),
+    }
+}
+
+/// The same with the answer's bytes, as [`verify_into`].
+#[expect(clippy::too_many_arguments, reason = "those of the call")]
+pub fn judge_into(
+    settings: &[u8],
+    schedule: &[u8],
+    record: &[u8],
+    leader: u8,
+    presence: u8,
+    list: &[u8],
+    peers: &mut [u8],
+    answer: &mut [u8; ANSWER],
+) -> u8 {
+    // SAFETY: as in `verify_into`.
+    unsafe {
+        raw::wutherdish_judge(
+            settings.as_ptr(),
+            settings.len(),
+            schedule.as_ptr(),
+            schedule.len(),
+            record.as_ptr(),
+            record.len(),
+            leader,
+            presence,
+            list.as_ptr(),
+            list.len(),
             peers.as_mut_ptr(),
             peers.len(),
             answer,

@@ -15,4 +15,20 @@ unsafe extern "C" {
         peers_len: usize,
         answer: *mut [u8; ANSWER],
     ) -> u8;
+
+    pub unsafe fn wutherdish_judge(
+        settings: *const u8,
+        settings_len: usize,
+        schedule: *const u8,
+        schedule_len: usize,
+        record: *const u8,
+        record_len: usize,
+        leader: u8,
+        presence: u8,
+        list: *const u8,
+        list_len: usize,
+        peers: *mut u8,
+        peers_len: usize,
+        answer: *mut [u8; ANSWER],
+    ) -> u8;
 }

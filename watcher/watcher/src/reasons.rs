@@ -3,6 +3,8 @@
 use std::error::Error;
 use std::fmt::{self, Display, Formatter};
 
+use crate::invalid::{InvalidDependency, InvalidReason};
+
 /// A peer's id.
 pub type Peer = [u8; 32];
 
@@ -15,10 +17,18 @@ pub enum Refusal {
     Schedule = 2,
     /// The point record is unreadable.
     Record = 3,
-    /// The point's round or a time of it is outside the domain.
+    /// The point's round or a time of it, the leader flag or the presence is outside the domain.
     Domain = 4,
     /// The peer buffer is under [`PEER_BUFFER`](crate::PEER_BUFFER) bytes.
     Short = 5,
+    /// The point's round or the fourth after it is in no span of the schedule.
+    Horizon = 6,
+    /// The list is unreadable or outside the domain.
+    Entries = 7,
+    /// The list's entries are not the point's dependencies.
+    Mismatch = 8,
+    /// The previous point's entry is not certified.
+    Uncovered = 9,
 }
 
 /// `Result<(), VerifyError>` of the source.
@@ -32,6 +42,16 @@ pub enum Verified<'p> {
 pub enum VerifyError<'p> {
     Fail(UninitVset),
     IllFormed(IllFormedReason<'p>),
+}
+
+/// What judging answers: `VerifyError` or `ValidateResult` of the source.
+#[derive(Clone, Copy, PartialEq, Eq, Debug)]
+pub enum Verdict<'p> {
+    Fail(UninitVset),
+    IllFormed(IllFormedReason<'p>),
+    Invalid(InvalidReason),
+    TransInvalid(InvalidDependency),
+    Valid,
 }
 
 /// A peer set of a length that verification can't use, at a round, for a map.
@@ -147,8 +167,12 @@ impl Display for Refusal {
             Self::Settings => "settings are unreadable or outside their limits",
             Self::Schedule => "the schedule is unreadable",
             Self::Record => "the point record is unreadable",
-            Self::Domain => "the point's round or a time of it is outside the domain",
+            Self::Domain => "the point's round or a time of it, the leader flag or the presence is outside the domain",
             Self::Short => "the peer buffer is too short",
+            Self::Horizon => "the point's round or the fourth after it is in no span of the schedule",
+            Self::Entries => "the list is unreadable or outside the domain",
+            Self::Mismatch => "the list's entries are not the point's dependencies",
+            Self::Uncovered => "the previous point's entry is not certified",
         };
         write!(f, "{}: {text}", self.number())
     }

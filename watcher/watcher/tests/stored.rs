@@ -1,10 +1,11 @@
-//! The verify cases of oracle/stored/answers.bin, laid out as its README says: what the Rust answered.
+//! The cases of oracle/stored/answers.bin, laid out as its README says: what the Rust answered.
 
-use watcher::{ANSWER, Verified, VerifyError, verify, verify_into};
+use watcher::{ANSWER, Verdict, Verified, VerifyError, judge, judge_into, verify, verify_into};
 
 const STORED: &str = concat!(env!("CARGO_MANIFEST_DIR"), "/../../oracle/stored/answers.bin");
 const FILL: u8 = 0xA5;
 const VERIFY: u8 = 1;
+const JUDGE: u8 = 2;
 
 /// The bytes that are left to read.
 struct Rest<'a>(&'a [u8]);
@@ -42,40 +43,70 @@ fn stored_answer(blob: &[u8]) -> (u8, [u8; ANSWER], &[u8]) {
     (blob[0], answer, &blob[155..])
 }
 
-fn check(blobs: &[&[u8]]) {
+fn check_verify(blobs: &[&[u8]]) {
     let [settings, schedule, record, buffer, stored] = blobs[..] else { panic!("a verify case has five blobs") };
     let mut peers = vec![FILL; number(buffer)];
     let mut answer = [FILL; ANSWER];
     let given = verify_into(settings, schedule, record, &mut peers, &mut answer);
-    let (number, expected, unknown) = stored_answer(stored);
-    assert_eq!(given, number);
-    assert_eq!(answer, expected);
-    assert_eq!(peers[..unknown.len()], *unknown);
-    assert!(peers[unknown.len()..].iter().all(|byte| *byte == FILL));
-    check_enum(verify(settings, schedule, record, &mut peers), number, &expected);
-}
-
-fn check_enum(result: Result<Verified<'_>, watcher::Refusal>, number: u8, answer: &[u8; ANSWER]) {
-    let (kind, reason) = match result {
-        Err(refusal) => return assert_eq!(refusal.number(), number),
+    check_bytes(stored, given, &answer, &peers);
+    let kind_and_reason = match verify(settings, schedule, record, &mut peers) {
+        Err(refusal) => return assert_eq!(refusal.number(), given),
         Ok(Verified::Passed) => (5, 0),
         Ok(Verified::Failed(VerifyError::Fail(_))) => (4, 0),
         Ok(Verified::Failed(VerifyError::IllFormed(reason))) => (3, reason.number()),
     };
-    assert_eq!((number, kind, reason), (0, answer[0], answer[1]));
+    assert_eq!((given, kind_and_reason), (0, (answer[0], answer[1])));
 }
 
-#[test]
-fn answers_as_the_rust_did() {
+fn check_judge(blobs: &[&[u8]]) {
+    let [settings, schedule, record, &[leader, presence], list, buffer, stored] = blobs[..] else {
+        panic!("a judge case has seven blobs")
+    };
+    let mut peers = vec![FILL; number(buffer)];
+    let mut answer = [FILL; ANSWER];
+    let given = judge_into(settings, schedule, record, leader, presence, list, &mut peers, &mut answer);
+    check_bytes(stored, given, &answer, &peers);
+    let kind_and_reason = match judge(settings, schedule, record, leader, presence, list, &mut peers) {
+        Err(refusal) => return assert_eq!(refusal.number(), given),
+        Ok(Verdict::Fail(_)) => (4, 0),
+        Ok(Verdict::IllFormed(reason)) => (3, reason.number()),
+        Ok(Verdict::Invalid(reason)) => (2, reason.number()),
+        Ok(Verdict::TransInvalid(_)) => (1, 0),
+        Ok(Verdict::Valid) => (0, 0),
+    };
+    assert_eq!((given, kind_and_reason), (0, (answer[0], answer[1])));
+}
+
+/// Number, answer and every byte of the peer buffer are as stored.
+fn check_bytes(stored: &[u8], given: u8, answer: &[u8; ANSWER], peers: &[u8]) {
+    let (number, expected, unknown) = stored_answer(stored);
+    assert_eq!(given, number);
+    assert_eq!(*answer, expected);
+    assert_eq!(peers[..unknown.len()], *unknown);
+    assert!(peers[unknown.len()..].iter().all(|byte| *byte == FILL));
+}
+
+/// Runs the cases of one kind.
+fn answers_as_the_rust_did(kind: u8, check: fn(&[&[u8]])) {
     let bytes = std::fs::read(STORED).expect("the stored list is in oracle/stored");
     let mut rest = Rest(&bytes);
     let mut checked = 0;
     while !rest.0.is_empty() {
-        let (kind, blobs) = rest.case();
-        if kind == VERIFY {
+        let (other, blobs) = rest.case();
+        if other == kind {
             check(&blobs);
             checked += 1;
         }
     }
     assert!(checked > 100, "only {checked} cases were checked");
+}
+
+#[test]
+fn verifying() {
+    answers_as_the_rust_did(VERIFY, check_verify);
+}
+
+#[test]
+fn judging() {
+    answers_as_the_rust_did(JUDGE, check_judge);
 }

@@ -20,17 +20,8 @@ enum-known-verified c = search needs
 enum-known-error : tie.Need-enum-known-error
 enum-known-error c = search needs
 
-map-number-requires : tie.Need-map-number-requires
-map-number-requires c κs = search needs
-
-cast-carried : tie.Need-cast-carried
-cast-carried c = search needs
-
-carried-requires-2 : tie.Need-carried-requires-2
-carried-requires-2 c κs = search needs
-
-plain-requires-2 : tie.Need-plain-requires-2
-plain-requires-2 c κs = search needs
+of-fail-requires : tie.Need-of-fail-requires
+of-fail-requires c κs = search needs
 
 enum-known-error-2 : tie.Need-enum-known-error-2
 enum-known-error-2 c = search needs
@@ -41,22 +32,21 @@ number-requires c κs = search needs
 of-ill-formed-requires : tie.Need-of-ill-formed-requires
 of-ill-formed-requires c κs = search needs
 
-plain-requires-3 : tie.Need-plain-requires-3
-plain-requires-3 c κs = search needs
+plain-requires-2 : tie.Need-plain-requires-2
+plain-requires-2 c κs = search needs
 
 returns : tie.Need-returns
 returns c = c .plain .ensures ∙ (ap (plain 5 0) (c .before .carried .ensures) ∙ rw (c .before .before .enum-told .given .1))
 
 returns-2 : tie.Need-returns-2
 returns-2 c =
-    let e = c .before .before .before .before .before in
-    c .plain2 .ensures
-    ∙ (ap (plain 4 0) (c .before .carried2 .ensures) ∙ rw (c .before .before .before .map-number .ensures, e .before .before .before .verified .given .1, e .error .given .1))
+    let e = c .before .before in
+    c .of-fail .ensures ∙ rw (e .before .before .before .verified .given .1, e .error .given .1)
 
 returns-3 : tie.Need-returns-3
 returns-3 c =
     let e = c .before .before .before .before in
-    c .plain3 .ensures
+    c .plain2 .ensures
     ∙ (ap (plain 3 (c .before .before .number .result)) (c .before .of-ill-formed .ensures) ∙ rw (c .before .before .number .ensures, e .before .before .before .verified .given .1, e .error2 .given .1))
 
 pub of-verified-spec : {M : Type 1} → statement M
@@ -68,14 +58,11 @@ of-verified-spec =
     plain-requires
     enum-known-verified
     enum-known-error
-    map-number-requires
-    cast-carried
-    carried-requires-2
-    plain-requires-2
+    of-fail-requires
     enum-known-error-2
     number-requires
     of-ill-formed-requires
-    plain-requires-3
+    plain-requires-2
     returns
     returns-2
     returns-3)

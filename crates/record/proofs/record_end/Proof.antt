@@ -9,32 +9,36 @@ use denote.Ref.{now}
 use borrow.Author.Needs.{needs}
 use borrow.Author.Tests.{not-true, not-false}
 use Rattle.base.specs.Base.{pick}
-use Rattle.record.specs.Record.{rows, nextAt, endFrom, recordEnd}
+use Rattle.record.specs.Record.{rows, rowOf, nextAt, endFrom, recordEnd}
 use Rattle.record.proofs.Laws.{next-within, end-start, end-step, end-last}
 use Rattle.record.proofs.record_end.Statement.{statement}
 use Rattle.record.proofs.record_end.Tie as tie
 
 abbrev Inv-loop : tie.InvT-loop
-Inv-loop s k₀ at₀ k at = (k ≤ 9) × (at ≤ length s) × (recordEnd s ≡ endFrom (drop k rows) s at)
+Inv-loop s code k₀ at₀ k at = (k ≤ 9) × (at ≤ length s) × (recordEnd s ≡ endFrom (drop k rows) s at)
 
 abbrev μ-loop : tie.MeasureT-loop
-μ-loop s k₀ at₀ k at = 9 - k
+μ-loop s code k₀ at₀ k at = 9 - k
 
 -- one turn: the field of row k, and behind it those of the rows from k + 1 on
 turn : (c : tie.After-field-ok Inv-loop μ-loop) →
     let l = c .before .before .before in
     let s = now (l .before .before .args .s) in
     recordEnd s ≡ pick (c .field-ok .result) (endFrom (drop (l .loop .k + 1) rows) s (nextAt s (l .loop .at))) none
+unfolding rowOf rows
 turn c =
     let l = c .before .before .before in
     let s = now (l .before .before .args .s) in
-    rw (c .field-ok .ensures, c .before .row-at .ensures, add-one (l .loop .k)) (l .loop .inv .2 ∙ end-step s (l .loop .at) (l .loop .k) (omega arith))
+    rw (c .field-ok .ensures, add-one (l .loop .k)) (l .loop .inv .2 ∙ end-step s (l .loop .at) (l .loop .k) (omega arith))
 
 loop-holds : tie.Need-loop-holds Inv-loop μ-loop
 loop-holds c = (search needs, search needs, end-start _)
 
-row-at-requires : tie.Need-row-at-requires Inv-loop μ-loop
-row-at-requires c κs = search needs
+mul-row : tie.Need-mul-row Inv-loop μ-loop
+mul-row c = search needs
+
+array-copy-out-row : tie.Need-array-copy-out-row Inv-loop μ-loop
+array-copy-out-row c = search needs
 
 field-ok-requires : tie.Need-field-ok-requires Inv-loop μ-loop
 field-ok-requires c κs = search needs
@@ -71,7 +75,8 @@ record-end-spec =
     Inv-loop
     μ-loop
     loop-holds
-    row-at-requires
+    mul-row
+    array-copy-out-row
     field-ok-requires
     returns
     next-requires

@@ -10,13 +10,12 @@ use tycho::models::{Cert, Digest, Round};
 use tycho::{FastHashMap, PeerId};
 
 use super::Listed;
-use super::convert::dag_point;
 use crate::numbers;
 use crate::value::{Id, Point, Through, back};
 
 /// An entry that arrives in its turn, with its certificate.
 pub fn arrival(listed: &Listed, turns: &Rc<Turns>, turn: usize) -> (DagPointFuture, Cert) {
-    (DagPointFuture::in_turn(dag_point(&listed.entry, &listed.cert), turns, turn), listed.cert.clone())
+    (DagPointFuture::in_turn(listed.point.clone(), turns, turn), listed.cert.clone())
 }
 
 /// The direct entries as rounds of a DAG.

@@ -1,0 +1,236 @@
+-- Laws of the call: the walk over a list gives what the definitions say of its direct and indirect entries, and the numbers and the
+-- verdict in their order.
+use Prim.Native.Nat.{ℕ, _≤_}
+use native.Mathlib.Omega.{arith}
+use mathlib.Core.Path.{_≡_, refl, ap, sym, _∙_}
+use mathlib.Core.Bool.{Bool, true, false, not, _&&_, _||_}
+use mathlib.Core.Option.{Option, none, some}
+use mathlib.Core.List.{List, [], _∷_}
+use lib.Dec.{eqb}
+use borrow.Author.Tests.{eq-eqb, ne-eqb, le-leb}
+use Rattle.base.specs.Base.{pick, isSome}
+use Rattle.point.specs.Point.{PointInfo, prevDigest, prevIdWith, prevId}
+use Rattle.point.specs.declared.data.AnchorStageRole.{AnchorStageRole}
+use Rattle.point.specs.declared.data.AnchorStageRole.the-variants.{Proof, Trigger}
+use Rattle.point.specs.declared.data.PointMap.the-variants as case-map
+use Rattle.schedule.specs.Settings.{Settings}
+use Rattle.reasons.specs.Invalid.{NoRoundInDag}
+use Rattle.reasons.specs.Verdict.{Valid, verdictOf}
+use Rattle.reasons.specs.declared.ill_formed.VerifyError.{VerifyError}
+use Rattle.reasons.specs.declared.verdict.Verdict as code-verdict
+use Rattle.verifier.specs.Verify.{isEmpty, scheduled, verify}
+use Rattle.verifier.specs.Found.{bufferWith}
+use Rattle.verifier.specs.DagPoint.{Entry, IndirectEntry, pointView}
+use Rattle.verifier.specs.Validate.{isInvalid, overLists, presenceReason, validate}
+use Rattle.verify.specs.Call.{Input, Tested, refused, taken, verifyBuffer}
+use Rattle.check_ill_formed.specs.WaveChecked.{waveChecked}
+use Rattle.check_ill_formed.specs.declared.WaveChecked.{WaveChecked}
+use Rattle.entries.specs.Entries.{Listed, readList, directThen, directs, indirectThen, indirects}
+use Rattle.validate.specs.Validated.{Judging, listedStep, listedFold, resultOf}
+use Rattle.validate.proofs.Laws.{listed-over-lists}
+use Rattle.mismatch.specs.Mismatch.{mismatch, uncovers, anyUncovers, entriesIn, uncovered}
+use Rattle.judge.specs.Walk.{Walk, Viewed, viewed, stepAs, prevFrom, prevIn, walkStep, walkFold, walkWith, walkStart}
+use Rattle.judge.specs.Judge.{JudgeAnswer, Number, Given, ofError, ofResult, Before, needed, beforeWave, beforeWith, before, judgeFrom, overList, judgeWith, judgeAnswerOf}
+use Rattle.judge.specs.declared.JudgeAnswer as code-answer
+use Rattle.judge.specs.declared.JudgeAnswer.the-variants as case-answer
+
+-- ---- the previous point over the walk
+
+pub prev-in : (p : PointInfo) → prevIn (pointView p) ≡ prevId p
+unfolding pointView prevId
+prev-in p = go (prevDigest p)
+  where
+    go : (o : Option ℕ) → prevFrom (p .id) o ≡ prevIdWith p o
+    go none = refl
+    go (some d) = refl
+
+or-none : (a : Bool) → a ≡ (a || (false || false))
+or-none true = refl
+or-none false = refl
+
+-- an entry stands before the direct ones, or before the indirect ones
+or-direct : (a u d i : Bool) → ((a || u) || (d || i)) ≡ (a || ((u || d) || i))
+or-direct true u d i = refl
+or-direct false true d i = refl
+or-direct false false d i = refl
+
+or-indirect : (a u d i : Bool) → ((a || u) || (d || i)) ≡ (a || (d || (u || i)))
+or-indirect true u d i = refl
+or-indirect false true true i = refl
+or-indirect false true false i = refl
+or-indirect false false d i = refl
+
+module _ (c : Settings) (required : Bool) (v : Viewed) where
+  walk-uncovered : (l : List Listed) (w : Walk) →
+      walkFold c required v w l .uncovered ≡ (w .uncovered || uncovered (prevIn (v .view)) (directs l) (indirects l))
+  unfolding walkFold walkStep uncovered anyUncovers entriesIn directs indirects
+  walk-uncovered [] w = or-none (w .uncovered)
+  walk-uncovered (x ∷ l) w = walk-uncovered l (walkStep c required v w x) ∙ go (x .aim)
+    where
+      go : (aim : Option AnchorStageRole) →
+          ((w .uncovered || uncovers (prevIn (v .view)) (x .entry)) || uncovered (prevIn (v .view)) (directs l) (indirects l))
+          ≡ (w .uncovered || uncovered (prevIn (v .view)) (directThen aim (x .entry) (directs l)) (indirectThen aim (x .entry) (indirects l)))
+      go none =
+          or-direct
+          (w .uncovered)
+          (uncovers (prevIn (v .view)) (x .entry))
+          (anyUncovers (prevIn (v .view)) (directs l))
+          (anyUncovers (prevIn (v .view)) (entriesIn (indirects l)))
+      go (some g) =
+          or-indirect
+          (w .uncovered)
+          (uncovers (prevIn (v .view)) (x .entry))
+          (anyUncovers (prevIn (v .view)) (directs l))
+          (anyUncovers (prevIn (v .view)) (entriesIn (indirects l)))
+
+-- ---- judging over the walk
+
+module _ (c : Settings) (required : Bool) (p : PointInfo) where
+  step-listed : (aim : Option AnchorStageRole) (j : Judging) (e : Entry) → stepAs aim c required (viewed p) j e ≡ listedStep aim c required p j e
+  unfolding viewed
+  step-listed none j e = refl
+  step-listed (some Proof) j e = refl
+  step-listed (some Trigger) j e = refl
+
+  walk-judging : (l : List Listed) (w : Walk) → walkFold c required (viewed p) w l .judging ≡ listedFold c required p (w .judging) l
+  unfolding walkFold walkStep listedFold
+  walk-judging [] w = refl
+  walk-judging (x ∷ l) w =
+      walk-judging l (walkStep c required (viewed p) w x)
+      ∙ ap (λ (j : Judging). listedFold c required p j l) (step-listed (x .aim) (w .judging) (x .entry))
+
+  -- over a list that was read
+  walked-result : (s : List ℕ) (l : List Listed) → readList s ≡ some l →
+      resultOf (walkFold c required (viewed p) walkStart l .judging) ≡ overLists c required p (directs l) (indirects l)
+  unfolding readList
+  walked-result s l h =
+      ap resultOf (walk-judging l walkStart) ∙ listed-over-lists c required p 65535 false s l h
+
+  walked-uncovered : (l : List Listed) → walkFold c required (viewed p) walkStart l .uncovered ≡ uncovered (prevId p) (directs l) (indirects l)
+  unfolding viewed
+  walked-uncovered l =
+      walk-uncovered c required (viewed p) l walkStart
+      ∙ ap (λ o. uncovered o (directs l) (indirects l)) (prev-in p)
+
+-- ---- the answer over a list, from the walk and the tests that led there
+
+-- what a test told of a list, if it was read
+abbrev pub Mismatch : ℕ → PointInfo → Option (List Listed) → Bool → Type 0
+Mismatch presence p o b = (l : List Listed) → o ≡ some l → b ≡ mismatch presence p (directs l) (indirects l)
+
+module _ (c : Settings) (required : Bool) (p : PointInfo) where
+  -- what the walk over a list came to, if that was read
+  abbrev pub Walked : Option (List Listed) → Option Walk → Type 0
+  Walked o w = w ≡ walkWith c required (viewed p) walkStart o
+
+  pub was-read : (o : Option (List Listed)) (w : Walk) → Walked o (some w) → isSome o ≡ true
+  was-read none w h = let z : _≡_ {A = ℕ} 0 1 = cc in absurd (omega arith)
+  was-read (some l) w h = refl
+
+  walk-is : (l : List Listed) (w : Walk) → Walked (some l) (some w) → w ≡ walkFold c required (viewed p) walkStart l
+  walk-is l w h = cc
+
+  is-uncovered : (l : List Listed) (w : Walk) → Walked (some l) (some w) → uncovered (prevId p) (directs l) (indirects l) ≡ w .uncovered
+  is-uncovered l w h = sym (walked-uncovered c required p l) ∙ ap (λ (k : Walk). k .uncovered) (sym (walk-is l w h))
+
+module _ (c : Settings) (required : Bool) (presence : ℕ) (p : PointInfo) where
+  pub answer-unread : (o : Option (List Listed)) → Walked c required p o none → Number 7 ≡ overList c required presence p o
+  answer-unread none h = refl
+  answer-unread (some l) h = let z : _≡_ {A = ℕ} 0 1 = cc in absurd (omega arith)
+
+  pub answer-mismatch : (o : Option (List Listed)) (w : Walk) → Walked c required p o (some w) → Mismatch presence p o true →
+      Number 8 ≡ overList c required presence p o
+  answer-mismatch none w h m = let z : _≡_ {A = ℕ} 0 1 = cc in absurd (omega arith)
+  answer-mismatch (some l) w h m = rw (sym (m l refl))
+
+  pub answer-uncovered : (o : Option (List Listed)) (w : Walk) → Walked c required p o (some w) → Mismatch presence p o false → w .uncovered ≡ true →
+      Number 9 ≡ overList c required presence p o
+  answer-uncovered none w h m u = let z : _≡_ {A = ℕ} 0 1 = cc in absurd (omega arith)
+  answer-uncovered (some l) w h m u = rw (sym (m l refl), is-uncovered c required p l w h, u)
+
+  -- past the numbers
+  answer-judged : (l : List Listed) (w : Walk) → Walked c required p (some l) (some w) → Mismatch presence p (some l) false → w .uncovered ≡ false →
+      Given (ofResult (validate c required presence p (directs l) (indirects l))) ≡ overList c required presence p (some l)
+  answer-judged l w h m u = rw (sym (m l refl), is-uncovered c required p l w h, u)
+
+  module _ (two : 2 ≤ presence) where
+    -- whether the witness round lacks
+    by-witness : (b : Bool) (es : List Entry) (ts : List IndirectEntry) → b ≡ (eqb presence 2 && not (isEmpty (p .witness))) →
+        validate c required presence p es ts ≡ pick b (isInvalid (NoRoundInDag case-map.Witness)) (overLists c required p es ts)
+    unfolding validate presenceReason
+    by-witness true es ts h = rw (← h, ne-eqb presence 0 (λ e. omega (arith, two, e)), ne-eqb presence 1 (λ e. omega (arith, two, e)))
+    by-witness false es ts h = rw (← h, ne-eqb presence 0 (λ e. omega (arith, two, e)), ne-eqb presence 1 (λ e. omega (arith, two, e)))
+
+    pub answer-witness : (o : Option (List Listed)) (w : Walk) → Walked c required p o (some w) → Mismatch presence p o false → w .uncovered ≡ false →
+        true ≡ (eqb presence 2 && not (isEmpty (p .witness))) →
+        Given (ofResult (isInvalid (NoRoundInDag case-map.Witness))) ≡ overList c required presence p o
+    answer-witness none w h m u n = let z : _≡_ {A = ℕ} 0 1 = cc in absurd (omega arith)
+    answer-witness (some l) w h m u n = ap (λ r. Given (ofResult r)) (sym (by-witness true (directs l) (indirects l) n)) ∙ answer-judged l w h m u
+
+    pub answer-verdict : (s : List ℕ) (o : Option (List Listed)) (w : Walk) → readList s ≡ o → Walked c required p o (some w) →
+        Mismatch presence p o false → w .uncovered ≡ false → false ≡ (eqb presence 2 && not (isEmpty (p .witness))) →
+        Given (ofResult (resultOf (w .judging))) ≡ overList c required presence p o
+    answer-verdict s none w r h m u n = let z : _≡_ {A = ℕ} 0 1 = cc in absurd (omega arith)
+    answer-verdict s (some l) w r h m u n =
+        ap (λ (k : Walk). Given (ofResult (resultOf (k .judging)))) (walk-is c required p l w h)
+        ∙ (ap (λ q. Given (ofResult q)) (walked-result c required p s l r ∙ sym (by-witness false (directs l) (indirects l) n))
+        ∙ answer-judged l w h m u)
+
+-- ---- before the list
+
+module _ (c : Settings) (presence : ℕ) (p : PointInfo) (list : List ℕ) where
+  abbrev pub From : Before → JudgeAnswer → Type 0
+  From b a = a ≡ judgeFrom c presence p list b
+
+  module _ (required : Bool) where
+    pub answer-evidence : presence ≡ 0 → From (needed required) (Given (ofResult (isInvalid (NoRoundInDag case-map.Evidence))))
+    unfolding validate presenceReason
+    answer-evidence h = rw h
+
+    pub answer-includes : presence ≡ 1 → From (needed required) (Given (ofResult (isInvalid (NoRoundInDag case-map.Includes))))
+    unfolding validate presenceReason
+    answer-includes h = rw h
+
+    pub answer-needed : (a : JudgeAnswer) → 2 ≤ presence → a ≡ overList c required presence p (readList list) → From (needed required) a
+    answer-needed a h e = e ∙ rw (le-leb 2 presence h)
+
+  pub answer-genesis : (wave : WaveChecked) → p .id .round ≡ c .genesisRound → From (beforeWith none (eqb (p .id .round) (c .genesisRound)) wave) (Given Valid)
+  answer-genesis wave h = rw (eq-eqb (p .id .round) (c .genesisRound) h)
+
+  pub answer-wave : (found wave : WaveChecked) (a : JudgeAnswer) → (p .id .round ≡ c .genesisRound → ⊥) → found ≡ wave → From (beforeWave found) a →
+      From (beforeWith none (eqb (p .id .round) (c .genesisRound)) wave) a
+  answer-wave found wave a h e f = f ∙ rw (ne-eqb (p .id .round) (c .genesisRound) h, e)
+
+-- ---- the call's answer and the buffer, from what its input was tested for
+
+module _ (leader presence : ℕ) (list : List ℕ) where
+  -- the answer stands for what was found, and the buffer holds what it should
+  abbrev pub Answered : Tested → code-answer.JudgeAnswer → List ℕ → List ℕ → Type 0
+  Answered t a old new = (judgeAnswerOf a ≡ judgeWith leader presence list t) × (new ≡ verifyBuffer t old)
+
+  pub answer-number : (t : Tested) (n : ℕ) (old : List ℕ) → t ≡ refused n → Answered t (case-answer.Number n) old old
+  unfolding judgeWith
+  answer-number t n old h = rw h (refl, refl)
+
+  module _ (t : Tested) (i : Input) (h : t ≡ taken i) (o : Option VerifyError) (e : o ≡ verify (i .settings) (i .schedule) (i .point)) (old new : List ℕ)
+      (b : new ≡ bufferWith (scheduled (i .settings) (i .schedule) (i .point)) (i .point) o old) where
+    buffered : new ≡ verifyBuffer t old
+    buffered = rw h (rw (← e) b)
+
+    judged-from : judgeWith leader presence list (taken i)
+        ≡ judgeFrom (i .settings) presence (i .point) list
+        (beforeWith o (eqb (i .point .id .round) (i .settings .genesisRound)) (waveChecked (i .schedule) (eqb leader 1) (i .point)))
+    unfolding judgeWith before
+    judged-from = rw (← e)
+
+    -- a verification that didn't pass
+    pub answer-failed : (v : code-verdict.Verdict) (x : VerifyError) → o ≡ some x → verdictOf v ≡ ofError x → Answered t (case-answer.Verdict v) old new
+    answer-failed v x f g = (ap Given g ∙ sym (ap (judgeWith leader presence list) h ∙ judged-from ∙ rw f), buffered)
+
+    -- one that passed
+    pub answer-passed : (a : code-answer.JudgeAnswer) → o ≡ none →
+        judgeAnswerOf a
+        ≡ judgeFrom (i .settings) presence (i .point) list
+        (beforeWith none (eqb (i .point .id .round) (i .settings .genesisRound)) (waveChecked (i .schedule) (eqb leader 1) (i .point))) →
+        Answered t a old new
+    answer-passed a f g = (g ∙ sym (ap (judgeWith leader presence list) h ∙ judged-from ∙ rw f), buffered)

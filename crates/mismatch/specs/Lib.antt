@@ -1,0 +1,3 @@
+pub mod Head
+pub mod Mismatch
+pub mod Walk

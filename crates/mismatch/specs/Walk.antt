@@ -1,0 +1,96 @@
+-- The walk over a list: the point's maps by their numbers, and what the room of marks says.
+use Prim.Native.Nat.{ℕ, zero, suc, _+_, _-_, _*_, _≤_, _<_}
+use mathlib.Core.Path.{_≡_}
+use mathlib.Core.Bool.{Bool, true, false, not, _&&_, _||_}
+use mathlib.Core.Option.{Option, none, some}
+use mathlib.Core.List.{List, []}
+use lib.ListN.{length, getD, drop}
+use lib.Dec.{eqb}
+use Rattle.base.specs.Base.{pick, isSome}
+use Rattle.map.specs.Rows.{Pair}
+use Rattle.record.specs.Record.{contentOf}
+use Rattle.point.specs.Point.{PointId, AnchorLink, Direct, Indirect, PointInfo}
+use Rattle.verifier.specs.DagPoint.{Entry}
+use Rattle.verifier.specs.Validate.{sameId}
+use Rattle.entries.specs.Entries.{readList, directs, indirects}
+use Rattle.mismatch.specs.Head.{Head, listed}
+use Rattle.mismatch.specs.Mismatch.{hasId, pairId, isAmong, isVersion, allPlaced, idsOf, droppedIn}
+
+-- ---- the maps: 0 the includes, 1 the witness
+
+abbrev pub roundIn : PointInfo → ℕ → ℕ
+roundIn p zero = p .id .round - 1
+roundIn p (suc m) = p .id .round - 2
+
+abbrev pub pairsIn : PointInfo → ℕ → List Pair
+pairsIn p zero = p .includes
+pairsIn p (suc m) = p .witness
+
+abbrev pub mapIn : List ℕ → ℕ → List ℕ
+mapIn s zero = contentOf s 2
+mapIn s (suc m) = contentOf s 3
+
+-- how many maps have their round in the DAG
+abbrev pub mapsIn : ℕ → ℕ
+mapsIn presence = pick (eqb presence 3) 2 1
+
+-- whether an id is a dependency of the first maps
+unfoldable pub amongTo : ℕ → PointInfo → PointId → Bool
+amongTo zero p i = false
+amongTo (suc m) p i = isAmong (roundIn p m) (pairsIn p m) i || amongTo m p i
+
+abbrev pub noPair : Pair
+noPair = record { peer = 0; digest = 0 }
+
+-- a row of a map that has an id, or that none has
+abbrev pub IsRow : ℕ → List Pair → PointId → Option ℕ → Type 0
+IsRow round l i none = isAmong round l i ≡ false
+IsRow round l i (some k) = (k < length l) × (sameId (pairId round (getD l k noPair)) i ≡ true)
+
+-- a direct entry, without its point, has this id
+unfoldable pub standsFor : Head → PointId → Bool
+standsFor h i = not (isSome (h .aim)) && (not (h .dropped) && sameId (h .id) i)
+
+-- what an entry that no map has needs: to be a version, and to stand once
+unfoldable pub isNewVersion : PointInfo → List Entry → PointId → Bool
+isNewVersion p es i = isVersion p i && not (hasId (idsOf es) i)
+
+-- ---- the room of marks
+
+-- the rows of a map that these ids stand for are marked by 1, the others by 0
+abbrev pub Marked : PointInfo → ℕ → List PointId → List ℕ → Type 0
+Marked p m ids seen =
+    (i : ℕ) → i < length (pairsIn p m) → getD seen (255 * m + i) 0 ≡ pick (hasId ids (pairId (roundIn p m) (getD (pairsIn p m) i noPair))) 1 0
+
+-- how many of n marks are 0, the first at a place
+unfoldable pub zerosIn : ℕ → ℕ → List ℕ → ℕ
+zerosIn zero at seen = zero
+zerosIn (suc n) at seen = pick (eqb (getD seen at 0) 0) (suc (zerosIn n (suc at) seen)) (zerosIn n (suc at) seen)
+
+-- what the marks say lacks
+unfoldable pub zeros : ℕ → PointInfo → List ℕ → ℕ
+zeros presence p seen =
+    zerosIn (length (p .includes)) 0 seen + pick (eqb presence 3) (zerosIn (length (p .witness)) 255 seen) zero
+
+-- ---- what the walk over the direct entries finds
+
+-- every entry has its place: then the walk counted the dropped ones, marked the rows and ended where the indirect entries begin
+pub record Placed (presence : ℕ) (p : PointInfo) (s seen : List ℕ) (dropped end : ℕ) : Type 0 where
+  pub placed : allPlaced presence p [] (directs (listed s)) ≡ true
+  pub count : dropped ≡ droppedIn (directs (listed s))
+  pub marks : (m : ℕ) → m < mapsIn presence → Marked p m (idsOf (directs (listed s))) seen
+  pub within : end ≤ length s
+  pub left : isSome (readList (drop end s)) ≡ true
+  pub behind : directs (listed (drop end s)) ≡ []
+  pub targets : indirects (listed (drop end s)) ≡ indirects (listed s)
+
+abbrev pub Found : ℕ → PointInfo → List ℕ → List ℕ → Bool → ℕ → ℕ → Type 0
+Found presence p s seen true dropped end = allPlaced presence p [] (directs (listed s)) ≡ false
+Found presence p s seen false dropped end = Placed presence p s seen dropped end
+
+-- ---- the indirect entries
+
+-- `isTargetOf` of an entry without its point
+abbrev pub isTargetWith : AnchorLink → Bool → PointId → Bool
+isTargetWith (Direct t) dropped i = false
+isTargetWith (Indirect to t) dropped i = dropped || sameId i to

@@ -1,0 +1,101 @@
+// What judging finds: InvalidReason and InvalidDependency.
+use point::AnchorStageRole;
+use point::PointId;
+use point::PointMap;
+use point::Through;
+ghost use mathlib.Core.Path.{_≡_};
+ghost use Rattle.reasons.specs.Invalid.{invalidNumber, dagRound, hasDagRound, reasonOf, dagRoundOf};
+
+// The seq_no of the proof before, if it has one.
+pub enum PrevSeqNo {
+    SeqNo(u8),
+    NoSeqNo,
+}
+
+// The Rust's AfterLoadFromDb, numbers 1 and 20, is never given by judging: it has no case here. A dependency's own reason
+// is its number.
+pub enum InvalidReason {
+    NoRoundInDag(PointMap),
+    DependencyRoundDropped,
+    NotTrigger(PointId),
+    TerminalTriggerBeforeLastProof(PointId),
+    TimeNotGreaterThanInPrevPoint(PointId),
+    AnchorProofDoesntInheritAnchorTime(PointId),
+    AnchorTimeNotInheritedFromProof(PointId),
+    MustHaveReferencedPrevPoint(PointId),
+    MustHaveSkippedRound(PointId),
+    DependencyTimeTooFarInFuture(PointId),
+    NewerAnchorInDependency(AnchorStageRole, PointId),
+    AnchorLink(AnchorStageRole, PointId),
+    AnchorLinkRole(AnchorStageRole, PointId),
+    AnchorLinkBadPath(AnchorStageRole, PointId),
+    BadStickySequence(PointId, PrevSeqNo, u8),
+    TriggerProofMismatch(PointId, bool),
+    DepIllFormed(PointId, u8),
+    DepNotFound(PointId),
+}
+
+// A root cause, the number of its reason, and what it came through.
+pub struct InvalidDependency {
+    pub to: PointId,
+    pub reason: u8,
+    pub through: Through,
+}
+
+// Whether a reason has a DAG round, by its number.
+pub enum DagRound {
+    Has,
+    HasNot,
+    NoReason,
+}
+
+impl InvalidReason {
+    pub fn number(self) -> u8
+        ensures { λ r. ⌜ r ≡ invalidNumber (reasonOf self) ⌝ }
+    {
+        match self {
+            InvalidReason::NoRoundInDag(_) => 2,
+            InvalidReason::DependencyRoundDropped => 3,
+            InvalidReason::NotTrigger(_) => 4,
+            InvalidReason::TerminalTriggerBeforeLastProof(_) => 5,
+            InvalidReason::TimeNotGreaterThanInPrevPoint(_) => 6,
+            InvalidReason::AnchorProofDoesntInheritAnchorTime(_) => 7,
+            InvalidReason::AnchorTimeNotInheritedFromProof(_) => 8,
+            InvalidReason::MustHaveReferencedPrevPoint(_) => 9,
+            InvalidReason::MustHaveSkippedRound(_) => 10,
+            InvalidReason::DependencyTimeTooFarInFuture(_) => 11,
+            InvalidReason::NewerAnchorInDependency(_, _) => 12,
+            InvalidReason::AnchorLink(_, _) => 13,
+            InvalidReason::AnchorLinkRole(_, _) => 14,
+            InvalidReason::AnchorLinkBadPath(_, _) => 15,
+            InvalidReason::BadStickySequence(_, _, _) => 16,
+            InvalidReason::TriggerProofMismatch(_, _) => 17,
+            InvalidReason::DepIllFormed(_, _) => 18,
+            InvalidReason::DepNotFound(_) => 19,
+        }
+    }
+}
+
+// Whether the reason of a number has a DAG round, and whether there is such a reason.
+pub fn dag_round(number: u8) -> DagRound
+    ensures { λ r. ⌜ dagRoundOf r ≡ dagRound number ⌝ }
+{
+    match number {
+        1 => DagRound::Has,
+        2..=3 => DagRound::HasNot,
+        4..=19 => DagRound::Has,
+        20 => DagRound::HasNot,
+        _ => DagRound::NoReason,
+    }
+}
+
+pub fn has_dag_round(number: u8) -> bool
+    ensures { λ r. ⌜ r ≡ hasDagRound number ⌝ }
+{
+    let round = dag_round(number);
+    match round {
+        DagRound::Has => true,
+        DagRound::HasNot => false,
+        DagRound::NoReason => false,
+    }
+}

@@ -1,0 +1,391 @@
+-- Laws for callers: judging entry by entry gives what `overLists` says of whole lists, and a point that is not invalid passed every
+-- check of every entry.
+use Prim.Native.Nat.{ℕ, zero, suc}
+use native.Mathlib.Omega.{arith}
+use mathlib.Core.Path.{_≡_, refl, sym, ap, _∙_, subst}
+use mathlib.Core.Logic.{_⊎_, inl, inr}
+use mathlib.Core.Bool.{Bool, true, false, not, _&&_, _||_}
+use mathlib.Core.Option.{Option, none, some}
+use mathlib.Core.List.{List, [], _∷_, _++_, List·Memᴰ, List·Memᴰ·not-nil, List·Memᴰ·cases-cons}
+use lib.ListN.{length, drop}
+use lib.Dec.{eqb}
+use borrow.Author.Tests.{eq-eqb, ne-eqb}
+use Rattle.base.specs.Base.{pick, iff, lastOf, isSome}
+use Rattle.base.proofs.Laws.{and-right, picked, append-none, AllNone, all-none, last-none}
+use Rattle.point.specs.Point.{PointInfo}
+use Rattle.point.specs.declared.data.AnchorStageRole.{AnchorStageRole}
+use Rattle.schedule.specs.Settings.{Settings}
+use Rattle.reasons.specs.Invalid.{InvalidReason, DependencyRoundDropped, InvalidDependency}
+use Rattle.verifier.specs.Verify.{isEmpty}
+use Rattle.verifier.specs.DagPoint.{DagPoint, Valid, TransInvalid, Invalid, IllFormed, NotFound, Dropped, depView, Entry, IndirectEntry, isDropped, PointView, pointView}
+use Rattle.verifier.specs.Validate.{pointRows, dependencyTrail, entryTrail, directTrail, indirectPointRows, indirectEntryTrail, indirectTrail, entryRecord, join, directRecord, indirectRecord, ValidateResult, isInvalid, isTransInvalid, isValid, resultWith, overLists, presenceReason, validateWith, validate}
+use Rattle.entries.specs.Entries.{Listed, readEntry, isInOrder, listThen, listWith, listFrom, directThen, directs, indirectThen, indirects}
+use Rattle.validate.specs.Validated.{Judging, laterOf, orDropped, start, directStep, indirectStep, directFold, targetStep, indirectFold, listedStep, listedFold, laterReason, resultOf}
+
+-- ---- tests of a round that a call gave
+
+pub equal-given : (a b d : ℕ) → a ≡ b → b ≡ d → eqb a d ≡ true
+equal-given a b d h e = eq-eqb a d (h ∙ e)
+
+pub unequal-given : (a b d : ℕ) → (a ≡ b → ⊥) → b ≡ d → eqb a d ≡ false
+unequal-given a b d h e = ne-eqb a d (λ q. h (q ∙ sym e))
+
+-- ---- the last reason
+
+later-none : (o : Option InvalidReason) → laterOf none o ≡ o
+later-none none = refl
+later-none (some r) = refl
+
+later-assoc : (a b d : Option InvalidReason) → laterOf (laterOf a b) d ≡ laterOf a (laterOf b d)
+later-assoc a b none = refl
+later-assoc a b (some r) = refl
+
+-- a list that isn't empty has a last reason, which replaces any
+later-last : (l : List InvalidReason) (x : InvalidReason) (o : Option InvalidReason) → laterOf o (lastOf (x ∷ l)) ≡ lastOf (x ∷ l)
+unfolding lastOf
+later-last [] x o = refl
+later-last (y ∷ l) x o = later-last l y o
+
+first-last : (l : List InvalidReason) (x : InvalidReason) (o : Option InvalidReason) → laterReason (lastOf (x ∷ l)) o ≡ lastOf (x ∷ l)
+unfolding lastOf
+first-last [] x o = refl
+first-last (y ∷ l) x o = first-last l y o
+
+some-last : (l : List InvalidReason) (x : InvalidReason) → isSome (lastOf (x ∷ l)) ≡ true
+unfolding lastOf
+some-last [] x = refl
+some-last (y ∷ l) x = some-last l y
+
+last-append : (a b : List InvalidReason) → lastOf (a ++ b) ≡ laterOf (lastOf a) (lastOf b)
+unfolding lastOf
+last-append [] b = sym (later-none (lastOf b))
+last-append (x ∷ []) [] = refl
+last-append (x ∷ []) (y ∷ l) = sym (later-last l y (some x))
+last-append (x ∷ y ∷ a) b = last-append (y ∷ a) b
+
+-- whether a reason is set, once those of an entry are taken in
+set-later : (t : List InvalidReason) (d : Option InvalidReason) → isSome (laterOf d (lastOf t)) ≡ (isSome d || not (isEmpty t))
+unfolding lastOf
+set-later [] none = refl
+set-later [] (some r) = refl
+set-later (x ∷ l) none = ap isSome (later-last l x none) ∙ some-last l x
+set-later (x ∷ l) (some r) = ap isSome (later-last l x (some r)) ∙ some-last l x
+
+-- ---- the lists, entry by entry
+
+-- what judging has found
+record Found (d i : Option InvalidReason) (w : Option InvalidDependency) (j : Judging) : Type 0 where
+  pub direct : j .direct ≡ d
+  pub indirect : j .indirect ≡ i
+  pub recorded : j .recorded ≡ w
+
+abbrev judging : Option InvalidReason → Option InvalidReason → Option InvalidDependency → Bool → Judging
+judging d i w ended = record { direct = d; indirect = i; recorded = w; ended = ended }
+
+-- a dropped entry sets its reason only if none is set
+dropped-last : (d : Option InvalidReason) → orDropped d ≡ laterOf d (lastOf (iff (not (isSome d)) DependencyRoundDropped))
+unfolding lastOf
+dropped-last none = refl
+dropped-last (some r) = refl
+
+-- the reasons of an entry before those behind it, which go by whether one is set
+later-behind : (t : List InvalidReason) (d : Option InvalidReason) (behind : Bool → List InvalidReason) →
+    laterOf (laterOf d (lastOf t)) (lastOf (behind (isSome (laterOf d (lastOf t))))) ≡ laterOf d (lastOf (t ++ behind (isSome d || not (isEmpty t))))
+later-behind t d behind =
+    ap (λ (b : Bool). laterOf (laterOf d (lastOf t)) (lastOf (behind b))) (set-later t d)
+    ∙ later-assoc d (lastOf t) (lastOf (behind (isSome d || not (isEmpty t))))
+    ∙ ap (laterOf d) (sym (last-append t (behind (isSome d || not (isEmpty t)))))
+
+module _ (c : Settings) (required : Bool) (p : PointView) where
+  -- behind a dropped entry nothing is found, nor recorded
+  ended-stays : (es : List Entry) (d i : Option InvalidReason) (w : Option InvalidDependency) →
+      directFold c required p (judging d i w true) es ≡ judging d i w true
+  unfolding directFold directStep
+  ended-stays [] d i w = refl
+  ended-stays (e ∷ l) d i w = ended-stays l d i w
+
+  -- one more entry, dropped or not, that gives the reasons t
+  one-more : (b : Bool) (l : List Entry) (t : List InvalidReason) (behind : Bool → List InvalidReason) (d i : Option InvalidReason) (w joined all : Option InvalidDependency) →
+      Found (laterOf (laterOf d (lastOf t)) (lastOf (behind (isSome (laterOf d (lastOf t)))))) i all (directFold c required p (judging (laterOf d (lastOf t)) i joined false) l) →
+      Found
+      (laterOf d (lastOf (pick b (iff (not (isSome d)) DependencyRoundDropped) (t ++ behind (isSome d || not (isEmpty t))))))
+      i
+      (pick b w all)
+      (directFold c required p (pick b (judging (orDropped d) i w true) (judging (laterOf d (lastOf t)) i joined false)) l)
+  one-more true l t behind d i w joined all f =
+      let e = ended-stays l (orDropped d) i w in
+      record {
+        direct = ap (λ (j : Judging). j .direct) e ∙ dropped-last d;
+        indirect = ap (λ (j : Judging). j .indirect) e;
+        recorded = ap (λ (j : Judging). j .recorded) e;
+      }
+  one-more false l t behind d i w joined all f =
+      record { direct = f .direct ∙ later-behind t d behind; indirect = f .indirect; recorded = f .recorded }
+
+  directs-judged : (es : List Entry) (d i : Option InvalidReason) (w : Option InvalidDependency) →
+      Found (laterOf d (lastOf (directTrail c required p (isSome d) es))) i (directRecord c p w es) (directFold c required p (judging d i w false) es)
+  unfolding directFold directStep directTrail directRecord lastOf
+  directs-judged [] d i w = record { direct = refl; indirect = refl; recorded = refl }
+  directs-judged (e ∷ l) d i w =
+      one-more
+      (isDropped (e .state))
+      l
+      (entryTrail c required p e)
+      (λ (set : Bool). directTrail c required p set l)
+      d
+      i
+      w
+      (join w (entryRecord c p e))
+      (directRecord c p (join w (entryRecord c p e)) l)
+      (directs-judged l (laterOf d (lastOf (entryTrail c required p e))) i (join w (entryRecord c p e)))
+
+module _ (c : Settings) (p : PointInfo) where
+  indirects-judged : (ts : List IndirectEntry) (j : Judging) →
+      Found (j .direct) (laterOf (j .indirect) (lastOf (indirectTrail c (pointView p) ts))) (indirectRecord c p (j .recorded) ts) (indirectFold c p j ts)
+  unfolding indirectFold indirectStep indirectTrail indirectRecord pointView lastOf
+  indirects-judged [] j = record { direct = refl; indirect = refl; recorded = refl }
+  indirects-judged (a ∷ l) j =
+      let t = indirectEntryTrail c (a .role) (pointView p) (a .entry .state) in
+      let f = indirects-judged l (targetStep c p (a .role) j (a .entry)) in
+      record {
+        direct = f .direct;
+        indirect =
+            f .indirect
+            ∙ later-assoc (j .indirect) (lastOf t) (lastOf (indirectTrail c (pointView p) l))
+            ∙ ap (laterOf (j .indirect)) (sym (last-append t (indirectTrail c (pointView p) l)));
+        recorded = f .recorded;
+      }
+
+result-found : (d i : Option InvalidReason) (w : Option InvalidDependency) (j : Judging) → Found d i w j → resultOf j ≡ resultWith (laterReason d i) w
+result-found d i w j f = rw (f .direct, f .indirect, f .recorded)
+
+first-of-both : (a b : List InvalidReason) → laterReason (lastOf a) (lastOf b) ≡ lastOf (pick (isEmpty a) b a)
+unfolding lastOf
+first-of-both [] b = refl
+first-of-both (x ∷ l) b = first-last l x (lastOf b)
+
+module _ (c : Settings) (required : Bool) (p : PointInfo) where
+  -- the direct entries one by one, then the indirect ones
+  pub fold-over-lists : (es : List Entry) (ts : List IndirectEntry) →
+      resultOf (indirectFold c p (directFold c required (pointView p) start es) ts) ≡ overLists c required p es ts
+  unfolding overLists
+  fold-over-lists es ts =
+      let dt = directTrail c required (pointView p) false es in
+      let it = indirectTrail c (pointView p) ts in
+      let w = indirectRecord c p (directRecord c (pointView p) none es) ts in
+      let j = directFold c required (pointView p) start es in
+      let f = directs-judged c required (pointView p) es none none none in
+      let g = indirects-judged c p ts j in
+      result-found
+      (lastOf dt)
+      (lastOf it)
+      w
+      (indirectFold c p j ts)
+      (record {
+        direct = g .direct ∙ (f .direct ∙ later-none (lastOf dt));
+        indirect = g .indirect ∙ (ap (λ (o : Option InvalidReason). laterOf o (lastOf it)) (f .indirect) ∙ later-none (lastOf it));
+        recorded = g .recorded ∙ ap (λ (o : Option InvalidDependency). indirectRecord c p o ts) (f .recorded);
+      })
+      ∙ ap (λ (o : Option InvalidReason). resultWith o w) (first-of-both dt it)
+
+-- ---- a list as it stands
+
+-- no direct entry stands behind an indirect one
+unfoldable inOrder : Bool → List Listed → Bool
+inOrder behind [] = true
+inOrder behind (x ∷ l) = isInOrder behind (x .aim) && inOrder (isSome (x .aim)) l
+
+order-then : (behind : Bool) (x : Listed) (o : Option (List Listed)) (l : List Listed) →
+    ((m : List Listed) → o ≡ some m → inOrder (isSome (x .aim)) m ≡ true) →
+    isInOrder behind (x .aim) ≡ true →
+    listThen x o ≡ some l →
+    inOrder behind l ≡ true
+unfolding inOrder
+order-then behind x none l f b h = let z : _≡_ {A = ℕ} 0 1 = cc in absurd (omega arith)
+order-then behind x (some m) l f b h = let e : l ≡ x ∷ m = cc in rw (e, b) (f m refl)
+
+order-with : (n : ℕ) (behind : Bool) (s : List ℕ) (o : Option Listed) (l : List Listed) →
+    ((next : Bool) (rest : List ℕ) (m : List Listed) → listFrom n next rest ≡ some m → inOrder next m ≡ true) →
+    listWith (listFrom n) behind s o ≡ some l →
+    inOrder behind l ≡ true
+order-with n behind s none l f h = let z : _≡_ {A = ℕ} 0 1 = cc in absurd (omega arith)
+order-with n behind s (some x) l f h =
+    let rest = listFrom n (isSome (x .aim)) (drop (x .size) s) in
+    let k = picked (isInOrder behind (x .aim)) (listThen x rest) l h in
+    order-then behind x rest l (f (isSome (x .aim)) (drop (x .size) s)) (k .0) (k .1)
+
+order-none : (behind : Bool) (l : List Listed) → none ≡ some l → inOrder behind l ≡ true
+order-none behind l h = let z : _≡_ {A = ℕ} 0 1 = cc in absurd (omega arith)
+
+order-end : (b behind : Bool) (o : Option (List Listed)) (l : List Listed) →
+    (o ≡ some l → inOrder behind l ≡ true) →
+    pick b (some []) o ≡ some l →
+    inOrder behind l ≡ true
+unfolding inOrder
+order-end true behind o l f h = let e : l ≡ [] = cc in rw e
+order-end false behind o l f h = f h
+
+-- what was read is in order
+in-order : (n : ℕ) (behind : Bool) (s : List ℕ) (l : List Listed) → listFrom n behind s ≡ some l → inOrder behind l ≡ true
+unfolding listFrom
+in-order zero behind s l h = order-end (eqb (length s) 0) behind none l (order-none behind l) h
+in-order (suc n) behind s l h =
+    order-end
+    (eqb (length s) 0)
+    behind
+    (listWith (listFrom n) behind s (readEntry s))
+    l
+    (order-with n behind s (readEntry s) l (in-order n))
+    h
+
+no-direct : (l : List Listed) → inOrder true l ≡ true → directs l ≡ []
+unfolding inOrder directs
+no-direct [] h = refl
+no-direct (x ∷ l) h = go (x .aim) (no-direct l) h
+  where
+    go : (aim : Option AnchorStageRole) → (inOrder true l ≡ true → directs l ≡ []) → (isInOrder true aim && inOrder (isSome aim) l) ≡ true → directThen aim (x .entry) (directs l) ≡ []
+    go none f k = let z : _≡_ {A = ℕ} 0 1 = cc in absurd (omega arith)
+    go (some g) f k = f k
+
+module _ (c : Settings) (required : Bool) (p : PointInfo) where
+  parted : (l : List Listed) (behind : Bool) (j : Judging) → inOrder behind l ≡ true →
+      listedFold c required p j l ≡ indirectFold c p (directFold c required (pointView p) j (directs l)) (indirects l)
+  unfolding listedFold inOrder directs indirects directFold indirectFold
+  parted [] behind j h = refl
+  parted (x ∷ l) behind j h = go (x .aim) (parted l) h
+    where
+      go : (aim : Option AnchorStageRole) →
+          ((next : Bool) (k : Judging) → inOrder next l ≡ true → listedFold c required p k l ≡ indirectFold c p (directFold c required (pointView p) k (directs l)) (indirects l)) →
+          (isInOrder behind aim && inOrder (isSome aim) l) ≡ true →
+          listedFold c required p (listedStep aim c required p j (x .entry)) l
+          ≡ indirectFold c p (directFold c required (pointView p) j (directThen aim (x .entry) (directs l))) (indirectThen aim (x .entry) (indirects l))
+      go none f k = f false (directStep c required (pointView p) j (x .entry)) (and-right (isInOrder behind none) (inOrder false l) k)
+      go (some g) f k =
+          let ordered : inOrder true l ≡ true = and-right (isInOrder behind (some g)) (inOrder true l) k in
+          let e : directs l ≡ [] = no-direct l ordered in
+          rw e (rw e at (f true (targetStep c p g j (x .entry)) ordered))
+
+  -- entries one by one as they stand in a list that was read
+  pub listed-parted : (n : ℕ) (behind : Bool) (s : List ℕ) (l : List Listed) (j : Judging) → listFrom n behind s ≡ some l →
+      listedFold c required p j l ≡ indirectFold c p (directFold c required (pointView p) j (directs l)) (indirects l)
+  listed-parted n behind s l j h = parted l behind j (in-order n behind s l h)
+
+  pub listed-over-lists : (n : ℕ) (behind : Bool) (s : List ℕ) (l : List Listed) → listFrom n behind s ≡ some l →
+      resultOf (listedFold c required p start l) ≡ overLists c required p (directs l) (indirects l)
+  listed-over-lists n behind s l h =
+      ap (λ (j : Judging). resultOf j) (listed-parted n behind s l start h) ∙ fold-over-lists c required p (directs l) (indirects l)
+
+-- ---- a point that is not invalid: no check of any entry gave a reason
+
+abbrev pub hasReason : ValidateResult → Bool
+hasReason (isInvalid r) = true
+hasReason (isTransInvalid d) = false
+hasReason isValid = false
+
+module _ (c : Settings) (required : Bool) (p : PointView) where
+  -- each direct entry
+  entry-all : (es : List Entry) → directTrail c required p false es ≡ [] → (e : Entry) → List·Memᴰ e es →
+      (isDropped (e .state) ≡ false) × (entryTrail c required p e ≡ [])
+  unfolding directTrail
+  entry-all [] h e m = absurd (List·Memᴰ·not-nil m)
+  entry-all (x ∷ l) h e m = go (isDropped (x .state)) refl h (entry-all l) (List·Memᴰ·cases-cons m)
+    where
+      go : (b : Bool) → isDropped (x .state) ≡ b →
+          pick b (iff true DependencyRoundDropped) (entryTrail c required p x ++ directTrail c required p (not (isEmpty (entryTrail c required p x))) l) ≡ [] →
+          (directTrail c required p false l ≡ [] → (e : Entry) → List·Memᴰ e l → (isDropped (e .state) ≡ false) × (entryTrail c required p e ≡ [])) →
+          (e ≡ x) ⊎ List·Memᴰ e l →
+          (isDropped (e .state) ≡ false) × (entryTrail c required p e ≡ [])
+      go true b k f o = let z : _≡_ {A = ℕ} 0 1 = cc in absurd (omega arith)
+      go false b k f (inl q) =
+          let n = append-none (entryTrail c required p x) _ k in
+          (ap (λ (y : Entry). isDropped (y .state)) q ∙ b, ap (entryTrail c required p) q ∙ n .0)
+      go false b k f (inr m′) =
+          let n = append-none (entryTrail c required p x) _ k in
+          f (subst (λ (t : List InvalidReason). directTrail c required p (not (isEmpty t)) l ≡ []) (n .0) (n .1)) e m′
+
+module _ (c : Settings) (p : PointView) where
+  -- each indirect entry
+  target-all : (ts : List IndirectEntry) → indirectTrail c p ts ≡ [] → (a : IndirectEntry) → List·Memᴰ a ts →
+      indirectEntryTrail c (a .role) p (a .entry .state) ≡ []
+  unfolding indirectTrail
+  target-all [] h a m = absurd (List·Memᴰ·not-nil m)
+  target-all (x ∷ l) h a m = go (append-none (indirectEntryTrail c (x .role) p (x .entry .state)) (indirectTrail c p l) h) (target-all l) (List·Memᴰ·cases-cons m)
+    where
+      go : (indirectEntryTrail c (x .role) p (x .entry .state) ≡ []) × (indirectTrail c p l ≡ []) →
+          (indirectTrail c p l ≡ [] → (a : IndirectEntry) → List·Memᴰ a l → indirectEntryTrail c (a .role) p (a .entry .state) ≡ []) →
+          (a ≡ x) ⊎ List·Memᴰ a l →
+          indirectEntryTrail c (a .role) p (a .entry .state) ≡ []
+      go n f (inl q) = ap (λ (y : IndirectEntry). indirectEntryTrail c (y .role) p (y .entry .state)) q ∙ n .0
+      go n f (inr m′) = f (n .1) a m′
+
+-- each row of a dependency's table is empty; a dependency that has no point gives its reason
+abbrev pub RowsNone : Settings → Bool → Bool → PointView → DagPoint → Type 0
+RowsNone c required isPrevPoint p (Valid q) = AllNone (pointRows c required isPrevPoint p (depView q))
+RowsNone c required isPrevPoint p (TransInvalid q root n) = AllNone (pointRows c required isPrevPoint p (depView q))
+RowsNone c required isPrevPoint p (Invalid q n) = AllNone (pointRows c required isPrevPoint p (depView q))
+RowsNone c required isPrevPoint p (IllFormed i n) = ⊥
+RowsNone c required isPrevPoint p (NotFound i) = ⊥
+RowsNone c required isPrevPoint p Dropped = Unit
+
+pub rows-none : (c : Settings) (required isPrevPoint : Bool) (p : PointView) (d : DagPoint) → dependencyTrail c required isPrevPoint p d ≡ [] → RowsNone c required isPrevPoint p d
+unfolding dependencyTrail
+rows-none c required isPrevPoint p (Valid q) h = all-none (pointRows c required isPrevPoint p (depView q)) h
+rows-none c required isPrevPoint p (TransInvalid q root n) h = all-none (pointRows c required isPrevPoint p (depView q)) h
+rows-none c required isPrevPoint p (Invalid q n) h = all-none (pointRows c required isPrevPoint p (depView q)) h
+rows-none c required isPrevPoint p (IllFormed i n) h = let z : _≡_ {A = ℕ} 0 1 = cc in absurd (omega arith)
+rows-none c required isPrevPoint p (NotFound i) h = let z : _≡_ {A = ℕ} 0 1 = cc in absurd (omega arith)
+rows-none c required isPrevPoint p Dropped h = tt
+
+abbrev pub TargetRowsNone : Settings → AnchorStageRole → PointView → DagPoint → Type 0
+TargetRowsNone c g p (Valid q) = AllNone (indirectPointRows c g p (depView q))
+TargetRowsNone c g p (TransInvalid q root n) = AllNone (indirectPointRows c g p (depView q))
+TargetRowsNone c g p (Invalid q n) = AllNone (indirectPointRows c g p (depView q))
+TargetRowsNone c g p (IllFormed i n) = ⊥
+TargetRowsNone c g p (NotFound i) = ⊥
+TargetRowsNone c g p Dropped = Unit
+
+pub target-rows-none : (c : Settings) (g : AnchorStageRole) (p : PointView) (d : DagPoint) → indirectEntryTrail c g p d ≡ [] → TargetRowsNone c g p d
+unfolding indirectEntryTrail
+target-rows-none c g p (Valid q) h = all-none (indirectPointRows c g p (depView q)) h
+target-rows-none c g p (TransInvalid q root n) h = all-none (indirectPointRows c g p (depView q)) h
+target-rows-none c g p (Invalid q n) h = all-none (indirectPointRows c g p (depView q)) h
+target-rows-none c g p (IllFormed i n) h = let z : _≡_ {A = ℕ} 0 1 = cc in absurd (omega arith)
+target-rows-none c g p (NotFound i) h = let z : _≡_ {A = ℕ} 0 1 = cc in absurd (omega arith)
+target-rows-none c g p Dropped h = tt
+
+-- what it means that no reason is given
+pub record Passed (c : Settings) (required : Bool) (p : PointView) (es : List Entry) (ts : List IndirectEntry) : Type 0 where
+  pub direct : directTrail c required p false es ≡ []
+  pub indirect : indirectTrail c p ts ≡ []
+  pub entries : (e : Entry) → List·Memᴰ e es → (isDropped (e .state) ≡ false) × (entryTrail c required p e ≡ [])
+  pub targets : (a : IndirectEntry) → List·Memᴰ a ts → indirectEntryTrail c (a .role) p (a .entry .state) ≡ []
+
+no-reason : (o : Option InvalidReason) (w : Option InvalidDependency) → hasReason (resultWith o w) ≡ false → o ≡ none
+no-reason none w h = refl
+no-reason (some r) w h = let z : _≡_ {A = ℕ} 0 1 = cc in absurd (omega arith)
+
+both-none : (a b : List InvalidReason) → pick (isEmpty a) b a ≡ [] → (a ≡ []) × (b ≡ [])
+both-none [] b h = (refl, h)
+both-none (x ∷ a) b h = let z : _≡_ {A = ℕ} 0 1 = cc in absurd (omega arith)
+
+module _ (c : Settings) (required : Bool) (p : PointInfo) (es : List Entry) (ts : List IndirectEntry) where
+  -- Valid or TransInvalid: every check passed for every entry
+  pub trail-all : hasReason (overLists c required p es ts) ≡ false → Passed c required (pointView p) es ts
+  unfolding overLists
+  trail-all h =
+      let n = both-none (directTrail c required (pointView p) false es) (indirectTrail c (pointView p) ts) (last-none _ (no-reason _ _ h)) in
+      record {
+        direct = n .0;
+        indirect = n .1;
+        entries = entry-all c required (pointView p) es (n .0);
+        targets = target-all c (pointView p) ts (n .1);
+      }
+
+  pub validate-all : (presence : ℕ) → hasReason (validate c required presence p es ts) ≡ false →
+      (presenceReason presence p ≡ none) × Passed c required (pointView p) es ts
+  unfolding validate
+  validate-all presence h = go (presenceReason presence p) h
+    where
+      go : (o : Option InvalidReason) → hasReason (validateWith o (overLists c required p es ts)) ≡ false → (o ≡ none) × Passed c required (pointView p) es ts
+      go none k = (refl, trail-all k)
+      go (some r) k = let z : _≡_ {A = ℕ} 0 1 = cc in absurd (omega arith)

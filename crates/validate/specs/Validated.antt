@@ -1,0 +1,155 @@
+-- What the code's values stand for, and judging as a step from entry to entry.
+use Prim.Native.Nat.{ℕ}
+use mathlib.Core.Bool.{Bool, true, false}
+use mathlib.Core.Option.{Option, none, some}
+use mathlib.Core.List.{List, [], _∷_}
+use Rattle.base.specs.Base.{pick, lastOf}
+use Rattle.map.specs.Rows.{foundOf}
+use Rattle.point.specs.Point.{Through, PointInfo, through, anchorLink}
+use Rattle.point.specs.Reading.{pointIdOf}
+use Rattle.point.specs.declared.data.AnchorStageRole.{AnchorStageRole}
+use Rattle.schedule.specs.Settings.{Settings}
+use Rattle.reasons.specs.Invalid.{InvalidReason, DependencyRoundDropped, InvalidDependency, reasonOf, dependencyOf}
+use Rattle.verifier.specs.DagPoint.{Entry, IndirectEntry, isDropped, LinkIds, PointView, pointView, DepView}
+use Rattle.verifier.specs.Validate.{Taken, asDependency, asPrevPoint, asVersion, aside, entryTrail, indirectEntryTrail, entryRecord, recordOf, join, ValidateResult, resultWith}
+use Rattle.entries.specs.Entries.{Listed}
+use Rattle.validate.specs.declared.view.LinkIds as code-links
+use Rattle.validate.specs.declared.view.PointView as code-point
+use Rattle.validate.specs.declared.view.DepView as code-dep
+use Rattle.validate.specs.declared.rows.Reason as code-reason
+use Rattle.validate.specs.declared.rows.Reason.the-variants as case-reason
+use Rattle.validate.specs.declared.dependency.Recorded as code-recorded
+use Rattle.validate.specs.declared.dependency.Recorded.the-variants as case-recorded
+use Rattle.validate.specs.declared.step.Judging as code-judging
+use Rattle.validate.specs.declared.step.Taken as code-taken
+use Rattle.validate.specs.declared.step.Taken.the-variants as case-taken
+
+abbrev pub linkIdsOf : code-links.LinkIds → LinkIds
+linkIdsOf l = record { target = pointIdOf (l .target); source = pointIdOf (l .source) }
+
+abbrev pub pointViewOf : code-point.PointView → PointView
+pointViewOf p =
+    record {
+      id = pointIdOf (p .id);
+      role = p .role;
+      time = p .time;
+      anchorTime = p .«anchor_time»;
+      prevDigest = foundOf (p .«prev_digest»);
+      proof = linkIdsOf (p .proof);
+      trigger = linkIdsOf (p .trigger);
+    }
+
+abbrev pub depViewOf : code-dep.DepView → DepView
+depViewOf q =
+    record {
+      id = pointIdOf (q .id);
+      role = q .role;
+      time = q .time;
+      anchorTime = q .«anchor_time»;
+      proofTop = pointIdOf (q .«proof_top»);
+      triggerTop = pointIdOf (q .«trigger_top»);
+    }
+
+abbrev pub optionOf : code-reason.Reason → Option InvalidReason
+optionOf (case-reason.Reason r) = some (reasonOf r)
+optionOf case-reason.NoReason = none
+
+abbrev pub recordedOf : code-recorded.Recorded → Option InvalidDependency
+recordedOf (case-recorded.Recorded d) = some (dependencyOf d)
+recordedOf case-recorded.Nothing = none
+
+abbrev pub takenOf : code-taken.Taken → Taken
+takenOf case-taken.AsDependency = asDependency
+takenOf case-taken.AsPrevPoint = asPrevPoint
+takenOf case-taken.AsVersion = asVersion
+takenOf case-taken.Aside = aside
+
+-- ---- judging so far: the last reason of the direct entries and of the indirect ones, the root cause recorded, and whether a
+-- dropped entry has ended the direct list
+pub record Judging : Type 0 where
+  pub direct : Option InvalidReason
+  pub indirect : Option InvalidReason
+  pub recorded : Option InvalidDependency
+  pub ended : Bool
+
+-- a later reason replaces an earlier one
+abbrev pub laterOf : Option InvalidReason → Option InvalidReason → Option InvalidReason
+laterOf old none = old
+laterOf old (some reason) = some reason
+
+abbrev pub orDropped : Option InvalidReason → Option InvalidReason
+orDropped none = some DependencyRoundDropped
+orDropped (some reason) = some reason
+
+abbrev pub start : Judging
+start = record { direct = none; indirect = none; recorded = none; ended = false }
+
+-- the step of a direct entry: one step of directTrail and of directRecord
+unfoldable pub directStep : Settings → Bool → PointView → Judging → Entry → Judging
+unfolding lastOf entryTrail join entryRecord
+directStep c required p j e =
+    pick (j .ended) j
+    (pick (isDropped (e .state))
+    (record { direct = orDropped (j .direct); indirect = j .indirect; recorded = j .recorded; ended = true })
+    (record {
+      direct = laterOf (j .direct) (lastOf (entryTrail c required p e));
+      indirect = j .indirect;
+      recorded = join (j .recorded) (entryRecord c p e);
+      ended = false;
+    }))
+
+-- the step of the entry of an indirect link's target, which goes through t: one step of indirectTrail and of indirectRecord
+unfoldable pub indirectStep : Settings → PointView → AnchorStageRole → Through → Judging → Entry → Judging
+unfolding lastOf indirectEntryTrail join recordOf
+indirectStep c p g t j e =
+    record {
+      direct = j .direct;
+      indirect = laterOf (j .indirect) (lastOf (indirectEntryTrail c g p (e .state)));
+      recorded = join (j .recorded) (recordOf c (p .id .round) (e .certified) t (e .state));
+      ended = j .ended;
+    }
+
+abbrev pub judgingOf : code-judging.Judging → Judging
+judgingOf j =
+    record {
+      direct = optionOf (j .direct);
+      indirect = optionOf (j .indirect);
+      recorded = recordedOf (j .recorded);
+      ended = j .ended;
+    }
+
+-- ---- judging over lists, entry by entry
+
+unfoldable pub directFold : Settings → Bool → PointView → Judging → List Entry → Judging
+unfolding directStep
+directFold c required p j [] = j
+directFold c required p j (e ∷ l) = directFold c required p (directStep c required p j e) l
+
+-- an indirect entry goes through its link's map and peer
+abbrev pub targetStep : Settings → PointInfo → AnchorStageRole → Judging → Entry → Judging
+targetStep c p g j e = indirectStep c (pointView p) g (through (anchorLink g p)) j e
+
+unfoldable pub indirectFold : Settings → PointInfo → Judging → List IndirectEntry → Judging
+unfolding indirectStep pointView
+indirectFold c p j [] = j
+indirectFold c p j (a ∷ l) = indirectFold c p (targetStep c p (a .role) j (a .entry)) l
+
+-- an entry is judged by what it is for
+abbrev pub listedStep : Option AnchorStageRole → Settings → Bool → PointInfo → Judging → Entry → Judging
+listedStep none c required p j e = directStep c required (pointView p) j e
+listedStep (some g) c required p j e = targetStep c p g j e
+
+-- over a list as it stands, direct and indirect entries mixed
+unfoldable pub listedFold : Settings → Bool → PointInfo → Judging → List Listed → Judging
+unfolding directStep indirectStep pointView
+listedFold c required p j [] = j
+listedFold c required p j (x ∷ l) = listedFold c required p (listedStep (x .aim) c required p j (x .entry)) l
+
+-- "Indirect entries are judged only if the direct ones gave no reason"
+abbrev pub laterReason : Option InvalidReason → Option InvalidReason → Option InvalidReason
+laterReason (some reason) indirect = some reason
+laterReason none indirect = indirect
+
+-- what judging has found, once both lists are done
+abbrev pub resultOf : Judging → ValidateResult
+resultOf j = resultWith (laterReason (j .direct) (j .indirect)) (j .recorded)
