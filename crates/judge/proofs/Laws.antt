@@ -1,161 +1,160 @@
--- Laws of judging over a list: the previous point, and the walk.
-use Prim.Native.Nat.{ℕ, zero, suc, _-_, _≤_, _<_}
+-- Laws of the call: the numbers and the verdict in their order.
+use Prim.Native.Nat.{ℕ, _≤_}
+use native.Mathlib.Omega.{arith}
 use mathlib.Core.Path.{_≡_, refl, ap, sym, _∙_}
-use mathlib.Core.Bool.{Bool, true, false, not, _&&_, _||_}
+use mathlib.Core.Bool.{Bool, true, false, not, _&&_}
 use mathlib.Core.Option.{Option, none, some}
 use mathlib.Core.List.{List, [], _∷_}
-use lib.ListN.{length, drop}
+use lib.ListN.{length}
 use lib.Dec.{eqb, ltb}
-use borrow.Author.Tests.{lt-ltb, eq-eqb, ne-eqb}
+use borrow.Author.Tests.{lt-ltb, eq-eqb, ne-eqb, le-leb}
 use Rattle.base.specs.Base.{pick, isSome}
-use native.Mathlib.Omega.{arith}
-use Rattle.point.specs.Point.{PointId, PointInfo, prevDigest, prevId}
-use Rattle.verifier.specs.DagPoint.{pointView}
-use Rattle.verifier.specs.Validate.{sameId}
-use Rattle.mismatch.specs.Mismatch.{isId, uncovers}
+use Rattle.point.specs.Point.{PointInfo, prevId}
+use Rattle.point.specs.declared.data.PointMap.the-variants as case-map
 use Rattle.schedule.specs.Settings.{Settings}
-use Rattle.entries.specs.Entries.{Listed, readEntry, isInOrder, listThen, listWith, listFrom}
-use Rattle.validate.specs.Validated.{Judging}
-use Rattle.point.specs.Point.{Through, through}
-use Rattle.point.specs.Reading.{linkIn, pointOf}
-use Rattle.point.specs.declared.info.PointInfo as code-info
-use Rattle.point.specs.declared.data.AnchorStageRole.{AnchorStageRole}
-use Rattle.point.specs.declared.data.AnchorStageRole.the-variants.{Proof, Trigger}
-use Rattle.verifier.specs.Verify.{isEmpty}
-use Rattle.verifier.specs.DagPoint.{Entry}
-use Rattle.validate.specs.Validated.{indirectStep, pointViewOf}
-use Rattle.validate.specs.declared.view.PointView as code-view
-use Rattle.entries.specs.Entries.{Placed, ListedPlaced}
-use Rattle.entries.specs.declared.Listed as code-listed
-use Rattle.entries.specs.declared.ReadListed as code-read
-use Rattle.entries.specs.declared.ReadListed.the-variants as case-read
-use Rattle.judge.specs.declared.Next as code-next
-use Rattle.judge.specs.declared.Next.the-variants as case-next
-use Rattle.judge.specs.declared.Walk as code-walk
-use Rattle.judge.specs.Walk.{NextWithin, Walk, Viewed, viewed, stepAs, prevFrom, prevIn, walkStep, walkFold, Next, nextWith, walkWith, viewedOf}
+use Rattle.reasons.specs.Invalid.{NoRoundInDag}
+use Rattle.reasons.specs.Verdict.{Valid, verdictOf}
+use Rattle.reasons.specs.declared.ill_formed.VerifyError.{VerifyError}
+use Rattle.reasons.specs.declared.verdict.Verdict as code-verdict
+use Rattle.verifier.specs.Verify.{isEmpty, scheduled, verify}
+use Rattle.verifier.specs.Found.{bufferWith}
+use Rattle.verifier.specs.DagPoint.{Entry, IndirectEntry}
+use Rattle.verifier.specs.Validate.{isInvalid, overLists, presenceReason, validate}
+use Rattle.verify.specs.Call.{Input, Tested, refused, taken, verifyBuffer}
+use Rattle.check_ill_formed.specs.WaveChecked.{waveChecked}
+use Rattle.check_ill_formed.specs.declared.WaveChecked.{WaveChecked}
+use Rattle.entries.specs.Entries.{Listed, readList, directs, indirects}
+use Rattle.validate.specs.Validated.{resultOf}
+use Rattle.mismatch.specs.Mismatch.{mismatch, uncovered}
+use Rattle.judge_list.proofs.WalkLaws.{walked-result, walked-uncovered}
+use Rattle.judge_list.specs.Walk.{Walk, viewed, walkFold, walkWith, walkStart}
+use Rattle.judge.specs.Judge.{JudgeAnswer, Number, Given, ofError, ofResult, Before, needed, beforeWave, beforeWith, before, judgeFrom, overList, judgeWith, judgeAnswerOf}
+use Rattle.judge.specs.declared.JudgeAnswer as code-answer
+use Rattle.judge.specs.declared.JudgeAnswer.the-variants as case-answer
 
-pub and-false : (b : Bool) → (b && false) ≡ false
-and-false true = refl
-and-false false = refl
+-- ---- the answer over a list, from the walk and the tests that led there
 
--- ---- the previous point
+-- what a test told of a list, if it was read
+abbrev pub Mismatch : ℕ → PointInfo → Option (List Listed) → Bool → Type 0
+Mismatch presence p o b = (l : List Listed) → o ≡ some l → b ≡ mismatch presence p (directs l) (indirects l)
 
-pub prev-other-round : (i j : PointId) (o : Option ℕ) → eqb (i .round - 1) (j .round) ≡ false → isId (prevFrom i o) j ≡ false
-unfolding sameId
-prev-other-round i j none h = refl
-prev-other-round i j (some d) h = rw h
+module _ (c : Settings) (required : Bool) (p : PointInfo) where
+  -- what the walk over a list came to, if that was read
+  abbrev pub Walked : Option (List Listed) → Option Walk → Type 0
+  Walked o w = w ≡ walkWith c required (viewed p) walkStart o
 
-pub prev-other-author : (i j : PointId) (o : Option ℕ) →
-    eqb (i .round - 1) (j .round) ≡ true → eqb (i .author) (j .author) ≡ false → isId (prevFrom i o) j ≡ false
-unfolding sameId
-prev-other-author i j none h g = refl
-prev-other-author i j (some d) h g = rw (h, g, and-false (eqb d (j .digest)))
+  pub was-read : (o : Option (List Listed)) (w : Walk) → Walked o (some w) → isSome o ≡ true
+  was-read none w h = let z : _≡_ {A = ℕ} 0 1 = cc in absurd (omega arith)
+  was-read (some l) w h = refl
 
-pub prev-digest : (i j : PointId) (d : ℕ) →
-    eqb (i .round - 1) (j .round) ≡ true → eqb (i .author) (j .author) ≡ true → isId (prevFrom i (some d)) j ≡ eqb d (j .digest)
-unfolding sameId
-prev-digest i j d h g = rw (h, g, and-true (eqb d (j .digest)))
-  where
-    and-true : (b : Bool) → (b && true) ≡ b
-    and-true true = refl
-    and-true false = refl
+  walk-is : (l : List Listed) (w : Walk) → Walked (some l) (some w) → w ≡ walkFold c required (viewed p) walkStart l
+  walk-is l w h = cc
 
--- ---- the walk
+  is-uncovered : (l : List Listed) (w : Walk) → Walked (some l) (some w) → uncovered (prevId p) (directs l) (indirects l) ≡ w .uncovered
+  is-uncovered l w h = sym (walked-uncovered c required p l) ∙ ap (λ (k : Walk). k .uncovered) (sym (walk-is l w h))
 
-module _ (c : Settings) (required : Bool) (p : Viewed) where
-  -- what one entry makes of the walk, by its parts
-  pub walked : (w : Walk) (x : Listed) (j : Judging) (u b : Bool) →
-      j ≡ stepAs (x .aim) c required p (w .judging) (x .entry) →
-      u ≡ uncovers (prevIn (p .view)) (x .entry) →
-      b ≡ (w .uncovered || u) →
-      _≡_ {A = Walk} (record { judging = j; uncovered = b }) (walkStep c required p w x)
-  unfolding walkStep
-  walked w x j u b e f g = rw (e, g, f)
+module _ (c : Settings) (required : Bool) (presence : ℕ) (p : PointInfo) where
+  pub answer-unread : (o : Option (List Listed)) → Walked c required p o none → Number 7 ≡ overList c required presence p o
+  answer-unread none h = refl
+  answer-unread (some l) h = let z : _≡_ {A = ℕ} 0 1 = cc in absurd (omega arith)
 
-  -- the walk over what is left, once the next entry is read
-  abbrev pub walkNext : ℕ → List ℕ → Option Next → Option Walk
-  walkNext n s none = none
-  walkNext n s (some y) = walkWith c required p (y .walk) (listFrom n (y .behind) (drop (y .size) s))
+  pub answer-mismatch : (o : Option (List Listed)) (w : Walk) → Walked c required p o (some w) → Mismatch presence p o true →
+      Number 8 ≡ overList c required presence p o
+  answer-mismatch none w h m = let z : _≡_ {A = ℕ} 0 1 = cc in absurd (omega arith)
+  answer-mismatch (some l) w h m = rw (sym (m l refl))
 
-  then-walked : (w : Walk) (x : Listed) (o : Option (List Listed)) →
-      walkWith c required p w (listThen x o) ≡ walkWith c required p (walkStep c required p w x) o
-  unfolding walkFold
-  then-walked w x none = refl
-  then-walked w x (some l) = refl
+  pub answer-uncovered : (o : Option (List Listed)) (w : Walk) → Walked c required p o (some w) → Mismatch presence p o false → w .uncovered ≡ true →
+      Number 9 ≡ overList c required presence p o
+  answer-uncovered none w h m u = let z : _≡_ {A = ℕ} 0 1 = cc in absurd (omega arith)
+  answer-uncovered (some l) w h m u = rw (sym (m l refl), is-uncovered c required p l w h, u)
 
-  with-walked : (w : Walk) (n : ℕ) (behind : Bool) (s : List ℕ) (o : Option Listed) →
-      walkWith c required p w (listWith (λ b t. listFrom n b t) behind s o) ≡ walkNext n s (nextWith c required p behind w o)
-  with-walked w n behind s none = refl
-  with-walked w n behind s (some x) = ordered (isInOrder behind (x .aim))
-    where
-      ordered : (b : Bool) →
-          walkWith c required p w (pick b (listThen x (listFrom n (isSome (x .aim)) (drop (x .size) s))) none)
-          ≡ walkNext n s (pick b (some (record { walk = walkStep c required p w x; behind = isSome (x .aim); size = x .size })) none)
-      ordered true = then-walked w x (listFrom n (isSome (x .aim)) (drop (x .size) s))
-      ordered false = refl
+  -- past the numbers
+  answer-judged : (l : List Listed) (w : Walk) → Walked c required p (some l) (some w) → Mismatch presence p (some l) false → w .uncovered ≡ false →
+      Given (ofResult (validate c required presence p (directs l) (indirects l))) ≡ overList c required presence p (some l)
+  answer-judged l w h m u = rw (sym (m l refl), is-uncovered c required p l w h, u)
 
-  -- what the next entry makes of the walk, by what was read
-  pub next-unread : (behind : Bool) (w : Walk) (o : Option Listed) → o ≡ none → nextWith c required p behind w o ≡ none
-  next-unread behind w o e = rw e
+  module _ (two : 2 ≤ presence) where
+    -- whether the witness round lacks
+    by-witness : (b : Bool) (es : List Entry) (ts : List IndirectEntry) → b ≡ (eqb presence 2 && not (isEmpty (p .witness))) →
+        validate c required presence p es ts ≡ pick b (isInvalid (NoRoundInDag case-map.Witness)) (overLists c required p es ts)
+    unfolding validate presenceReason
+    by-witness true es ts h = rw (← h, ne-eqb presence 0 (λ e. omega (arith, two, e)), ne-eqb presence 1 (λ e. omega (arith, two, e)))
+    by-witness false es ts h = rw (← h, ne-eqb presence 0 (λ e. omega (arith, two, e)), ne-eqb presence 1 (λ e. omega (arith, two, e)))
 
-  pub next-disordered : (behind : Bool) (w : Walk) (o : Option Listed) (x : Listed) → o ≡ some x → isInOrder behind (x .aim) ≡ false →
-      nextWith c required p behind w o ≡ none
-  next-disordered behind w o x e h = rw (e, h)
+    pub answer-witness : (o : Option (List Listed)) (w : Walk) → Walked c required p o (some w) → Mismatch presence p o false → w .uncovered ≡ false →
+        true ≡ (eqb presence 2 && not (isEmpty (p .witness))) →
+        Given (ofResult (isInvalid (NoRoundInDag case-map.Witness))) ≡ overList c required presence p o
+    answer-witness none w h m u n = let z : _≡_ {A = ℕ} 0 1 = cc in absurd (omega arith)
+    answer-witness (some l) w h m u n = ap (λ r. Given (ofResult r)) (sym (by-witness true (directs l) (indirects l) n)) ∙ answer-judged l w h m u
 
-  pub next-ordered : (behind : Bool) (w : Walk) (o : Option Listed) (x : Listed) → o ≡ some x → isInOrder behind (x .aim) ≡ true →
-      (v : Walk) (b : Bool) → v ≡ walkStep c required p w x → b ≡ isSome (x .aim) →
-      _≡_ {A = Option Next} (some (record { walk = v; behind = b; size = x .size })) (nextWith c required p behind w o)
-  next-ordered behind w o x e h v b f g = rw (e, h, f, g)
+    pub answer-verdict : (s : List ℕ) (o : Option (List Listed)) (w : Walk) → readList s ≡ o → Walked c required p o (some w) →
+        Mismatch presence p o false → w .uncovered ≡ false → false ≡ (eqb presence 2 && not (isEmpty (p .witness))) →
+        Given (ofResult (resultOf (w .judging))) ≡ overList c required presence p o
+    answer-verdict s none w r h m u n = let z : _≡_ {A = ℕ} 0 1 = cc in absurd (omega arith)
+    answer-verdict s (some l) w r h m u n =
+        ap (λ (k : Walk). Given (ofResult (resultOf (k .judging)))) (walk-is c required p l w h)
+        ∙ (ap (λ q. Given (ofResult q)) (walked-result c required p s l r ∙ sym (by-witness false (directs l) (indirects l) n))
+        ∙ answer-judged l w h m u)
 
-  -- one turn
-  pub turn : (w : Walk) (n : ℕ) (behind : Bool) (s : List ℕ) → 0 < length s →
-      walkWith c required p w (listFrom (suc n) behind s) ≡ walkNext n s (nextWith c required p behind w (readEntry s))
-  unfolding listFrom
-  turn w n behind s h = rw (ne-eqb (length s) 0 (λ e. omega arith)) (with-walked w n behind s (readEntry s))
+-- ---- before the list
 
-  -- no entry may follow, or none does
-  pub too-many : (w : Walk) (behind : Bool) (s : List ℕ) → 0 < length s → walkWith c required p w (listFrom 0 behind s) ≡ none
-  unfolding listFrom
-  too-many w behind s h = rw (ne-eqb (length s) 0 (λ e. omega arith))
+module _ (c : Settings) (presence : ℕ) (p : PointInfo) (list : List ℕ) where
+  abbrev pub From : Before → JudgeAnswer → Type 0
+  From b a = a ≡ judgeFrom c presence p list b
 
-  pub walk-end : (w : Walk) (n : ℕ) (behind : Bool) (s : List ℕ) → length s ≡ 0 → walkWith c required p w (listFrom n behind s) ≡ some w
-  unfolding listFrom walkFold
-  walk-end w zero behind s h = rw (eq-eqb (length s) 0 h)
-  walk-end w (suc n) behind s h = rw (eq-eqb (length s) 0 h)
+  module _ (required : Bool) where
+    pub answer-evidence : presence ≡ 0 → From (needed required) (Given (ofResult (isInvalid (NoRoundInDag case-map.Evidence))))
+    unfolding validate presenceReason
+    answer-evidence h = rw h
 
-  -- a turn whose entry can't be read, and one that goes on
-  pub turn-unread : (w : Walk) (left : ℕ) (behind : Bool) (s : List ℕ) → 0 < length s → 0 < left →
-      nextWith c required p behind w (readEntry s) ≡ none → walkWith c required p w (listFrom left behind s) ≡ none
-  turn-unread w (suc n) behind s h g e = turn w n behind s h ∙ ap (walkNext n s) e
-  turn-unread w zero behind s h g e = absurd (omega arith)
+    pub answer-includes : presence ≡ 1 → From (needed required) (Given (ofResult (isInvalid (NoRoundInDag case-map.Includes))))
+    unfolding validate presenceReason
+    answer-includes h = rw h
 
-  pub turn-read : (w : Walk) (left n : ℕ) (behind : Bool) (s : List ℕ) (y : Next) → 0 < length s → left ≡ suc n →
-      nextWith c required p behind w (readEntry s) ≡ some y →
-      walkWith c required p w (listFrom left behind s) ≡ walkWith c required p (y .walk) (listFrom n (y .behind) (drop (y .size) s))
-  turn-read w left n behind s y h g e = rw g (turn w n behind s h ∙ ap (walkNext n s) e)
+    pub answer-needed : (a : JudgeAnswer) → 2 ≤ presence → a ≡ overList c required presence p (readList list) → From (needed required) a
+    answer-needed a h e = e ∙ rw (le-leb 2 presence h)
 
--- a view that was read is the point's
-pub viewed-by : (v : code-view.PointView) (i : code-info.PointInfo) (s : List ℕ) → pointViewOf v ≡ pointView (pointOf s i) →
-    viewedOf v i ≡ viewed (pointOf s i)
-unfolding viewed
-viewed-by v i s e = rw e
+  pub answer-genesis : (wave : WaveChecked) → p .id .round ≡ c .genesisRound → From (beforeWith none (eqb (p .id .round) (c .genesisRound)) wave) (Given Valid)
+  answer-genesis wave h = rw (eq-eqb (p .id .round) (c .genesisRound) h)
 
--- where an entry that was read stands
-pub placed-listed : (s : List ℕ) (x : code-listed.Listed) (r : code-read.ReadListed) → r ≡ case-read.Listed x → ListedPlaced s r →
-    (0 < x .size) × Placed s (x .state) (x .place) (x .size)
-placed-listed s x r g q = rw g at q
+  pub answer-wave : (found wave : WaveChecked) (a : JudgeAnswer) → (p .id .round ≡ c .genesisRound → ⊥) → found ≡ wave → From (beforeWave found) a →
+      From (beforeWith none (eqb (p .id .round) (c .genesisRound)) wave) a
+  answer-wave found wave a h e f = f ∙ rw (ne-eqb (p .id .round) (c .genesisRound) h, e)
 
--- the entry of an indirect link's target is judged through that link
-pub targeted : (g : AnchorStageRole) (c : Settings) (required : Bool) (v : code-view.PointView) (i : code-info.PointInfo) (t : Through) (j : Judging) (e : Entry) →
-    t ≡ through (linkIn g i) → indirectStep c (pointViewOf v) g t j e ≡ stepAs (some g) c required (viewedOf v i) j e
-targeted Proof c required v i t j e h = rw h
-targeted Trigger c required v i t j e h = rw h
+-- ---- the call's answer and the buffer, from what its input was tested for
+
+module _ (leader presence : ℕ) (list : List ℕ) where
+  -- the answer stands for what was found, and the buffer holds what it should
+  abbrev pub Answered : Tested → code-answer.JudgeAnswer → List ℕ → List ℕ → Type 0
+  Answered t a old new = (judgeAnswerOf a ≡ judgeWith leader presence list t) × (new ≡ verifyBuffer t old)
+
+  pub answer-number : (t : Tested) (n : ℕ) (old : List ℕ) → t ≡ refused n → Answered t (case-answer.Number n) old old
+  unfolding judgeWith
+  answer-number t n old h = rw h (refl, refl)
+
+  module _ (t : Tested) (i : Input) (h : t ≡ taken i) (o : Option VerifyError) (e : o ≡ verify (i .settings) (i .schedule) (i .point)) (old new : List ℕ)
+      (b : new ≡ bufferWith (scheduled (i .settings) (i .schedule) (i .point)) (i .point) o old) where
+    buffered : new ≡ verifyBuffer t old
+    buffered = rw h (rw (← e) b)
+
+    judged-from : judgeWith leader presence list (taken i)
+        ≡ judgeFrom (i .settings) presence (i .point) list
+        (beforeWith o (eqb (i .point .id .round) (i .settings .genesisRound)) (waveChecked (i .schedule) (eqb leader 1) (i .point)))
+    unfolding judgeWith before
+    judged-from = rw (← e)
+
+    -- a verification that didn't pass
+    pub answer-failed : (v : code-verdict.Verdict) (x : VerifyError) → o ≡ some x → verdictOf v ≡ ofError x → Answered t (case-answer.Verdict v) old new
+    answer-failed v x f g = (ap Given g ∙ sym (ap (judgeWith leader presence list) h ∙ judged-from ∙ rw f), buffered)
+
+    -- one that passed
+    pub answer-passed : (a : code-answer.JudgeAnswer) → o ≡ none →
+        judgeAnswerOf a
+        ≡ judgeFrom (i .settings) presence (i .point) list
+        (beforeWith none (eqb (i .point .id .round) (i .settings .genesisRound)) (waveChecked (i .schedule) (eqb leader 1) (i .point))) →
+        Answered t a old new
+    answer-passed a f g = (g ∙ sym (ap (judgeWith leader presence list) h ∙ judged-from ∙ rw f), buffered)
 
 pub filled : {A : Type 0} (l : List A) → ltb 0 (length l) ≡ not (isEmpty l)
 filled [] = refl
 filled (x ∷ l) = lt-ltb 0 (length (x ∷ l)) (omega arith)
-
--- the next entry that was judged takes up bytes of what is left
-pub next-within : (most : ℕ) (r : code-next.Next) (w : code-walk.Walk) (b : Bool) (n : ℕ) → r ≡ case-next.Judged w b n → NextWithin most r →
-    (0 < n) × (n ≤ most)
-next-within most r w b n g q = rw g at q

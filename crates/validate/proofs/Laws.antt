@@ -9,7 +9,6 @@ use mathlib.Core.Option.{Option, none, some}
 use mathlib.Core.List.{List, [], _∷_, _++_, List·Memᴰ, List·Memᴰ·not-nil, List·Memᴰ·cases-cons}
 use lib.ListN.{length, drop}
 use lib.Dec.{eqb}
-use borrow.Author.Tests.{eq-eqb, ne-eqb}
 use Rattle.base.specs.Base.{pick, iff, lastOf, isSome}
 use Rattle.base.proofs.Laws.{and-right, picked, append-none, AllNone, all-none, last-none}
 use Rattle.point.specs.Point.{PointInfo}
@@ -21,14 +20,6 @@ use Rattle.verifier.specs.DagPoint.{DagPoint, Valid, TransInvalid, Invalid, Ill
 use Rattle.verifier.specs.Validate.{pointRows, dependencyTrail, entryTrail, directTrail, indirectPointRows, indirectEntryTrail, indirectTrail, entryRecord, join, directRecord, indirectRecord, ValidateResult, isInvalid, isTransInvalid, isValid, resultWith, overLists, presenceReason, validateWith, validate}
 use Rattle.entries.specs.Entries.{Listed, readEntry, isInOrder, listThen, listWith, listFrom, directThen, directs, indirectThen, indirects}
 use Rattle.validate.specs.Validated.{Judging, laterOf, orDropped, start, directStep, indirectStep, directFold, targetStep, indirectFold, listedStep, listedFold, laterReason, resultOf}
-
--- ---- tests of a round that a call gave
-
-pub equal-given : (a b d : ℕ) → a ≡ b → b ≡ d → eqb a d ≡ true
-equal-given a b d h e = eq-eqb a d (h ∙ e)
-
-pub unequal-given : (a b d : ℕ) → (a ≡ b → ⊥) → b ≡ d → eqb a d ≡ false
-unequal-given a b d h e = ne-eqb a d (λ q. h (q ∙ sym e))
 
 -- ---- the last reason
 

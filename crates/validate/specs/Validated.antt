@@ -1,68 +1,18 @@
 -- What the code's values stand for, and judging as a step from entry to entry.
-use Prim.Native.Nat.{ℕ}
 use mathlib.Core.Bool.{Bool, true, false}
 use mathlib.Core.Option.{Option, none, some}
 use mathlib.Core.List.{List, [], _∷_}
 use Rattle.base.specs.Base.{pick, lastOf}
-use Rattle.map.specs.Rows.{foundOf}
 use Rattle.point.specs.Point.{Through, PointInfo, through, anchorLink}
-use Rattle.point.specs.Reading.{pointIdOf}
 use Rattle.point.specs.declared.data.AnchorStageRole.{AnchorStageRole}
 use Rattle.schedule.specs.Settings.{Settings}
-use Rattle.reasons.specs.Invalid.{InvalidReason, DependencyRoundDropped, InvalidDependency, reasonOf, dependencyOf}
-use Rattle.verifier.specs.DagPoint.{Entry, IndirectEntry, isDropped, LinkIds, PointView, pointView, DepView}
-use Rattle.verifier.specs.Validate.{Taken, asDependency, asPrevPoint, asVersion, aside, entryTrail, indirectEntryTrail, entryRecord, recordOf, join, ValidateResult, resultWith}
+use Rattle.reasons.specs.Invalid.{InvalidReason, DependencyRoundDropped, InvalidDependency}
+use Rattle.verifier.specs.DagPoint.{Entry, IndirectEntry, isDropped, PointView, pointView}
+use Rattle.verifier.specs.Validate.{entryTrail, indirectEntryTrail, entryRecord, recordOf, join, ValidateResult, resultWith}
 use Rattle.entries.specs.Entries.{Listed}
-use Rattle.validate.specs.declared.view.LinkIds as code-links
-use Rattle.validate.specs.declared.view.PointView as code-point
-use Rattle.validate.specs.declared.view.DepView as code-dep
-use Rattle.validate.specs.declared.rows.Reason as code-reason
-use Rattle.validate.specs.declared.rows.Reason.the-variants as case-reason
-use Rattle.validate.specs.declared.dependency.Recorded as code-recorded
-use Rattle.validate.specs.declared.dependency.Recorded.the-variants as case-recorded
+use Rattle.check_valid.specs.Views.{optionOf}
+use Rattle.dependency.specs.Given.{recordedOf}
 use Rattle.validate.specs.declared.step.Judging as code-judging
-use Rattle.validate.specs.declared.step.Taken as code-taken
-use Rattle.validate.specs.declared.step.Taken.the-variants as case-taken
-
-abbrev pub linkIdsOf : code-links.LinkIds → LinkIds
-linkIdsOf l = record { target = pointIdOf (l .target); source = pointIdOf (l .source) }
-
-abbrev pub pointViewOf : code-point.PointView → PointView
-pointViewOf p =
-    record {
-      id = pointIdOf (p .id);
-      role = p .role;
-      time = p .time;
-      anchorTime = p .«anchor_time»;
-      prevDigest = foundOf (p .«prev_digest»);
-      proof = linkIdsOf (p .proof);
-      trigger = linkIdsOf (p .trigger);
-    }
-
-abbrev pub depViewOf : code-dep.DepView → DepView
-depViewOf q =
-    record {
-      id = pointIdOf (q .id);
-      role = q .role;
-      time = q .time;
-      anchorTime = q .«anchor_time»;
-      proofTop = pointIdOf (q .«proof_top»);
-      triggerTop = pointIdOf (q .«trigger_top»);
-    }
-
-abbrev pub optionOf : code-reason.Reason → Option InvalidReason
-optionOf (case-reason.Reason r) = some (reasonOf r)
-optionOf case-reason.NoReason = none
-
-abbrev pub recordedOf : code-recorded.Recorded → Option InvalidDependency
-recordedOf (case-recorded.Recorded d) = some (dependencyOf d)
-recordedOf case-recorded.Nothing = none
-
-abbrev pub takenOf : code-taken.Taken → Taken
-takenOf case-taken.AsDependency = asDependency
-takenOf case-taken.AsPrevPoint = asPrevPoint
-takenOf case-taken.AsVersion = asVersion
-takenOf case-taken.Aside = aside
 
 -- ---- judging so far: the last reason of the direct entries and of the indirect ones, the root cause recorded, and whether a
 -- dropped entry has ended the direct list

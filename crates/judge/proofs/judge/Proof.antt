@@ -14,7 +14,7 @@ use Rattle.verifier.specs.Found.{verifiedOf}
 use Rattle.verify.specs.Call.{inDomain, Input, Tested, taken, tested}
 use Rattle.verify.proofs.Laws.{schedule-read, schedule-unread, no-settings, no-schedule, no-point, no-domain, no-room, all-taken}
 use Rattle.judge.specs.Judge.{flagsOk}
-use Rattle.judge.proofs.CallLaws.{answer-number, answer-failed, answer-passed}
+use Rattle.judge.proofs.Laws.{answer-number, answer-failed, answer-passed}
 use borrow.Author.Needs.{needs}
 use Rattle.judge.proofs.judge.Statement.{statement}
 use Rattle.judge.proofs.judge.Tie as tie

@@ -1,7 +1,7 @@
 -- `judge_needed` meets its contract: a law for each presence.
 use mathlib.Core.Path.{_∙_}
 use native.Mathlib.Omega.{arith}
-use Rattle.judge.proofs.CallLaws.{answer-evidence, answer-includes, answer-needed}
+use Rattle.judge.proofs.Laws.{answer-evidence, answer-includes, answer-needed}
 use borrow.Author.Needs.{needs}
 use Rattle.judge.proofs.judge_needed.Statement.{statement}
 use Rattle.judge.proofs.judge_needed.Tie as tie

@@ -8,9 +8,9 @@ use Rattle.point.specs.Point.{PointInfo}
 use Rattle.point.specs.Reading.{pointOf}
 use Rattle.schedule.specs.Settings.{settingsOf}
 use Rattle.entries.specs.Entries.{Listed, readList}
-use Rattle.judge.specs.Walk.{Walk, walkOf, judgedListOf}
+use Rattle.judge_list.specs.Walk.{Walk, walkOf, judgedListOf}
 use Rattle.judge.specs.Judge.{Given}
-use Rattle.judge.proofs.CallLaws.{Walked, Mismatch, answer-unread, was-read, answer-mismatch, answer-uncovered, answer-witness, answer-verdict}
+use Rattle.judge.proofs.Laws.{Walked, Mismatch, answer-unread, was-read, answer-mismatch, answer-uncovered, answer-witness, answer-verdict}
 use borrow.Author.Needs.{needs}
 use Rattle.judge.proofs.judge_over_list.Statement.{statement}
 use Rattle.judge.proofs.judge_over_list.Tie as tie

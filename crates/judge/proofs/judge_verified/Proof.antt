@@ -1,6 +1,6 @@
 -- `judge_verified` meets its contract: genesis, else what check_ill_formed told.
 use mathlib.Core.Path.{refl, sym, _∙_}
-use Rattle.judge.proofs.CallLaws.{answer-genesis, answer-wave}
+use Rattle.judge.proofs.Laws.{answer-genesis, answer-wave}
 use borrow.Author.Needs.{needs}
 use Rattle.judge.proofs.judge_verified.Statement.{statement}
 use Rattle.judge.proofs.judge_verified.Tie as tie

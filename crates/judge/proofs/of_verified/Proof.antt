@@ -1,5 +1,5 @@
 -- `of_verified` meets its contract: a verification that passed has no error.
-use mathlib.Core.Path.{ap, sym, _∙_, _≡_}
+use mathlib.Core.Path.{ap, _∙_, _≡_}
 use Prim.Native.Nat.{ℕ}
 use native.Mathlib.Omega.{arith}
 use Rattle.verifier.specs.Found.{verifiedOf}

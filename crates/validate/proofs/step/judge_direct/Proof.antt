@@ -10,7 +10,8 @@ use Rattle.reasons.specs.Invalid.{InvalidReason, InvalidDependency}
 use Rattle.verifier.specs.DagPoint.{Entry, entryId, isDropped, PointView}
 use Rattle.verifier.specs.Validate.{Taken, taken, entryTrailAs, entryTrail, recordAs, entryRecord, join}
 use Rattle.entries.specs.Entries.{entryOf}
-use Rattle.validate.specs.Validated.{pointViewOf, Judging, laterOf, directStep, judgingOf}
+use Rattle.check_valid.specs.Views.{pointViewOf}
+use Rattle.validate.specs.Validated.{Judging, laterOf, directStep, judgingOf}
 use borrow.Author.Needs.{needs}
 use Rattle.validate.proofs.step.judge_direct.Statement.{statement}
 use Rattle.validate.proofs.step.judge_direct.Tie as tie

@@ -11,7 +11,8 @@ use Rattle.reasons.specs.Invalid.{InvalidReason, InvalidDependency}
 use Rattle.verifier.specs.DagPoint.{Entry, PointView}
 use Rattle.verifier.specs.Validate.{indirectEntryTrail, recordOf, join}
 use Rattle.entries.specs.Entries.{entryOf}
-use Rattle.validate.specs.Validated.{pointViewOf, Judging, laterOf, indirectStep, judgingOf}
+use Rattle.check_valid.specs.Views.{pointViewOf}
+use Rattle.validate.specs.Validated.{Judging, laterOf, indirectStep, judgingOf}
 use borrow.Author.Needs.{needs}
 use Rattle.validate.proofs.step.judge_indirect.Statement.{statement}
 use Rattle.validate.proofs.step.judge_indirect.Tie as tie

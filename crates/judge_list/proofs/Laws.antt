@@ -1,0 +1,157 @@
+-- Laws of judging over a list: the previous point, and the walk.
+use Prim.Native.Nat.{ℕ, zero, suc, _-_, _≤_, _<_}
+use mathlib.Core.Path.{_≡_, refl, ap, _∙_}
+use mathlib.Core.Bool.{Bool, true, false, _&&_, _||_}
+use mathlib.Core.Option.{Option, none, some}
+use mathlib.Core.List.{List}
+use lib.ListN.{length, drop}
+use lib.Dec.{eqb}
+use borrow.Author.Tests.{eq-eqb, ne-eqb}
+use Rattle.base.specs.Base.{pick, isSome}
+use native.Mathlib.Omega.{arith}
+use Rattle.point.specs.Point.{PointId, PointInfo}
+use Rattle.verifier.specs.DagPoint.{pointView}
+use Rattle.verifier.specs.Validate.{sameId}
+use Rattle.mismatch.specs.Mismatch.{isId, uncovers}
+use Rattle.schedule.specs.Settings.{Settings}
+use Rattle.entries.specs.Entries.{Listed, readEntry, isInOrder, listThen, listWith, listFrom}
+use Rattle.validate.specs.Validated.{Judging}
+use Rattle.point.specs.Point.{Through, through}
+use Rattle.point.specs.Reading.{linkIn, pointOf}
+use Rattle.point.specs.declared.info.PointInfo as code-info
+use Rattle.point.specs.declared.data.AnchorStageRole.{AnchorStageRole}
+use Rattle.point.specs.declared.data.AnchorStageRole.the-variants.{Proof, Trigger}
+use Rattle.verifier.specs.DagPoint.{Entry}
+use Rattle.validate.specs.Validated.{indirectStep}
+use Rattle.check_valid.specs.Views.{pointViewOf}
+use Rattle.check_valid.specs.declared.view.PointView as code-view
+use Rattle.entries.specs.Entries.{Placed, ListedPlaced}
+use Rattle.entries.specs.declared.Listed as code-listed
+use Rattle.entries.specs.declared.ReadListed as code-read
+use Rattle.entries.specs.declared.ReadListed.the-variants as case-read
+use Rattle.judge_list.specs.declared.Next as code-next
+use Rattle.judge_list.specs.declared.Next.the-variants as case-next
+use Rattle.judge_list.specs.declared.Walk as code-walk
+use Rattle.judge_list.specs.Walk.{NextWithin, Walk, Viewed, viewed, stepAs, prevFrom, prevIn, walkStep, walkFold, Next, nextWith, walkWith, viewedOf}
+
+pub and-false : (b : Bool) → (b && false) ≡ false
+and-false true = refl
+and-false false = refl
+
+-- ---- the previous point
+
+pub prev-other-round : (i j : PointId) (o : Option ℕ) → eqb (i .round - 1) (j .round) ≡ false → isId (prevFrom i o) j ≡ false
+unfolding sameId
+prev-other-round i j none h = refl
+prev-other-round i j (some d) h = rw h
+
+pub prev-other-author : (i j : PointId) (o : Option ℕ) →
+    eqb (i .round - 1) (j .round) ≡ true → eqb (i .author) (j .author) ≡ false → isId (prevFrom i o) j ≡ false
+unfolding sameId
+prev-other-author i j none h g = refl
+prev-other-author i j (some d) h g = rw (h, g, and-false (eqb d (j .digest)))
+
+pub prev-digest : (i j : PointId) (d : ℕ) →
+    eqb (i .round - 1) (j .round) ≡ true → eqb (i .author) (j .author) ≡ true → isId (prevFrom i (some d)) j ≡ eqb d (j .digest)
+unfolding sameId
+prev-digest i j d h g = rw (h, g, and-true (eqb d (j .digest)))
+  where
+    and-true : (b : Bool) → (b && true) ≡ b
+    and-true true = refl
+    and-true false = refl
+
+-- ---- the walk
+
+module _ (c : Settings) (required : Bool) (p : Viewed) where
+  -- what one entry makes of the walk, by its parts
+  pub walked : (w : Walk) (x : Listed) (j : Judging) (u b : Bool) →
+      j ≡ stepAs (x .aim) c required p (w .judging) (x .entry) →
+      u ≡ uncovers (prevIn (p .view)) (x .entry) →
+      b ≡ (w .uncovered || u) →
+      _≡_ {A = Walk} (record { judging = j; uncovered = b }) (walkStep c required p w x)
+  unfolding walkStep
+  walked w x j u b e f g = rw (e, g, f)
+
+  -- the walk over what is left, once the next entry is read
+  abbrev pub walkNext : ℕ → List ℕ → Option Next → Option Walk
+  walkNext n s none = none
+  walkNext n s (some y) = walkWith c required p (y .walk) (listFrom n (y .behind) (drop (y .size) s))
+
+  then-walked : (w : Walk) (x : Listed) (o : Option (List Listed)) →
+      walkWith c required p w (listThen x o) ≡ walkWith c required p (walkStep c required p w x) o
+  unfolding walkFold
+  then-walked w x none = refl
+  then-walked w x (some l) = refl
+
+  with-walked : (w : Walk) (n : ℕ) (behind : Bool) (s : List ℕ) (o : Option Listed) →
+      walkWith c required p w (listWith (λ b t. listFrom n b t) behind s o) ≡ walkNext n s (nextWith c required p behind w o)
+  with-walked w n behind s none = refl
+  with-walked w n behind s (some x) = ordered (isInOrder behind (x .aim))
+    where
+      ordered : (b : Bool) →
+          walkWith c required p w (pick b (listThen x (listFrom n (isSome (x .aim)) (drop (x .size) s))) none)
+          ≡ walkNext n s (pick b (some (record { walk = walkStep c required p w x; behind = isSome (x .aim); size = x .size })) none)
+      ordered true = then-walked w x (listFrom n (isSome (x .aim)) (drop (x .size) s))
+      ordered false = refl
+
+  -- what the next entry makes of the walk, by what was read
+  pub next-unread : (behind : Bool) (w : Walk) (o : Option Listed) → o ≡ none → nextWith c required p behind w o ≡ none
+  next-unread behind w o e = rw e
+
+  pub next-disordered : (behind : Bool) (w : Walk) (o : Option Listed) (x : Listed) → o ≡ some x → isInOrder behind (x .aim) ≡ false →
+      nextWith c required p behind w o ≡ none
+  next-disordered behind w o x e h = rw (e, h)
+
+  pub next-ordered : (behind : Bool) (w : Walk) (o : Option Listed) (x : Listed) → o ≡ some x → isInOrder behind (x .aim) ≡ true →
+      (v : Walk) (b : Bool) → v ≡ walkStep c required p w x → b ≡ isSome (x .aim) →
+      _≡_ {A = Option Next} (some (record { walk = v; behind = b; size = x .size })) (nextWith c required p behind w o)
+  next-ordered behind w o x e h v b f g = rw (e, h, f, g)
+
+  -- one turn
+  pub turn : (w : Walk) (n : ℕ) (behind : Bool) (s : List ℕ) → 0 < length s →
+      walkWith c required p w (listFrom (suc n) behind s) ≡ walkNext n s (nextWith c required p behind w (readEntry s))
+  unfolding listFrom
+  turn w n behind s h = rw (ne-eqb (length s) 0 (λ e. omega arith)) (with-walked w n behind s (readEntry s))
+
+  -- no entry may follow, or none does
+  pub too-many : (w : Walk) (behind : Bool) (s : List ℕ) → 0 < length s → walkWith c required p w (listFrom 0 behind s) ≡ none
+  unfolding listFrom
+  too-many w behind s h = rw (ne-eqb (length s) 0 (λ e. omega arith))
+
+  pub walk-end : (w : Walk) (n : ℕ) (behind : Bool) (s : List ℕ) → length s ≡ 0 → walkWith c required p w (listFrom n behind s) ≡ some w
+  unfolding listFrom walkFold
+  walk-end w zero behind s h = rw (eq-eqb (length s) 0 h)
+  walk-end w (suc n) behind s h = rw (eq-eqb (length s) 0 h)
+
+  -- a turn whose entry can't be read, and one that goes on
+  pub turn-unread : (w : Walk) (left : ℕ) (behind : Bool) (s : List ℕ) → 0 < length s → 0 < left →
+      nextWith c required p behind w (readEntry s) ≡ none → walkWith c required p w (listFrom left behind s) ≡ none
+  turn-unread w (suc n) behind s h g e = turn w n behind s h ∙ ap (walkNext n s) e
+  turn-unread w zero behind s h g e = absurd (omega arith)
+
+  pub turn-read : (w : Walk) (left n : ℕ) (behind : Bool) (s : List ℕ) (y : Next) → 0 < length s → left ≡ suc n →
+      nextWith c required p behind w (readEntry s) ≡ some y →
+      walkWith c required p w (listFrom left behind s) ≡ walkWith c required p (y .walk) (listFrom n (y .behind) (drop (y .size) s))
+  turn-read w left n behind s y h g e = rw g (turn w n behind s h ∙ ap (walkNext n s) e)
+
+-- a view that was read is the point's
+pub viewed-by : (v : code-view.PointView) (i : code-info.PointInfo) (s : List ℕ) → pointViewOf v ≡ pointView (pointOf s i) →
+    viewedOf v i ≡ viewed (pointOf s i)
+unfolding viewed
+viewed-by v i s e = rw e
+
+-- where an entry that was read stands
+pub placed-listed : (s : List ℕ) (x : code-listed.Listed) (r : code-read.ReadListed) → r ≡ case-read.Listed x → ListedPlaced s r →
+    (0 < x .size) × Placed s (x .state) (x .place) (x .size)
+placed-listed s x r g q = rw g at q
+
+-- the entry of an indirect link's target is judged through that link
+pub targeted : (g : AnchorStageRole) (c : Settings) (required : Bool) (v : code-view.PointView) (i : code-info.PointInfo) (t : Through) (j : Judging) (e : Entry) →
+    t ≡ through (linkIn g i) → indirectStep c (pointViewOf v) g t j e ≡ stepAs (some g) c required (viewedOf v i) j e
+targeted Proof c required v i t j e h = rw h
+targeted Trigger c required v i t j e h = rw h
+
+-- the next entry that was judged takes up bytes of what is left
+pub next-within : (most : ℕ) (r : code-next.Next) (w : code-walk.Walk) (b : Bool) (n : ℕ) → r ≡ case-next.Judged w b n → NextWithin most r →
+    (0 < n) × (n ≤ most)
+next-within most r w b n g q = rw g at q

@@ -1,0 +1,95 @@
+-- Laws for callers: the walk over a list gives what the definitions say of its direct and indirect entries.
+use Prim.Native.Nat.{ℕ}
+use mathlib.Core.Path.{_≡_, refl, ap, _∙_}
+use mathlib.Core.Bool.{Bool, true, false, _||_}
+use mathlib.Core.Option.{Option, none, some}
+use mathlib.Core.List.{List, [], _∷_}
+use Rattle.point.specs.Point.{PointInfo, prevDigest, prevIdWith, prevId}
+use Rattle.point.specs.declared.data.AnchorStageRole.{AnchorStageRole}
+use Rattle.point.specs.declared.data.AnchorStageRole.the-variants.{Proof, Trigger}
+use Rattle.schedule.specs.Settings.{Settings}
+use Rattle.verifier.specs.DagPoint.{Entry, pointView}
+use Rattle.verifier.specs.Validate.{overLists}
+use Rattle.entries.specs.Entries.{Listed, readList, directThen, directs, indirectThen, indirects}
+use Rattle.validate.specs.Validated.{Judging, listedStep, listedFold, resultOf}
+use Rattle.validate.proofs.Laws.{listed-over-lists}
+use Rattle.mismatch.specs.Mismatch.{uncovers, anyUncovers, entriesIn, uncovered}
+use Rattle.judge_list.specs.Walk.{Walk, Viewed, viewed, stepAs, prevFrom, prevIn, walkStep, walkFold, walkStart}
+
+-- ---- the previous point over the walk
+
+prev-in : (p : PointInfo) → prevIn (pointView p) ≡ prevId p
+unfolding pointView prevId
+prev-in p = go (prevDigest p)
+  where
+    go : (o : Option ℕ) → prevFrom (p .id) o ≡ prevIdWith p o
+    go none = refl
+    go (some d) = refl
+
+or-none : (a : Bool) → a ≡ (a || (false || false))
+or-none true = refl
+or-none false = refl
+
+-- an entry stands before the direct ones, or before the indirect ones
+or-direct : (a u d i : Bool) → ((a || u) || (d || i)) ≡ (a || ((u || d) || i))
+or-direct true u d i = refl
+or-direct false true d i = refl
+or-direct false false d i = refl
+
+or-indirect : (a u d i : Bool) → ((a || u) || (d || i)) ≡ (a || (d || (u || i)))
+or-indirect true u d i = refl
+or-indirect false true true i = refl
+or-indirect false true false i = refl
+or-indirect false false d i = refl
+
+module _ (c : Settings) (required : Bool) (v : Viewed) where
+  walk-uncovered : (l : List Listed) (w : Walk) →
+      walkFold c required v w l .uncovered ≡ (w .uncovered || uncovered (prevIn (v .view)) (directs l) (indirects l))
+  unfolding walkFold walkStep uncovered anyUncovers entriesIn directs indirects
+  walk-uncovered [] w = or-none (w .uncovered)
+  walk-uncovered (x ∷ l) w = walk-uncovered l (walkStep c required v w x) ∙ go (x .aim)
+    where
+      go : (aim : Option AnchorStageRole) →
+          ((w .uncovered || uncovers (prevIn (v .view)) (x .entry)) || uncovered (prevIn (v .view)) (directs l) (indirects l))
+          ≡ (w .uncovered || uncovered (prevIn (v .view)) (directThen aim (x .entry) (directs l)) (indirectThen aim (x .entry) (indirects l)))
+      go none =
+          or-direct
+          (w .uncovered)
+          (uncovers (prevIn (v .view)) (x .entry))
+          (anyUncovers (prevIn (v .view)) (directs l))
+          (anyUncovers (prevIn (v .view)) (entriesIn (indirects l)))
+      go (some g) =
+          or-indirect
+          (w .uncovered)
+          (uncovers (prevIn (v .view)) (x .entry))
+          (anyUncovers (prevIn (v .view)) (directs l))
+          (anyUncovers (prevIn (v .view)) (entriesIn (indirects l)))
+
+-- ---- judging over the walk
+
+module _ (c : Settings) (required : Bool) (p : PointInfo) where
+  step-listed : (aim : Option AnchorStageRole) (j : Judging) (e : Entry) → stepAs aim c required (viewed p) j e ≡ listedStep aim c required p j e
+  unfolding viewed
+  step-listed none j e = refl
+  step-listed (some Proof) j e = refl
+  step-listed (some Trigger) j e = refl
+
+  walk-judging : (l : List Listed) (w : Walk) → walkFold c required (viewed p) w l .judging ≡ listedFold c required p (w .judging) l
+  unfolding walkFold walkStep listedFold
+  walk-judging [] w = refl
+  walk-judging (x ∷ l) w =
+      walk-judging l (walkStep c required (viewed p) w x)
+      ∙ ap (λ (j : Judging). listedFold c required p j l) (step-listed (x .aim) (w .judging) (x .entry))
+
+  -- over a list that was read
+  pub walked-result : (s : List ℕ) (l : List Listed) → readList s ≡ some l →
+      resultOf (walkFold c required (viewed p) walkStart l .judging) ≡ overLists c required p (directs l) (indirects l)
+  unfolding readList
+  walked-result s l h =
+      ap resultOf (walk-judging l walkStart) ∙ listed-over-lists c required p 65535 false s l h
+
+  pub walked-uncovered : (l : List Listed) → walkFold c required (viewed p) walkStart l .uncovered ≡ uncovered (prevId p) (directs l) (indirects l)
+  unfolding viewed
+  walked-uncovered l =
+      walk-uncovered c required (viewed p) l walkStart
+      ∙ ap (λ o. uncovered o (directs l) (indirects l)) (prev-in p)
