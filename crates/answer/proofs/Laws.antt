@@ -25,11 +25,10 @@ use Rattle.reasons.specs.declared.ill_formed.StructureIssue.{StructureIssue}
 use Rattle.reasons.specs.declared.ill_formed.StructureIssue.the-variants.{ExpectedGenesis, BadGenesisPrevPoint, AuthorInMap, TriggerBadProofLink, Link, AnchorTime, NoPrevPoint}
 use Rattle.reasons.specs.declared.ill_formed.IllFormedReason.{IllFormedReason}
 use Rattle.reasons.specs.declared.ill_formed.IllFormedReason.the-variants.{BeforeGenesis, UnknownAuthor, FalseGenesis, TooLargePayload, Structure, TooManyStickyAnchors, BadLastStickyFlag, LinksAcrossGenesis, MustBeEmpty, UnknownPeers, UnknownPeerInAnchorLink, LackOfPeers, NotRegular, BadWaveLink}
-use Rattle.reasons.specs.declared.ill_formed.VerifyError.{VerifyError}
 use Rattle.reasons.specs.declared.ill_formed.VerifyError.the-variants.{Fail, IllFormed}
 use Rattle.reasons.specs.declared.ill_formed.Verified.{Verified}
 use Rattle.reasons.specs.declared.ill_formed.Verified.the-variants.{Passed, Failed}
-use Rattle.answer.specs.Answer.{Answer, Values, mapNumber, roleNumber, flag, issueValues, illFormedValues, failAnswer, verifiedAnswer, prevSeqNo, invalidValues, invalidId, throughNumber, verdictAnswer, answerBytes}
+use Rattle.answer.specs.Answer.{Answer, Values, mapNumber, roleNumber, flag, issueValues, illFormedValues, failAnswer, verifiedAnswer, invalidValues, invalidId, throughNumber, verdictAnswer, answerBytes}
 
 pub answer-length : (a : Answer) → length (answerBytes a) ≡ 114
 unfolding answerBytes

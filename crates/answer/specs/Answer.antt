@@ -5,7 +5,7 @@ use mathlib.Core.Option.{Option, none, some}
 use mathlib.Core.List.{List, [], _∷_, _++_}
 use Rattle.parts.specs.Bytes.{bigBytes, littleBytes}
 use Rattle.parts.specs.Parts.{number}
-use Rattle.point.specs.Point.{PointId, Through, Includes, Witness, throughPeer}
+use Rattle.point.specs.Point.{PointId, Through, Includes, Witness, throughPeer, noPoint}
 use Rattle.point.specs.Reading.{pointIdOf}
 use Rattle.point.specs.declared.data.AnchorStageRole.{AnchorStageRole}
 use Rattle.point.specs.declared.data.AnchorStageRole.the-variants.{Proof, Trigger}
@@ -19,7 +19,6 @@ use Rattle.reasons.specs.declared.ill_formed.StructureIssue.{StructureIssue}
 use Rattle.reasons.specs.declared.ill_formed.StructureIssue.the-variants.{ExpectedGenesis, BadGenesisPrevPoint, AuthorInMap, TriggerBadProofLink, Link, AnchorTime, NoPrevPoint}
 use Rattle.reasons.specs.declared.ill_formed.IllFormedReason.{IllFormedReason}
 use Rattle.reasons.specs.declared.ill_formed.IllFormedReason.the-variants.{BeforeGenesis, UnknownAuthor, FalseGenesis, TooLargePayload, Structure, TooManyStickyAnchors, BadLastStickyFlag, LinksAcrossGenesis, MustBeEmpty, UnknownPeers, UnknownPeerInAnchorLink, LackOfPeers, NotRegular, BadWaveLink}
-use Rattle.reasons.specs.declared.ill_formed.VerifyError.{VerifyError}
 use Rattle.reasons.specs.declared.ill_formed.VerifyError.the-variants.{Fail, IllFormed}
 use Rattle.reasons.specs.declared.ill_formed.Verified.{Verified}
 use Rattle.reasons.specs.declared.ill_formed.Verified.the-variants.{Passed, Failed}
@@ -91,9 +90,6 @@ illFormedValues (LackOfPeers n f m) = values (mapNumber m) 255 n (f .0) 0
 illFormedValues NotRegular = values 255 255 0 0 0
 illFormedValues (BadWaveLink b) = values 255 255 (flag b) 0 0
 
-abbrev pub noPoint : PointId
-noPoint = record { round = 0; digest = 0; author = 0 }
-
 -- an answer that names a point, and no root cause
 abbrev pub named : ℕ → ℕ → PointId → Values → Answer
 named k n i v =
@@ -118,11 +114,14 @@ plain k n v = named k n noPoint v
 abbrev pub failAnswer : UninitVset → Answer
 failAnswer u = plain 4 0 (values (mapNumber (u .map)) 255 (u .len) (u .round) 0)
 
+abbrev pub illFormedAnswer : IllFormedReason → Answer
+illFormedAnswer r = plain 3 (illFormedNumber r) (illFormedValues r)
+
 -- "3 ill-formed, 4 fail, 5 verification passed"
 abbrev pub verifiedAnswer : Verified → Answer
 verifiedAnswer Passed = plain 5 0 (values 255 255 0 0 0)
 verifiedAnswer (Failed (Fail u)) = failAnswer u
-verifiedAnswer (Failed (IllFormed r)) = plain 3 (illFormedNumber r) (illFormedValues r)
+verifiedAnswer (Failed (IllFormed r)) = illFormedAnswer r
 
 -- "the previous seq_no or 2^32−1"
 abbrev pub prevSeqNo : Option ℕ → ℕ
@@ -194,7 +193,7 @@ dependencyAnswer d =
 -- "0 valid, 1 trans-invalid, 2 invalid, 3 ill-formed, 4 fail"
 abbrev pub verdictAnswer : verdict.Verdict → Answer
 verdictAnswer (verdict.Fail u) = failAnswer u
-verdictAnswer (verdict.IllFormed r) = plain 3 (illFormedNumber r) (illFormedValues r)
+verdictAnswer (verdict.IllFormed r) = illFormedAnswer r
 verdictAnswer (verdict.Invalid r) = named 2 (invalidNumber r) (invalidId r) (invalidValues r)
 verdictAnswer (verdict.TransInvalid d) = dependencyAnswer d
 verdictAnswer verdict.Valid = plain 0 0 (values 255 255 0 0 0)

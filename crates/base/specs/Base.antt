@@ -30,6 +30,10 @@ lastOf [] = none
 lastOf (x ∷ []) = some x
 lastOf (x ∷ y ∷ l) = lastOf (y ∷ l)
 
+abbrev pub isEmpty {ℓ} : {A : Type ℓ} → List A → Bool
+isEmpty [] = true
+isEmpty (x ∷ l) = false
+
 abbrev pub isSome {ℓ} : {A : Type ℓ} → Option A → Bool
 isSome none = false
 isSome (some x) = true

@@ -1,5 +1,4 @@
 -- Verifier::check_ill_formed (verifier.rs), of a verified point above genesis, and document 01's number 6.
-use Prim.Native.Nat.{ℕ}
 use mathlib.Core.Bool.{Bool, true, false}
 use mathlib.Core.Option.{Option, none, some}
 use Rattle.base.specs.Base.{pick, isSome}

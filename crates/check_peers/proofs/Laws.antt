@@ -8,7 +8,7 @@ use mathlib.Core.List.{List, [], _∷_, append-nil}
 use lib.ListN.{length}
 use lib.Dec.{ltb, eqb}
 use borrow.Author.Tests.{lt-ltb, le-ltb, eq-eqb, ne-eqb}
-use Rattle.base.specs.Base.{iff, concat, firstOf}
+use Rattle.base.specs.Base.{iff, concat, firstOf, isEmpty}
 use Rattle.base.proofs.Laws.{first-here, first-behind, row-here, row-behind}
 use Rattle.parts.specs.Bytes.{putAt}
 use Rattle.parts.specs.Parts.{oneF, majority, majorityOfOthers}
@@ -23,7 +23,7 @@ use Rattle.unknown.proofs.Laws.{put-none}
 use Rattle.reasons.specs.declared.ill_formed.IllFormedReason.the-variants.{MustBeEmpty, UnknownPeers, LackOfPeers}
 use Rattle.reasons.specs.declared.ill_formed.VerifyError.{VerifyError}
 use Rattle.reasons.specs.declared.ill_formed.VerifyError.the-variants.{IllFormed}
-use Rattle.verifier.specs.Verify.{Scheduled, isEmpty, unknownRow, lack, evidenceRows, includesRows, witnessRows}
+use Rattle.verifier.specs.Verify.{Scheduled, unknownRow, lack, evidenceRows, includesRows, witnessRows}
 use Rattle.verifier.specs.Found.{unknownMap, unknownOf, bufferWith}
 
 -- ---- emptiness, by length

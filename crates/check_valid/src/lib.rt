@@ -5,8 +5,6 @@ mod view;
 pub use rows::Reason;
 pub use rows::check_dependency;
 pub use rows::check_indirect;
-pub use view::DepView;
-pub use view::LinkIds;
 pub use view::PointView;
 pub use view::dep_view;
 pub use view::point_view;

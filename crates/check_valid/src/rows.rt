@@ -3,7 +3,6 @@
 use crate::view::DepView;
 use crate::view::PointView;
 use point::AnchorStageRole;
-use point::PointId;
 use point::PointRole;
 use reasons::InvalidReason;
 use reasons::PrevSeqNo;
@@ -12,29 +11,16 @@ ghost use mathlib.Core.Path.{_≡_};
 ghost use mathlib.Core.Bool.{Bool};
 ghost use Rattle.base.specs.Base.{concat, lastOf};
 ghost use Rattle.point.specs.Point.{stickyAnchors};
-ghost use Rattle.point.specs.Reading.{pointIdOf};
 ghost use Rattle.point.specs.declared.data.PointRole.the-variants.{AnchorProof};
 ghost use Rattle.schedule.specs.Settings.{settingsOf};
 ghost use Rattle.reasons.specs.Invalid.{prevSeqNoOf};
-ghost use Rattle.verifier.specs.Validate.{sameId, isOpen, notTrigger, endsTooSoon, proofRow, triggerProofRow, timeRow, newerRow, seqNo, follows, stickyRow, reachedRow, targetRow, anchorTimeRow, carriedRow, sourceRow, anchorRows, pointRows, indirectRow, indirectPointRows};
+ghost use Rattle.verifier.specs.Validate.{isOpen, notTrigger, endsTooSoon, proofRow, triggerProofRow, timeRow, newerRow, seqNo, follows, stickyRow, reachedRow, targetRow, anchorTimeRow, carriedRow, sourceRow, anchorRows, pointRows, indirectRow, indirectPointRows};
 ghost use Rattle.check_valid.specs.Views.{pointViewOf, depViewOf, optionOf};
 
 // Option<InvalidReason>
 pub enum Reason {
     Reason(InvalidReason),
     NoReason,
-}
-
-pub fn is_same_id(x: PointId, y: PointId) -> bool
-    ensures { λ r. ⌜ r ≡ sameId (pointIdOf x) (pointIdOf y) ⌝ }
-{
-    if x.round != y.round {
-        return false;
-    }
-    if !parts::same(x.digest, y.digest) {
-        return false;
-    }
-    parts::same(x.author, y.author)
 }
 
 // Whether a role is that of a proof which another has to follow in its sequence.
@@ -113,7 +99,7 @@ fn check_trigger_proof(p: PointView, q: DepView, is_target: bool) -> Reason
     if bound.round < target.round {
         return Reason::NoReason;
     }
-    if is_same_id(target, bound) {
+    if point::is_same_id(target, bound) {
         return Reason::NoReason;
     }
     Reason::Reason(InvalidReason::TriggerProofMismatch(id, is_target))
@@ -214,7 +200,7 @@ fn check_target(conf: Settings, role: AnchorStageRole, p: PointView, q: DepView)
 {
     let id = q.id;
     let links = p.links(role);
-    if !is_same_id(id, links.target) {
+    if !point::is_same_id(id, links.target) {
         return Reason::NoReason;
     }
     let dep_role = q.role;
@@ -246,7 +232,7 @@ fn check_carried(role: AnchorStageRole, p: PointView, q: DepView) -> Reason
         AnchorStageRole::Proof => check_anchor_time(p, q),
         AnchorStageRole::Trigger => {
             let links = p.trigger;
-            if is_same_id(q.id, links.target) {
+            if point::is_same_id(q.id, links.target) {
                 return Reason::NoReason;
             }
             check_trigger_proof(p, q, false)
@@ -259,14 +245,14 @@ fn check_source(role: AnchorStageRole, p: PointView, q: DepView) -> Reason
 {
     let id = q.id;
     let links = p.links(role);
-    if !is_same_id(id, links.source) {
+    if !point::is_same_id(id, links.source) {
         return Reason::NoReason;
     }
     let carried = check_carried(role, p, q);
     let Reason::NoReason = carried else {
         return carried;
     };
-    if is_same_id(q.top(role), links.target) {
+    if point::is_same_id(q.top(role), links.target) {
         return Reason::NoReason;
     }
     Reason::Reason(InvalidReason::AnchorLinkBadPath(role, id))

@@ -8,12 +8,12 @@ use mathlib.Core.List.{List, [], _∷_}
 use lib.ListN.{length}
 use lib.Dec.{eqb}
 use borrow.Author.Tests.{ne-eqb}
-use Rattle.base.specs.Base.{iff, concat, firstOf}
+use Rattle.base.specs.Base.{iff, concat, firstOf, isEmpty}
 use Rattle.reasons.specs.declared.ill_formed.StructureIssue.{StructureIssue}
 use Rattle.reasons.specs.declared.ill_formed.IllFormedReason.the-variants.{Structure}
 use Rattle.reasons.specs.declared.ill_formed.VerifyError.{VerifyError}
 use Rattle.reasons.specs.declared.ill_formed.VerifyError.the-variants.{IllFormed}
-use Rattle.verifier.specs.Verify.{isEmpty, structure}
+use Rattle.verifier.specs.Verify.{structure}
 
 pub or-here : (a b : Bool) → a ≡ true → (a || b) ≡ true
 or-here a b h = rw h

@@ -25,14 +25,6 @@ ghost use Rattle.schedule.specs.Settings.{settingsOf};
 ghost use Rattle.verifier.specs.Verify.{linksOwn, isGenesis, isZero, genesisStructureRows, pointMap, targetTooNew, badLink, equal, ownPointRows, linkRows, structureRows, genesisRows, stickyFault, aboveRows, wellFormedRows};
 ghost use Rattle.verifier.specs.Found.{verifiedOf, checkedOf};
 
-// The digest that a genesis point has for its author's previous point.
-const ZERO: parts::Id = parts::Id {
-    a: 0,
-    b: 0,
-    c: 0,
-    d: 0,
-};
-
 fn is_genesis(role: PointRole) -> bool
     ensures { λ r. ⌜ r ≡ isGenesis role ⌝ }
 {
@@ -64,7 +56,7 @@ fn is_zero(digest: Found) -> bool
     ensures { λ r. ⌜ r ≡ isZero (foundOf digest) ⌝ }
 {
     match digest {
-        Found::Digest(d) => parts::same(d, ZERO),
+        Found::Digest(d) => parts::same(d, parts::NO_ID),
         Found::Absent => false,
     }
 }

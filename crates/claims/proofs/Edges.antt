@@ -2,11 +2,11 @@
 use mathlib.Core.Path.{refl}
 use Rattle.base.specs.Base.{concat, firstOf, lastOf}
 use Rattle.map.specs.Rows.{get, find, findFrom, has, peers}
-use Rattle.point.specs.Point.{digestSafe, prevDigest, source, target, top}
+use Rattle.point.specs.Point.{digestSafe, prevDigest, source, target, top, sameId}
 use Rattle.verifier.specs.Verify.{linksOwn, targetTooNew, badLink, ownPointRows, linkRows, structureRows, genesisStructureRows, stickyFault}
 use Rattle.reasons.specs.Invalid.{dagRound}
 use Rattle.verifier.specs.DagPoint.{linkIds, pointView, depView}
-use Rattle.verifier.specs.Validate.{sameId, proofRow, triggerProofRow, timeRow, newerRow, stickyRow, reachedRow, targetRow, anchorTimeRow, carriedRow, sourceRow, anchorRows, pointRows, taken, dependencyTrail, entryTrail, directTrail, recordOf, isNewer, join}
+use Rattle.verifier.specs.Validate.{proofRow, triggerProofRow, timeRow, newerRow, stickyRow, reachedRow, targetRow, anchorTimeRow, carriedRow, sourceRow, anchorRows, pointRows, taken, dependencyTrail, entryTrail, directTrail, recordOf, isNewer, join}
 use Rattle.claims.specs.Edges.{Edges, conf}
 
 pub edges : Edges

@@ -1,19 +1,18 @@
 -- Document 01, "Edges, proved as one tabulated fact": P1 to P10.
 use Prim.Native.Nat.{ℕ}
 use mathlib.Core.Path.{_≡_}
-use mathlib.Core.Bool.{Bool, true, false}
+use mathlib.Core.Bool.{true, false}
 use mathlib.Core.Option.{Option, none, some}
 use mathlib.Core.List.{List, [], _∷_}
 use Rattle.base.specs.Base.{concat, firstOf, lastOf}
 use Rattle.map.specs.Rows.{Pair}
 use Rattle.point.specs.Point.{PointId, Includes, Direct, Indirect, PointInfo, isWaveFarEnough, isAnchorProof, isAnchorTrigger, stickyAnchors}
 use Rattle.point.specs.declared.data.PointRole.{PointRole}
-use Rattle.point.specs.declared.data.PointRole.the-variants.{Regular, AnchorProof, AnchorTrigger, Genesis}
+use Rattle.point.specs.declared.data.PointRole.the-variants.{Regular, AnchorProof, Genesis}
 use Rattle.point.specs.declared.data.PointMap.the-variants as map
 use Rattle.schedule.specs.Settings.{Settings}
 use Rattle.reasons.specs.declared.ill_formed.StructureIssue.the-variants.{AuthorInMap, AnchorTime}
 use Rattle.reasons.specs.declared.ill_formed.IllFormedReason.the-variants.{TooManyStickyAnchors, BadLastStickyFlag}
-use Rattle.reasons.specs.declared.ill_formed.VerifyError.{VerifyError}
 use Rattle.reasons.specs.declared.ill_formed.VerifyError.the-variants.{IllFormed}
 use Rattle.verifier.specs.Verify.{structureRows, genesisStructureRows, stickyFault}
 use Rattle.reasons.specs.Invalid.{InvalidReason, invalidNumber, InvalidDependency}

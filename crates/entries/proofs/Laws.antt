@@ -16,7 +16,7 @@ use Rattle.map.specs.declared.Found.{Found}
 use Rattle.map.specs.Rows.{foundOf}
 use Rattle.record.specs.Record.{fieldRow, fieldOk, recordEnd}
 use Rattle.record.proofs.Laws.{fitting, end-within}
-use Rattle.point.specs.Point.{PointId, PointInfo, digestSafe}
+use Rattle.point.specs.Point.{PointId, PointInfo, digestSafe, inDomain}
 use Rattle.point.specs.Reading.{pointIdAt, readPoint, throughOf, linkOf, pointOf}
 use Rattle.point.specs.declared.data.AnchorStageRole.{AnchorStageRole}
 use Rattle.point.specs.declared.data.AnchorStageRole.the-variants.{Proof, Trigger}
@@ -25,7 +25,6 @@ use Rattle.point.specs.declared.link.AnchorLink as code-link
 use Rattle.point.specs.declared.link.AnchorLink.the-variants as case-link
 use Rattle.point.specs.declared.info.PointInfo as code-info
 use Rattle.reasons.specs.Invalid.{dagRound}
-use Rattle.verify.specs.Call.{inDomain}
 use Rattle.verifier.specs.DagPoint.{DagPoint, Valid, TransInvalid, Invalid, IllFormed, NotFound, Dropped}
 use Rattle.entries.specs.Entries.{isNamed, isListable, Stated, RecordFront, frontWith, frontTo, recordFront, statedWith, recordAt, idAt17, isRoot, readState, Listed, listedWith, entryAt, roleOf, readEntry, isInOrder, listThen, listFrom, listWith, dagPointOf, partOf, readRecordOf, RecordPlaced, Placed, readStatedOf, StatedPlaced}
 use Rattle.entries.specs.declared.Stated as code-stated
@@ -443,3 +442,11 @@ module _ (behind : Bool) (s : List ℕ) (h : 0 < length s) where
     list-step n m f g =
         let f : n ≡ suc m = omega arith in
         rw f (list-next m ∙ rw (e, g))
+
+-- ---- for those who judge entries: tests of a round that a call gave
+
+pub equal-given : (a b d : ℕ) → a ≡ b → b ≡ d → eqb a d ≡ true
+equal-given a b d h e = eq-eqb a d (h ∙ e)
+
+pub unequal-given : (a b d : ℕ) → (a ≡ b → ⊥) → b ≡ d → eqb a d ≡ false
+unequal-given a b d h e = ne-eqb a d (λ q. h (q ∙ sym e))

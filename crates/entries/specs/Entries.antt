@@ -10,12 +10,11 @@ use lib.Dec.{leb, eqb}
 use Rattle.base.specs.Base.{pick, isSome}
 use Rattle.parts.specs.Bytes.{bytesAt, littleAt}
 use Rattle.record.specs.Record.{fieldRow, fieldOk, recordEnd}
-use Rattle.point.specs.Point.{PointId, AnchorLink, Direct, Indirect, PointInfo, digestSafe, anchorLink}
+use Rattle.point.specs.Point.{PointId, AnchorLink, Direct, Indirect, PointInfo, digestSafe, inDomain}
 use Rattle.point.specs.Reading.{pointIdAt, readPoint, pointIdOf, pointOf}
 use Rattle.point.specs.declared.data.AnchorStageRole.{AnchorStageRole}
 use Rattle.point.specs.declared.data.AnchorStageRole.the-variants.{Proof, Trigger}
 use Rattle.reasons.specs.Invalid.{dagRound}
-use Rattle.verify.specs.Call.{inDomain}
 use Rattle.verifier.specs.DagPoint.{DagPoint, Valid, TransInvalid, Invalid, IllFormed, NotFound, Dropped, Entry, IndirectEntry}
 use Rattle.entries.specs.declared.DagPoint as code-point
 use Rattle.entries.specs.declared.DagPoint.the-variants as case-point

@@ -142,7 +142,7 @@ pub fn is_listable(rec: &[u8], info: PointInfo) -> bool
     requires { ⌜ readPoint (now rec) ≡ some (pointOf (now rec) info) ⌝ }
     ensures { λ r. ⌜ r ≡ isListable (pointOf (now (rec .entry)) info) ⌝ }
 {
-    if !verify::is_in_domain(rec, info) {
+    if !point::is_in_domain(rec, info) {
         return false;
     }
     let anchor_proof = info.anchor_proof;

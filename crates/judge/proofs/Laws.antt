@@ -8,7 +8,7 @@ use mathlib.Core.List.{List, [], _∷_}
 use lib.ListN.{length}
 use lib.Dec.{eqb, ltb}
 use borrow.Author.Tests.{lt-ltb, eq-eqb, ne-eqb, le-leb}
-use Rattle.base.specs.Base.{pick, isSome}
+use Rattle.base.specs.Base.{pick, isSome, isEmpty}
 use Rattle.point.specs.Point.{PointInfo, prevId}
 use Rattle.point.specs.declared.data.PointMap.the-variants as case-map
 use Rattle.schedule.specs.Settings.{Settings}
@@ -16,62 +16,66 @@ use Rattle.reasons.specs.Invalid.{NoRoundInDag}
 use Rattle.reasons.specs.Verdict.{Valid, verdictOf}
 use Rattle.reasons.specs.declared.ill_formed.VerifyError.{VerifyError}
 use Rattle.reasons.specs.declared.verdict.Verdict as code-verdict
-use Rattle.verifier.specs.Verify.{isEmpty, scheduled, verify}
+use Rattle.verifier.specs.Verify.{scheduled, verify}
 use Rattle.verifier.specs.Found.{bufferWith}
 use Rattle.verifier.specs.DagPoint.{Entry, IndirectEntry}
-use Rattle.verifier.specs.Validate.{isInvalid, overLists, presenceReason, validate}
+use Rattle.verifier.specs.Validate.{isInvalid, ofResult, overLists, presenceReason, validate}
 use Rattle.verify.specs.Call.{Input, Tested, refused, taken, verifyBuffer}
 use Rattle.check_ill_formed.specs.WaveChecked.{waveChecked}
 use Rattle.check_ill_formed.specs.declared.WaveChecked.{WaveChecked}
 use Rattle.entries.specs.Entries.{Listed, readList, directs, indirects}
-use Rattle.validate.specs.Validated.{resultOf}
 use Rattle.mismatch.specs.Mismatch.{mismatch, uncovered}
-use Rattle.judge_list.proofs.WalkLaws.{walked-result, walked-uncovered}
-use Rattle.judge_list.specs.Walk.{Walk, viewed, walkFold, walkWith, walkStart}
-use Rattle.judge.specs.Judge.{JudgeAnswer, Number, Given, ofError, ofResult, Before, needed, beforeWave, beforeWith, before, judgeFrom, overList, judgeWith, judgeAnswerOf}
+use Rattle.judge_list.specs.JudgedList.{Judged, judgedWith}
+use Rattle.judge.specs.Judge.{JudgeAnswer, Number, Given, ofError, Before, needed, beforeWave, beforeWith, before, judgeFrom, overList, judgeWith, judgeAnswerOf}
 use Rattle.judge.specs.declared.JudgeAnswer as code-answer
 use Rattle.judge.specs.declared.JudgeAnswer.the-variants as case-answer
 
--- ---- the answer over a list, from the walk and the tests that led there
+-- ---- the answer over a list, from what judging came to and the tests that led there
 
 -- what a test told of a list, if it was read
 abbrev pub Mismatch : ℕ → PointInfo → Option (List Listed) → Bool → Type 0
 Mismatch presence p o b = (l : List Listed) → o ≡ some l → b ≡ mismatch presence p (directs l) (indirects l)
 
 module _ (c : Settings) (required : Bool) (p : PointInfo) where
-  -- what the walk over a list came to, if that was read
-  abbrev pub Walked : Option (List Listed) → Option Walk → Type 0
-  Walked o w = w ≡ walkWith c required (viewed p) walkStart o
+  -- what judging over a list came to, if that was read
+  abbrev pub Over : Option (List Listed) → Option Judged → Type 0
+  Over o j = j ≡ judgedWith c required p o
 
-  pub was-read : (o : Option (List Listed)) (w : Walk) → Walked o (some w) → isSome o ≡ true
-  was-read none w h = let z : _≡_ {A = ℕ} 0 1 = cc in absurd (omega arith)
-  was-read (some l) w h = refl
+  pub was-read : (o : Option (List Listed)) (j : Judged) → Over o (some j) → isSome o ≡ true
+  was-read none j h = let z : _≡_ {A = ℕ} 0 1 = cc in absurd (omega arith)
+  was-read (some l) j h = refl
 
-  walk-is : (l : List Listed) (w : Walk) → Walked (some l) (some w) → w ≡ walkFold c required (viewed p) walkStart l
-  walk-is l w h = cc
+  over-is : (l : List Listed) (j : Judged) → Over (some l) (some j) →
+      j
+      ≡ record {
+        verdict = ofResult (overLists c required p (directs l) (indirects l));
+        uncovered = uncovered (prevId p) (directs l) (indirects l);
+      }
+  over-is l j h = cc
 
-  is-uncovered : (l : List Listed) (w : Walk) → Walked (some l) (some w) → uncovered (prevId p) (directs l) (indirects l) ≡ w .uncovered
-  is-uncovered l w h = sym (walked-uncovered c required p l) ∙ ap (λ (k : Walk). k .uncovered) (sym (walk-is l w h))
+  is-uncovered : (l : List Listed) (j : Judged) → Over (some l) (some j) → uncovered (prevId p) (directs l) (indirects l) ≡ j .uncovered
+  is-uncovered l j h = sym (ap (λ (k : Judged). k .uncovered) (over-is l j h))
 
 module _ (c : Settings) (required : Bool) (presence : ℕ) (p : PointInfo) where
-  pub answer-unread : (o : Option (List Listed)) → Walked c required p o none → Number 7 ≡ overList c required presence p o
+  pub answer-unread : (o : Option (List Listed)) → Over c required p o none → Number 7 ≡ overList c required presence p o
   answer-unread none h = refl
   answer-unread (some l) h = let z : _≡_ {A = ℕ} 0 1 = cc in absurd (omega arith)
 
-  pub answer-mismatch : (o : Option (List Listed)) (w : Walk) → Walked c required p o (some w) → Mismatch presence p o true →
+  pub answer-mismatch : (o : Option (List Listed)) (j : Judged) → Over c required p o (some j) → Mismatch presence p o true →
       Number 8 ≡ overList c required presence p o
-  answer-mismatch none w h m = let z : _≡_ {A = ℕ} 0 1 = cc in absurd (omega arith)
-  answer-mismatch (some l) w h m = rw (sym (m l refl))
+  answer-mismatch none j h m = let z : _≡_ {A = ℕ} 0 1 = cc in absurd (omega arith)
+  answer-mismatch (some l) j h m = rw (sym (m l refl))
 
-  pub answer-uncovered : (o : Option (List Listed)) (w : Walk) → Walked c required p o (some w) → Mismatch presence p o false → w .uncovered ≡ true →
-      Number 9 ≡ overList c required presence p o
-  answer-uncovered none w h m u = let z : _≡_ {A = ℕ} 0 1 = cc in absurd (omega arith)
-  answer-uncovered (some l) w h m u = rw (sym (m l refl), is-uncovered c required p l w h, u)
+  pub answer-uncovered : (o : Option (List Listed)) (j : Judged) → Over c required p o (some j) →
+      Mismatch presence p o false → j .uncovered ≡ true → Number 9 ≡ overList c required presence p o
+  answer-uncovered none j h m u = let z : _≡_ {A = ℕ} 0 1 = cc in absurd (omega arith)
+  answer-uncovered (some l) j h m u = rw (sym (m l refl), is-uncovered c required p l j h, u)
 
   -- past the numbers
-  answer-judged : (l : List Listed) (w : Walk) → Walked c required p (some l) (some w) → Mismatch presence p (some l) false → w .uncovered ≡ false →
+  answer-judged : (l : List Listed) (j : Judged) → Over c required p (some l) (some j) →
+      Mismatch presence p (some l) false → j .uncovered ≡ false →
       Given (ofResult (validate c required presence p (directs l) (indirects l))) ≡ overList c required presence p (some l)
-  answer-judged l w h m u = rw (sym (m l refl), is-uncovered c required p l w h, u)
+  answer-judged l j h m u = rw (sym (m l refl), is-uncovered c required p l j h, u)
 
   module _ (two : 2 ≤ presence) where
     -- whether the witness round lacks
@@ -81,20 +85,19 @@ module _ (c : Settings) (required : Bool) (presence : ℕ) (p : PointInfo) where
     by-witness true es ts h = rw (← h, ne-eqb presence 0 (λ e. omega (arith, two, e)), ne-eqb presence 1 (λ e. omega (arith, two, e)))
     by-witness false es ts h = rw (← h, ne-eqb presence 0 (λ e. omega (arith, two, e)), ne-eqb presence 1 (λ e. omega (arith, two, e)))
 
-    pub answer-witness : (o : Option (List Listed)) (w : Walk) → Walked c required p o (some w) → Mismatch presence p o false → w .uncovered ≡ false →
-        true ≡ (eqb presence 2 && not (isEmpty (p .witness))) →
+    pub answer-witness : (o : Option (List Listed)) (j : Judged) → Over c required p o (some j) →
+        Mismatch presence p o false → j .uncovered ≡ false → true ≡ (eqb presence 2 && not (isEmpty (p .witness))) →
         Given (ofResult (isInvalid (NoRoundInDag case-map.Witness))) ≡ overList c required presence p o
-    answer-witness none w h m u n = let z : _≡_ {A = ℕ} 0 1 = cc in absurd (omega arith)
-    answer-witness (some l) w h m u n = ap (λ r. Given (ofResult r)) (sym (by-witness true (directs l) (indirects l) n)) ∙ answer-judged l w h m u
+    answer-witness none j h m u n = let z : _≡_ {A = ℕ} 0 1 = cc in absurd (omega arith)
+    answer-witness (some l) j h m u n =
+        ap (λ r. Given (ofResult r)) (sym (by-witness true (directs l) (indirects l) n)) ∙ answer-judged l j h m u
 
-    pub answer-verdict : (s : List ℕ) (o : Option (List Listed)) (w : Walk) → readList s ≡ o → Walked c required p o (some w) →
-        Mismatch presence p o false → w .uncovered ≡ false → false ≡ (eqb presence 2 && not (isEmpty (p .witness))) →
-        Given (ofResult (resultOf (w .judging))) ≡ overList c required presence p o
-    answer-verdict s none w r h m u n = let z : _≡_ {A = ℕ} 0 1 = cc in absurd (omega arith)
-    answer-verdict s (some l) w r h m u n =
-        ap (λ (k : Walk). Given (ofResult (resultOf (k .judging)))) (walk-is c required p l w h)
-        ∙ (ap (λ q. Given (ofResult q)) (walked-result c required p s l r ∙ sym (by-witness false (directs l) (indirects l) n))
-        ∙ answer-judged l w h m u)
+    pub answer-verdict : (o : Option (List Listed)) (j : Judged) → Over c required p o (some j) →
+        Mismatch presence p o false → j .uncovered ≡ false → false ≡ (eqb presence 2 && not (isEmpty (p .witness))) → Given (j .verdict) ≡ overList c required presence p o
+    answer-verdict none j h m u n = let z : _≡_ {A = ℕ} 0 1 = cc in absurd (omega arith)
+    answer-verdict (some l) j h m u n =
+        ap (λ (k : Judged). Given (k .verdict)) (over-is c required p l j h)
+        ∙ (ap (λ q. Given (ofResult q)) (sym (by-witness false (directs l) (indirects l) n)) ∙ answer-judged l j h m u)
 
 -- ---- before the list
 

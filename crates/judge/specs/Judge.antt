@@ -9,11 +9,11 @@ use Rattle.base.specs.Base.{pick}
 use Rattle.point.specs.Point.{PointInfo, prevId}
 use Rattle.schedule.specs.Settings.{Settings}
 use Rattle.schedule.specs.Schedule.{Schedule}
-use Rattle.reasons.specs.Verdict.{Verdict, Fail, IllFormed, Invalid, TransInvalid, Valid, verdictOf}
+use Rattle.reasons.specs.Verdict.{Verdict, Fail, IllFormed, Valid, verdictOf}
 use Rattle.reasons.specs.declared.ill_formed.VerifyError.{VerifyError}
 use Rattle.reasons.specs.declared.ill_formed.VerifyError.the-variants as case-error
 use Rattle.verifier.specs.Verify.{verify}
-use Rattle.verifier.specs.Validate.{ValidateResult, isInvalid, isTransInvalid, isValid, validate}
+use Rattle.verifier.specs.Validate.{ofResult, validate}
 use Rattle.verify.specs.Call.{Tested, refused, taken}
 use Rattle.check_ill_formed.specs.WaveChecked.{waveChecked}
 use Rattle.check_ill_formed.specs.declared.WaveChecked.{WaveChecked}
@@ -31,11 +31,6 @@ pub data JudgeAnswer : Type 0 where
 abbrev pub ofError : VerifyError → Verdict
 ofError (case-error.Fail u) = Fail u
 ofError (case-error.IllFormed r) = IllFormed r
-
-abbrev pub ofResult : ValidateResult → Verdict
-ofResult (isInvalid r) = Invalid r
-ofResult (isTransInvalid d) = TransInvalid d
-ofResult isValid = Valid
 
 -- ---- before any list is read: an answer, or that the list is needed, regular points required or not
 

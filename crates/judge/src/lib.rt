@@ -1,7 +1,5 @@
 // Verifier::validate of verifier.rs on points whose dependencies are listed in the order of their arrival.
 use check_ill_formed::WaveChecked;
-use check_valid::Reason;
-use dependency::Recorded;
 use judge_list::JudgedList;
 use point::PointInfo;
 use point::PointMap;
@@ -13,7 +11,6 @@ use reasons::VerifyError;
 use schedule::ReadSettings;
 use schedule::Schedule;
 use schedule::Settings;
-use validate::Judging;
 ghost use mathlib.Core.Path.{_≡_};
 ghost use mathlib.Core.Bool.{not, _&&_};
 ghost use mathlib.Core.List.{List};
@@ -21,52 +18,25 @@ ghost use mathlib.Core.Option.{none, some};
 ghost use Prim.Native.Nat.{ℕ, _≤_};
 ghost use lib.ListN.{length};
 ghost use lib.Dec.{eqb};
+ghost use Rattle.base.specs.Base.{isEmpty};
 ghost use Rattle.point.specs.Reading.{pointOf, readPoint};
 ghost use Rattle.point.specs.declared.info.PointInfo as code-info;
+ghost use Rattle.point.specs.Point.{inDomain};
 ghost use Rattle.schedule.specs.Settings.{settingsOf};
 ghost use Rattle.schedule.specs.Schedule.{scheduleOf};
 ghost use Rattle.reasons.specs.Invalid.{NoRoundInDag};
 ghost use Rattle.reasons.specs.Verdict.{verdictOf};
-ghost use Rattle.verifier.specs.Verify.{isEmpty};
 ghost use Rattle.verifier.specs.Found.{verifiedOf};
-ghost use Rattle.verifier.specs.Validate.{isInvalid, resultWith};
-ghost use Rattle.verify.specs.Call.{inDomain, tested, verifyBuffer};
+ghost use Rattle.verifier.specs.Validate.{isInvalid, ofResult};
+ghost use Rattle.verify.specs.Call.{tested, verifyBuffer};
 ghost use Rattle.check_ill_formed.specs.WaveChecked.{waveChecked};
 ghost use Rattle.entries.specs.Entries.{readList};
-ghost use Rattle.dependency.specs.Given.{recordedOf};
-ghost use Rattle.validate.specs.Validated.{resultOf, judgingOf};
-ghost use Rattle.judge.specs.Judge.{Given, ofError, ofResult, beforeWith, needed, overList, judgeFrom, flagsOk, judgeWith, judgeAnswerOf};
+ghost use Rattle.judge.specs.Judge.{Given, ofError, beforeWith, needed, overList, judgeFrom, flagsOk, judgeWith, judgeAnswerOf};
 
 // Document 01's number in place of a verdict, or the verdict.
 pub enum JudgeAnswer {
     Number(u8),
     Verdict(Verdict),
-}
-
-fn of_record(recorded: Recorded) -> Verdict
-    ensures { λ r. ⌜ verdictOf r ≡ ofResult (resultWith none (recordedOf recorded)) ⌝ }
-{
-    match recorded {
-        Recorded::Recorded(d) => Verdict::TransInvalid(d),
-        Recorded::Nothing => Verdict::Valid,
-    }
-}
-
-// The verdict over a list that was walked: the indirect entries are asked where the direct ones gave no reason, and Invalid
-// wins over a record.
-fn verdict(judging: Judging) -> Verdict
-    ensures { λ r. ⌜ verdictOf r ≡ ofResult (resultOf (judgingOf judging)) ⌝ }
-{
-    let direct = judging.direct;
-    let indirect = judging.indirect;
-    let recorded = judging.recorded;
-    match direct {
-        Reason::Reason(reason) => Verdict::Invalid(reason),
-        Reason::NoReason => match indirect {
-            Reason::Reason(reason) => Verdict::Invalid(reason),
-            Reason::NoReason => of_record(recorded),
-        },
-    }
 }
 
 fn no_round(map: PointMap) -> JudgeAnswer
@@ -98,20 +68,25 @@ fn judge_over_list(
     requires { ⌜ 2 ≤ presence ⌝ }
     ensures { λ r. ⌜ judgeAnswerOf r ≡ overList (settingsOf conf) required presence (pointOf (now (rec .entry)) info) (readList (now (list .entry))) ⌝ }
 {
-    let JudgedList::Judged(walk) = judge_list::judge_list(conf, required, rec, info, list) else {
+    let JudgedList::Judged(verdict, uncovered) = judge_list::judge_list(
+        conf,
+        required,
+        rec,
+        info,
+        list,
+    ) else {
         return JudgeAnswer::Number(7);
     };
     if mismatch::is_mismatch(presence, rec, info, list) {
         return JudgeAnswer::Number(8);
     }
-    if walk.uncovered {
+    if uncovered {
         return JudgeAnswer::Number(9);
     }
     if lacks_witness(presence, rec) {
         return no_round(PointMap::Witness);
     }
-    let judging = walk.judging;
-    JudgeAnswer::Verdict(verdict(judging))
+    JudgeAnswer::Verdict(verdict)
 }
 
 // Judges a point whose list is needed, by how many of its rounds are in the DAG.
@@ -218,7 +193,7 @@ pub fn judge(
 fn are_in_domain(rec: &[u8], info: PointInfo, leader: u8, presence: u8) -> bool
     ensures { λ r. ⌜ r ≡ (inDomain (pointOf (now (rec .entry)) info) && flagsOk leader presence) ⌝ }
 {
-    if !verify::is_in_domain(rec, info) {
+    if !point::is_in_domain(rec, info) {
         return false;
     }
     if 1 < leader {

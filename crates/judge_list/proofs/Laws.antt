@@ -9,9 +9,8 @@ use lib.Dec.{eqb}
 use borrow.Author.Tests.{eq-eqb, ne-eqb}
 use Rattle.base.specs.Base.{pick, isSome}
 use native.Mathlib.Omega.{arith}
-use Rattle.point.specs.Point.{PointId, PointInfo}
+use Rattle.point.specs.Point.{PointId, PointInfo, sameId, prevIdWith}
 use Rattle.verifier.specs.DagPoint.{pointView}
-use Rattle.verifier.specs.Validate.{sameId}
 use Rattle.mismatch.specs.Mismatch.{isId, uncovers}
 use Rattle.schedule.specs.Settings.{Settings}
 use Rattle.entries.specs.Entries.{Listed, readEntry, isInOrder, listThen, listWith, listFrom}
@@ -32,7 +31,7 @@ use Rattle.entries.specs.declared.ReadListed.the-variants as case-read
 use Rattle.judge_list.specs.declared.Next as code-next
 use Rattle.judge_list.specs.declared.Next.the-variants as case-next
 use Rattle.judge_list.specs.declared.Walk as code-walk
-use Rattle.judge_list.specs.Walk.{NextWithin, Walk, Viewed, viewed, stepAs, prevFrom, prevIn, walkStep, walkFold, Next, nextWith, walkWith, viewedOf}
+use Rattle.judge_list.specs.Walk.{NextWithin, Walk, Viewed, viewed, stepAs, prevIn, walkStep, walkFold, Next, nextWith, walkWith, viewedOf}
 
 pub and-false : (b : Bool) → (b && false) ≡ false
 and-false true = refl
@@ -40,19 +39,19 @@ and-false false = refl
 
 -- ---- the previous point
 
-pub prev-other-round : (i j : PointId) (o : Option ℕ) → eqb (i .round - 1) (j .round) ≡ false → isId (prevFrom i o) j ≡ false
+pub prev-other-round : (i j : PointId) (o : Option ℕ) → eqb (i .round - 1) (j .round) ≡ false → isId (prevIdWith i o) j ≡ false
 unfolding sameId
 prev-other-round i j none h = refl
 prev-other-round i j (some d) h = rw h
 
 pub prev-other-author : (i j : PointId) (o : Option ℕ) →
-    eqb (i .round - 1) (j .round) ≡ true → eqb (i .author) (j .author) ≡ false → isId (prevFrom i o) j ≡ false
+    eqb (i .round - 1) (j .round) ≡ true → eqb (i .author) (j .author) ≡ false → isId (prevIdWith i o) j ≡ false
 unfolding sameId
 prev-other-author i j none h g = refl
 prev-other-author i j (some d) h g = rw (h, g, and-false (eqb d (j .digest)))
 
 pub prev-digest : (i j : PointId) (d : ℕ) →
-    eqb (i .round - 1) (j .round) ≡ true → eqb (i .author) (j .author) ≡ true → isId (prevFrom i (some d)) j ≡ eqb d (j .digest)
+    eqb (i .round - 1) (j .round) ≡ true → eqb (i .author) (j .author) ≡ true → isId (prevIdWith i (some d)) j ≡ eqb d (j .digest)
 unfolding sameId
 prev-digest i j d h g = rw (h, g, and-true (eqb d (j .digest)))
   where

@@ -1,30 +1,29 @@
--- Laws for callers: the walk over a list gives what the definitions say of its direct and indirect entries.
+-- Laws: the walk over a list gives what the definitions say of its direct and indirect entries.
 use Prim.Native.Nat.{ℕ}
+use native.Mathlib.Omega.{arith}
 use mathlib.Core.Path.{_≡_, refl, ap, _∙_}
 use mathlib.Core.Bool.{Bool, true, false, _||_}
 use mathlib.Core.Option.{Option, none, some}
 use mathlib.Core.List.{List, [], _∷_}
-use Rattle.point.specs.Point.{PointInfo, prevDigest, prevIdWith, prevId}
+use Rattle.point.specs.Point.{PointInfo, prevId}
 use Rattle.point.specs.declared.data.AnchorStageRole.{AnchorStageRole}
 use Rattle.point.specs.declared.data.AnchorStageRole.the-variants.{Proof, Trigger}
 use Rattle.schedule.specs.Settings.{Settings}
 use Rattle.verifier.specs.DagPoint.{Entry, pointView}
-use Rattle.verifier.specs.Validate.{overLists}
+use Rattle.verifier.specs.Validate.{ofResult, overLists}
 use Rattle.entries.specs.Entries.{Listed, readList, directThen, directs, indirectThen, indirects}
 use Rattle.validate.specs.Validated.{Judging, listedStep, listedFold, resultOf}
 use Rattle.validate.proofs.Laws.{listed-over-lists}
 use Rattle.mismatch.specs.Mismatch.{uncovers, anyUncovers, entriesIn, uncovered}
-use Rattle.judge_list.specs.Walk.{Walk, Viewed, viewed, stepAs, prevFrom, prevIn, walkStep, walkFold, walkStart}
+use Rattle.judge_list.specs.Walk.{Walk, Viewed, viewed, stepAs, prevIn, walkStep, walkFold, walkWith, walkStart}
+use Rattle.judge_list.specs.JudgedList.{Judged, judgedWith}
+use Rattle.reasons.specs.Verdict.{Verdict}
 
 -- ---- the previous point over the walk
 
 prev-in : (p : PointInfo) → prevIn (pointView p) ≡ prevId p
 unfolding pointView prevId
-prev-in p = go (prevDigest p)
-  where
-    go : (o : Option ℕ) → prevFrom (p .id) o ≡ prevIdWith p o
-    go none = refl
-    go (some d) = refl
+prev-in p = refl
 
 or-none : (a : Bool) → a ≡ (a || (false || false))
 or-none true = refl
@@ -82,14 +81,26 @@ module _ (c : Settings) (required : Bool) (p : PointInfo) where
       ∙ ap (λ (j : Judging). listedFold c required p j l) (step-listed (x .aim) (w .judging) (x .entry))
 
   -- over a list that was read
-  pub walked-result : (s : List ℕ) (l : List Listed) → readList s ≡ some l →
+  walked-result : (s : List ℕ) (l : List Listed) → readList s ≡ some l →
       resultOf (walkFold c required (viewed p) walkStart l .judging) ≡ overLists c required p (directs l) (indirects l)
   unfolding readList
   walked-result s l h =
       ap resultOf (walk-judging l walkStart) ∙ listed-over-lists c required p 65535 false s l h
 
-  pub walked-uncovered : (l : List Listed) → walkFold c required (viewed p) walkStart l .uncovered ≡ uncovered (prevId p) (directs l) (indirects l)
+  walked-uncovered : (l : List Listed) → walkFold c required (viewed p) walkStart l .uncovered ≡ uncovered (prevId p) (directs l) (indirects l)
   unfolding viewed
   walked-uncovered l =
       walk-uncovered c required (viewed p) l walkStart
       ∙ ap (λ o. uncovered o (directs l) (indirects l)) (prev-in p)
+
+  -- what the walk came to, over a list that could be read or not
+  pub judged-unread : (o : Option (List Listed)) → none ≡ walkWith c required (viewed p) walkStart o → none ≡ judgedWith c required p o
+  judged-unread none h = refl
+  judged-unread (some l) h = let z : _≡_ {A = ℕ} 0 1 = cc in absurd (omega arith)
+
+  pub judged-walked : (s : List ℕ) (o : Option (List Listed)) (w : Walk) (v : Verdict) → readList s ≡ o → some w ≡ walkWith c required (viewed p) walkStart o →
+      v ≡ ofResult (resultOf (w .judging)) → _≡_ {A = Option Judged} (some (record { verdict = v; uncovered = w .uncovered })) (judgedWith c required p o)
+  judged-walked s none w v r h e = let z : _≡_ {A = ℕ} 0 1 = cc in absurd (omega arith)
+  judged-walked s (some l) w v r h e =
+      let k : w ≡ walkFold c required (viewed p) walkStart l = cc in
+      rw (e, k, walked-result s l r, walked-uncovered l)

@@ -1,1 +1,2 @@
+pub mod JudgedList
 pub mod Walk

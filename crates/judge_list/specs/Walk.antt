@@ -1,9 +1,10 @@
--- The walk over a list: what is judged so far, and whether the previous point stood there without a certificate.
+-- The walk over a list: what is judged so far, and whether the previous point stood there without a certificate. This serves
+-- contracts of private functions and follows the code.
 use Prim.Native.Nat.{ℕ, _-_, _≤_, _<_}
 use mathlib.Core.Bool.{Bool, false, _||_}
 use mathlib.Core.Option.{Option, none, some}
 use mathlib.Core.List.{List, [], _∷_}
-use Rattle.point.specs.Point.{PointId, Through, PointInfo, through}
+use Rattle.point.specs.Point.{PointId, Through, PointInfo, through, prevIdWith}
 use Rattle.point.specs.Reading.{linkOf}
 use Rattle.point.specs.declared.info.PointInfo as code-info
 use Rattle.point.specs.declared.data.AnchorStageRole.{AnchorStageRole}
@@ -19,8 +20,8 @@ use Rattle.check_valid.specs.declared.view.PointView as code-view
 use Rattle.judge_list.specs.declared.Walk as code-walk
 use Rattle.judge_list.specs.declared.Next as code-next
 use Rattle.judge_list.specs.declared.Next.the-variants as case-next
-use Rattle.judge_list.specs.declared.JudgedList as code-list
-use Rattle.judge_list.specs.declared.JudgedList.the-variants as case-list
+use Rattle.judge_list.specs.declared.WalkedList as code-list
+use Rattle.judge_list.specs.declared.WalkedList.the-variants as case-list
 
 pub record Walk : Type 0 where
   pub judging : Judging
@@ -42,13 +43,9 @@ stepAs none c required p j e = directStep c required (p .view) j e
 stepAs (some Proof) c required p j e = indirectStep c (p .view) Proof (p .proof) j e
 stepAs (some Trigger) c required p j e = indirectStep c (p .view) Trigger (p .trigger) j e
 
-abbrev pub prevFrom : PointId → Option ℕ → Option PointId
-prevFrom i none = none
-prevFrom i (some d) = some (record { round = i .round - 1; digest = d; author = i .author })
-
 -- PointInfo::prev_id
 abbrev pub prevIn : PointView → Option PointId
-prevIn p = prevFrom (p .id) (p .prevDigest)
+prevIn p = prevIdWith (p .id) (p .prevDigest)
 
 unfoldable pub walkStep : Settings → Bool → Viewed → Walk → Listed → Walk
 unfolding directStep indirectStep uncovers
@@ -97,9 +94,9 @@ viewedOf p i =
 abbrev pub walkOf : code-walk.Walk → Walk
 walkOf w = record { judging = judgingOf (w .judging); uncovered = w .uncovered }
 
-abbrev pub judgedListOf : code-list.JudgedList → Option Walk
-judgedListOf (case-list.Judged w) = some (walkOf w)
-judgedListOf case-list.Unreadable = none
+abbrev pub walkedListOf : code-list.WalkedList → Option Walk
+walkedListOf (case-list.Walked w) = some (walkOf w)
+walkedListOf case-list.Unreadable = none
 
 abbrev pub nextOf : code-next.Next → Option Next
 nextOf (case-next.Judged w b n) = some (record { walk = walkOf w; behind = b; size = n })

@@ -1,36 +1,49 @@
 // A list of dependencies, read and judged entry by entry in one walk.
 use check_valid::PointView;
+use check_valid::Reason;
+use dependency::Recorded;
 use entries::Aim;
 use entries::Listed;
 use entries::ReadListed;
 use map::Found;
 use point::PointId;
 use point::PointInfo;
+use reasons::Verdict;
 use schedule::Settings;
 use validate::Judging;
 ghost use mathlib.Core.Path.{_≡_};
 ghost use mathlib.Core.Bool.{_||_};
 ghost use mathlib.Core.List.{List};
-ghost use mathlib.Core.Option.{some};
+ghost use mathlib.Core.Option.{none, some};
 ghost use Prim.Native.Nat.{ℕ};
 ghost use lib.ListN.{length};
 ghost use Rattle.base.specs.Base.{isSome};
 ghost use Rattle.point.specs.Reading.{pointIdOf, pointOf, readPoint};
 ghost use Rattle.schedule.specs.Settings.{settingsOf};
+ghost use Rattle.reasons.specs.Verdict.{verdictOf};
+ghost use Rattle.verifier.specs.Validate.{resultWith, ofResult};
 ghost use Rattle.entries.specs.Entries.{isInOrder, readEntry, readList, entryOf, ReadFrom, aimOf, partOf, listedOf};
 ghost use Rattle.check_valid.specs.Views.{pointViewOf};
-ghost use Rattle.validate.specs.Validated.{judgingOf};
+ghost use Rattle.dependency.specs.Recorded.{recordedOf};
+ghost use Rattle.validate.specs.Validated.{judgingOf, resultOf};
 ghost use Rattle.mismatch.specs.Mismatch.{isId, uncovers};
-ghost use Rattle.judge_list.specs.Walk.{viewed, stepAs, prevIn, walkStep, nextWith, walkWith, walkStart, viewedOf, walkOf, nextOf, NextWithin, judgedListOf};
+ghost use Rattle.judge_list.specs.Walk.{viewed, stepAs, prevIn, walkStep, nextWith, walkWith, walkStart, viewedOf, walkOf, nextOf, NextWithin, walkedListOf};
+ghost use Rattle.judge_list.specs.JudgedList.{judgedWith, judgedListOf};
 
 // What a walk over a list has found so far; uncovered says that the previous point stood there without a certificate.
-pub struct Walk {
-    pub judging: Judging,
-    pub uncovered: bool,
+struct Walk {
+    judging: Judging,
+    uncovered: bool,
 }
 
+enum WalkedList {
+    Walked(Walk),
+    Unreadable,
+}
+
+// The verdict over a list that can be read, and whether the previous point stood there without a certificate.
 pub enum JudgedList {
-    Judged(Walk),
+    Judged(Verdict, bool),
     Unreadable,
 }
 
@@ -187,15 +200,9 @@ fn judge_next(
 }
 
 // Reads and judges a list, entry by entry.
-pub fn judge_list(
-    conf: Settings,
-    required: bool,
-    rec: &[u8],
-    info: PointInfo,
-    list: &[u8],
-) -> JudgedList
+fn walk_list(conf: Settings, required: bool, rec: &[u8], info: PointInfo, list: &[u8]) -> WalkedList
     requires { ⌜ readPoint (now rec) ≡ some (pointOf (now rec) info) ⌝ }
-    ensures { λ r. ⌜ judgedListOf r ≡ walkWith (settingsOf conf) required (viewed (pointOf (now (rec .entry)) info)) walkStart (readList (now (list .entry))) ⌝ }
+    ensures { λ r. ⌜ walkedListOf r ≡ walkWith (settingsOf conf) required (viewed (pointOf (now (rec .entry)) info)) walkStart (readList (now (list .entry))) ⌝ }
 {
     let p = check_valid::point_view(rec, info);
     let mut walk = Walk {
@@ -207,7 +214,7 @@ pub fn judge_list(
     let mut at = 0;
     while at < list.len() {
         if left == 0 {
-            return JudgedList::Unreadable;
+            return WalkedList::Unreadable;
         }
         let next = judge_next(conf, required, info, p, &list[at..], behind, walk);
         match next {
@@ -217,8 +224,55 @@ pub fn judge_list(
                 at += size;
                 left -= 1;
             }
-            Next::Unreadable => return JudgedList::Unreadable,
+            Next::Unreadable => return WalkedList::Unreadable,
         }
     }
-    JudgedList::Judged(walk)
+    WalkedList::Walked(walk)
+}
+
+fn of_record(recorded: Recorded) -> Verdict
+    ensures { λ r. ⌜ verdictOf r ≡ ofResult (resultWith none (recordedOf recorded)) ⌝ }
+{
+    match recorded {
+        Recorded::Recorded(d) => Verdict::TransInvalid(d),
+        Recorded::Nothing => Verdict::Valid,
+    }
+}
+
+// The verdict over a list that was walked: the indirect entries are asked where the direct ones gave no reason, and Invalid
+// wins over a record.
+fn verdict(judging: Judging) -> Verdict
+    ensures { λ r. ⌜ verdictOf r ≡ ofResult (resultOf (judgingOf judging)) ⌝ }
+{
+    let direct = judging.direct;
+    let indirect = judging.indirect;
+    let recorded = judging.recorded;
+    match direct {
+        Reason::Reason(reason) => Verdict::Invalid(reason),
+        Reason::NoReason => match indirect {
+            Reason::Reason(reason) => Verdict::Invalid(reason),
+            Reason::NoReason => of_record(recorded),
+        },
+    }
+}
+
+// Reads and judges a list.
+pub fn judge_list(
+    conf: Settings,
+    required: bool,
+    rec: &[u8],
+    info: PointInfo,
+    list: &[u8],
+) -> JudgedList
+    requires { ⌜ readPoint (now rec) ≡ some (pointOf (now rec) info) ⌝ }
+    ensures { λ r. ⌜ judgedListOf r ≡ judgedWith (settingsOf conf) required (pointOf (now (rec .entry)) info) (readList (now (list .entry))) ⌝ }
+{
+    let walked = walk_list(conf, required, rec, info, list);
+    match walked {
+        WalkedList::Walked(walk) => {
+            let judging = walk.judging;
+            JudgedList::Judged(verdict(judging), walk.uncovered)
+        }
+        WalkedList::Unreadable => JudgedList::Unreadable,
+    }
 }

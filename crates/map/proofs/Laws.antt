@@ -3,7 +3,7 @@ use Prim.Native.Nat.{ℕ, zero, suc, _+_, _-_, _*_, _/_, _%_, _≤_, _<_}
 use native.Mathlib.Nat.{add-suc, add-zero, mul-le-mul-left, mul-div-le, div-le-self, mul-suc, div-add-mod}
 use native.Mathlib.Omega.{arith}
 use native.Mathlib.Decide.{decLt, ℕ-discrete}
-use mathlib.Core.Path.{_≡_, refl, ap, sym, _∙_}
+use mathlib.Core.Path.{_≡_, refl, ap, _∙_}
 use mathlib.Core.List.{List, [], _∷_}
 use mathlib.Core.Logic.{_⊎_, inl, inr, ⊎-elim}
 use mathlib.Core.Option.{none, some}
@@ -14,7 +14,7 @@ use lib.Dec.{ltb, eqb}
 use borrow.Author.Tests.{ltb-true, eqb-true, eq-eqb, ne-eqb}
 use Rattle.base.specs.Base.{tabulate}
 use Rattle.base.proofs.Laws.{tabulate-length, tabulate-at}
-use Rattle.map.specs.Rows.{Pair, peerAt, digestAt, pairAt, peersOf, pairsOf, rising, wellRowed, findFrom, find, peers, digests, get}
+use Rattle.map.specs.Rows.{Pair, peerAt, pairAt, peersOf, pairsOf, rising, wellRowed, findFrom, find, peers, digests, get}
 
 -- ---- rows of any width
 

@@ -13,18 +13,17 @@ use lib.ListN.{length, getD, drop, set, replicate, length-drop, length-set, leng
 use lib.Seq.{getD-set-same, getD-set-other}
 use lib.Dec.{ltb, eqb}
 use borrow.Author.Tests.{eq-eqb, ne-eqb, lt-ltb, le-ltb, not-true, not-false}
-use Rattle.base.specs.Base.{pick, isSome}
+use Rattle.base.specs.Base.{pick, isSome, isEmpty}
 use Rattle.base.proofs.Laws.{and-left, and-right}
 use Rattle.map.specs.Rows.{Pair}
-use Rattle.point.specs.Point.{PointId, PointInfo, AnchorLink, Direct, Indirect, anchorLink}
+use Rattle.point.specs.Point.{PointId, PointInfo, AnchorLink, Direct, Indirect, anchorLink, sameId}
 use Rattle.point.specs.declared.data.AnchorStageRole.{AnchorStageRole}
 use Rattle.point.specs.declared.data.AnchorStageRole.the-variants.{Proof, Trigger}
 use Rattle.verifier.specs.DagPoint.{DagPoint, Entry, IndirectEntry, entryId, isDropped}
-use Rattle.verifier.specs.Validate.{sameId}
 use Rattle.entries.specs.Entries.{Listed, readList, directs, indirects}
 use Rattle.mismatch.specs.Head.{Head, listed}
 use Rattle.mismatch.proofs.Heads.{Front, Reads, next-of, listed-is, directs-here, indirects-here, reads-start, reads-next, reads-end, directs-behind, directs-next, directs-last, indirects-same, indirects-next, listed-next}
-use Rattle.mismatch.specs.Mismatch.{isTargetOf, sameRole, stoodBefore, allTargets, isNone, mismatch, hasId, pairId, isAmong, isVersion, hasPlace, allPlaced, idsOf, droppedIn, lackingIn, lacking}
+use Rattle.mismatch.specs.Mismatch.{isTargetOf, sameRole, stoodBefore, allTargets, mismatch, hasId, pairId, isAmong, isVersion, hasPlace, allPlaced, idsOf, droppedIn, lackingIn, lacking}
 use Rattle.mismatch.specs.Walk.{roundIn, pairsIn, mapsIn, amongTo, noPair, standsFor, isNewVersion, isTargetWith, Placed, Found, Marked, zerosIn, zeros}
 use Rattle.mismatch.proofs.Rows.{Maps, among-at, among-not, among-to-same, cases, clash, first-false, has-first, has-next, has-none, has-same, last-false, never, or-cases, or-left, or-right, or-swap, row-once, same-refl, same-sym, stood}
 
@@ -672,27 +671,27 @@ found-false presence p s seen true dropped end e w = clash true refl e
 found-false presence p s seen false dropped end e w = w
 
 -- the indirect entries of a list without direct ones: none exactly at its end
-none-at : (s : List ℕ) (x : Listed) (l : List Listed) → listed s ≡ x ∷ l → directs (listed s) ≡ [] → isNone (indirects (listed s)) ≡ false
+none-at : (s : List ℕ) (x : Listed) (l : List Listed) → listed s ≡ x ∷ l → directs (listed s) ≡ [] → isEmpty (indirects (listed s)) ≡ false
 none-at s x l e d =
     ⊎-elim
     (λ a. let n = ap directs e ∙ directs-here x l a in let z : _≡_ {A = ℕ} 0 1 = cc in absurd (omega arith))
-    (λ a. ap isNone (ap indirects e ∙ indirects-here x l (a .0) (a .1)))
+    (λ a. ap isEmpty (ap indirects e ∙ indirects-here x l (a .0) (a .1)))
     (aim-cases (x .aim))
 
 none-left-at : (s : List ℕ) (end : ℕ) → isSome (readList (drop end s)) ≡ true → directs (listed (drop end s)) ≡ [] →
-    not (isNone (indirects (listed (drop end s)))) ≡ ltb end (length s)
+    not (isEmpty (indirects (listed (drop end s)))) ≡ ltb end (length s)
 none-left-at s end r d =
     elim (decLt end (length s)) [
       | yes h ↦ (let n = next-of (drop end s) r (omega (arith, length-drop end s)) in
           ap not (none-at (drop end s) (n .0) _ (n .1 .all) d) ∙ sym (lt-ltb end (length s) h))
-      | no h ↦ ap (λ (l : List Listed). not (isNone (indirects l))) (reads-end s end (omega arith)) ∙ (ap (λ (l : List IndirectEntry). not (isNone l)) no-listed ∙ sym (le-ltb end (length s) (omega arith)))
+      | no h ↦ ap (λ (l : List Listed). not (isEmpty (indirects l))) (reads-end s end (omega arith)) ∙ (ap (λ (l : List IndirectEntry). not (isEmpty l)) no-listed ∙ sym (le-ltb end (length s) (omega arith)))
     ]
 
 mismatch-is : (presence : ℕ) (p : PointInfo) (es : List Entry) (ts : List IndirectEntry) → mismatch presence p es ts ≡
     (not (allPlaced presence p [] es)
     || (ltb (droppedIn es) (lacking presence p (idsOf es))
     || (not (allTargets p false false ts)
-    || (not (eqb presence 3) && not (isNone ts)))))
+    || (not (eqb presence 3) && not (isEmpty ts)))))
 unfolding mismatch
 mismatch-is presence p es ts = refl
 
@@ -715,7 +714,7 @@ module _ (presence : ℕ) (p : PointInfo) (s : List ℕ) (l : List Listed) (e : 
     past =
         mismatch-is presence p (directs (listed s)) (indirects (listed s))
         ∙ (second-of (allPlaced presence p [] (directs (listed s))) (ltb (droppedIn (directs (listed s))) (lacking presence p (idsOf (directs (listed s)))))
-        (not (allTargets p false false (indirects (listed s))) || (not (eqb presence 3) && not (isNone (indirects (listed s))))) (w .placed)
+        (not (allTargets p false false (indirects (listed s))) || (not (eqb presence 3) && not (isEmpty (indirects (listed s))))) (w .placed)
         ∙ rw (
           ← w .count,
           ← zeros-lack presence p (idsOf (directs (listed s))) seen (w .marks),

@@ -14,9 +14,8 @@ use Rattle.base.specs.Base.{pick, isSome}
 use Rattle.base.proofs.Laws.{and-left, and-right}
 use Rattle.map.specs.Rows.{Pair, peersOf, pairsOf, rising, find, peers, digests}
 use Rattle.map.proofs.Laws.{peers-pairsOf, peers-length, peers-at, digests-at, rising-less, find-some, find-none, find-rising}
-use Rattle.point.specs.Point.{PointId, PointInfo, prevDigest}
+use Rattle.point.specs.Point.{PointId, PointInfo, prevDigest, sameId}
 use Rattle.point.proofs.Laws.{MapOf, Readable}
-use Rattle.verifier.specs.Validate.{sameId}
 use Rattle.mismatch.specs.Mismatch.{hasId, pairId, isAmong, isVersion}
 use Rattle.mismatch.specs.Walk.{roundIn, pairsIn, mapIn, mapsIn, amongTo, noPair, IsRow}
 

@@ -1,4 +1,5 @@
--- An entry without its point: what it is for, its id, and how many bytes it takes.
+-- An entry without its point: what it is for, its id, and how many bytes it takes. This serves contracts of private functions and
+-- follows the code.
 use Prim.Native.Nat.{ℕ, _+_}
 use mathlib.Core.Bool.{Bool}
 use mathlib.Core.Option.{Option, none, some}
@@ -7,7 +8,7 @@ use lib.ListN.{getD, drop}
 use lib.Dec.{eqb}
 use Rattle.base.specs.Base.{pick}
 use Rattle.record.specs.Record.{recordEnd}
-use Rattle.point.specs.Point.{PointId}
+use Rattle.point.specs.Point.{PointId, noPoint}
 use Rattle.point.specs.Reading.{pointIdAt, pointIdOf}
 use Rattle.point.specs.declared.data.AnchorStageRole.{AnchorStageRole}
 use Rattle.verifier.specs.DagPoint.{entryId, isDropped}
@@ -43,12 +44,9 @@ aimAt s = pick (eqb (getD s 0 0) 19) (some (roleOf (getD s 3 0))) none
 abbrev pub idPlace : ℕ → ℕ
 idPlace state = pick (eqb state 1) 75 3
 
-abbrev pub noId : PointId
-noId = record { round = 0; digest = 0; author = 0 }
-
 -- the id that stands behind the flags, which end at a place
 unfoldable pub idBehind : ℕ → ℕ → List ℕ → PointId
-idBehind state at s = pick (eqb state 5) noId (pointIdAt s (at + idPlace state))
+idBehind state at s = pick (eqb state 5) noPoint (pointIdAt s (at + idPlace state))
 
 abbrev pub placedAt : ℕ → Option ℕ → Option ℕ
 placedAt at none = none

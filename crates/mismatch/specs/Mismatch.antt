@@ -6,13 +6,12 @@ use mathlib.Core.Bool.{Bool, true, false, not, _&&_, _||_}
 use mathlib.Core.Option.{Option, none, some}
 use mathlib.Core.List.{List, [], _∷_}
 use lib.Dec.{ltb, eqb}
-use Rattle.base.specs.Base.{pick, isSome}
+use Rattle.base.specs.Base.{pick, isSome, isEmpty}
 use Rattle.map.specs.Rows.{Pair}
-use Rattle.point.specs.Point.{PointId, AnchorLink, Direct, Indirect, PointInfo, prevDigest, anchorLink}
+use Rattle.point.specs.Point.{PointId, AnchorLink, Direct, Indirect, PointInfo, prevDigest, anchorLink, sameId}
 use Rattle.point.specs.declared.data.AnchorStageRole.{AnchorStageRole}
 use Rattle.point.specs.declared.data.AnchorStageRole.the-variants.{Proof, Trigger}
 use Rattle.verifier.specs.DagPoint.{DagPoint, Entry, IndirectEntry, entryId, isDropped}
-use Rattle.verifier.specs.Validate.{sameId}
 
 -- ---- the direct entries
 
@@ -101,10 +100,6 @@ allTargets p proof trigger (a ∷ l) =
     (isTargetOf (anchorLink (a .role) p) (a .entry .state) && not (stoodBefore (a .role) proof trigger))
     && allTargets p (proof || sameRole (a .role) Proof) (trigger || sameRole (a .role) Trigger) l
 
-abbrev pub isNone : List IndirectEntry → Bool
-isNone [] = true
-isNone (a ∷ l) = false
-
 -- ---- number 8
 
 unfoldable pub mismatch : ℕ → PointInfo → List Entry → List IndirectEntry → Bool
@@ -113,7 +108,7 @@ mismatch presence p es ts =
     not (allPlaced presence p [] es)
     || (ltb (droppedIn es) (lacking presence p (idsOf es))
     || (not (allTargets p false false ts)
-    || (not (eqb presence 3) && not (isNone ts))))
+    || (not (eqb presence 3) && not (isEmpty ts))))
 
 -- ---- number 9: "the previous point's entry, read anywhere in the list, is not certified"
 

@@ -1,4 +1,5 @@
--- The walk over a list: the point's maps by their numbers, and what the room of marks says.
+-- The walk over a list: the point's maps by their numbers, and what the room of marks says. This serves contracts of private
+-- functions and follows the code.
 use Prim.Native.Nat.{ℕ, zero, suc, _+_, _-_, _*_, _≤_, _<_}
 use mathlib.Core.Path.{_≡_}
 use mathlib.Core.Bool.{Bool, true, false, not, _&&_, _||_}
@@ -9,9 +10,8 @@ use lib.Dec.{eqb}
 use Rattle.base.specs.Base.{pick, isSome}
 use Rattle.map.specs.Rows.{Pair}
 use Rattle.record.specs.Record.{contentOf}
-use Rattle.point.specs.Point.{PointId, AnchorLink, Direct, Indirect, PointInfo}
+use Rattle.point.specs.Point.{PointId, AnchorLink, Direct, Indirect, PointInfo, sameId}
 use Rattle.verifier.specs.DagPoint.{Entry}
-use Rattle.verifier.specs.Validate.{sameId}
 use Rattle.entries.specs.Entries.{readList, directs, indirects}
 use Rattle.mismatch.specs.Head.{Head, listed}
 use Rattle.mismatch.specs.Mismatch.{hasId, pairId, isAmong, isVersion, allPlaced, idsOf, droppedIn}

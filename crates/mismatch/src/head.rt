@@ -10,7 +10,6 @@ ghost use Prim.Native.Nat.{_+_, _≤_, _<_};
 ghost use lib.ListN.{length};
 ghost use Rattle.base.specs.Base.{isSome};
 ghost use Rattle.point.specs.Reading.{pointIdOf};
-ghost use Rattle.verifier.specs.Validate.{sameId};
 ghost use Rattle.entries.specs.Entries.{readEntry, aimOf};
 ghost use Rattle.mismatch.specs.Head.{headFrom, codeHeadOf, flagsAt, aimAt, idPlace, idBehind, endIn, endBehind};
 
@@ -108,16 +107,4 @@ pub fn is_direct(aim: Aim) -> bool
         Aim::Dependency => true,
         Aim::Target(_) => false,
     }
-}
-
-pub fn is_same_id(x: PointId, y: PointId) -> bool
-    ensures { λ r. ⌜ r ≡ sameId (pointIdOf x) (pointIdOf y) ⌝ }
-{
-    if x.round != y.round {
-        return false;
-    }
-    if !parts::same(x.digest, y.digest) {
-        return false;
-    }
-    parts::same(x.author, y.author)
 }

@@ -1,6 +1,5 @@
 // The entries of indirect targets: each the target of one of the point's links, and each link once.
 use crate::head::head_of;
-use crate::head::is_same_id;
 use entries::Aim;
 use point::AnchorLink;
 use point::AnchorStageRole;
@@ -27,7 +26,7 @@ fn is_target(link: AnchorLink, is_dropped: bool, id: PointId) -> bool
             if is_dropped {
                 return true;
             }
-            is_same_id(id, indirect.to)
+            point::is_same_id(id, indirect.to)
         }
     }
 }

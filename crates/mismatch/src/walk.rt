@@ -2,7 +2,6 @@
 use crate::head::Head;
 use crate::head::head_of;
 use crate::head::is_direct;
-use crate::head::is_same_id;
 use crate::maps;
 use crate::targets;
 use map::Position;
@@ -39,7 +38,7 @@ fn stands_for(head: Head, id: PointId) -> bool
     if head.is_dropped {
         return false;
     }
-    is_same_id(head.id, id)
+    point::is_same_id(head.id, id)
 }
 
 // Whether an id stands among the direct entries of a list.

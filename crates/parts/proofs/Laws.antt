@@ -6,7 +6,7 @@ use lib.Pow.{pow-add}
 use native.Mathlib.Decide.{decLt}
 use mathlib.Core.Path.{_≡_, refl, ap, sym, _∙_}
 use mathlib.Core.List.{List, [], _∷_, _++_}
-use mathlib.Core.Bool.{Bool, true, false}
+use mathlib.Core.Bool.{false}
 use lib.ListN.{length, getD, take, drop, length-append, length-take, length-drop, List·getD-eq-default}
 use lib.Seq.{drop-cons, take-add, drop-drop, length-take-le, getD-take, getD-drop}
 use lib.Dec.{ltb, eqb}

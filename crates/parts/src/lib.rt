@@ -3,7 +3,7 @@ ghost use mathlib.Core.Path.{_≡_};
 ghost use Prim.Native.Nat.{_+_, _-_, _≤_, _<_};
 ghost use lib.Dec.{eqb};
 ghost use lib.ListN.{length};
-ghost use Rattle.parts.specs.Bytes.{big, littleAt, bigAt, idAt, littleBytes, bigBytes, putAt};
+ghost use Rattle.parts.specs.Bytes.{big, littleAt, bigAt, idAt, littleBytes};
 ghost use Rattle.parts.specs.Parts.{number, order, orderThen, orderOfRest, peerCount, peerCountOf, full, majority, majorityOfOthers};
 
 // A peer or a digest: its 32 bytes as four numbers, the first byte highest, so that comparing the
@@ -22,6 +22,9 @@ pub const NO_ID: Id = Id {
     c: 0,
     d: 0,
 };
+
+// WAVE_ROUNDS of wave.rs.
+pub const WAVE_ROUNDS: u32 = 4;
 
 // How one id stands to another.
 pub enum Order {

@@ -4,7 +4,7 @@ use Prim.Native.Nat.{ℕ, zero, suc, _-_}
 use mathlib.Core.Bool.{Bool, true, false, not, _&&_}
 use mathlib.Core.Option.{Option, none, some}
 use mathlib.Core.List.{List}
-use lib.Dec.{leb, ltb}
+use lib.Dec.{leb, ltb, eqb}
 use Rattle.base.specs.Base.{pick}
 use Rattle.map.specs.Rows.{Pair, get}
 use Rattle.point.specs.declared.data.PointRole.{PointRole}
@@ -17,6 +17,14 @@ pub record PointId : Type 0 where
   pub round : ℕ
   pub digest : ℕ
   pub author : ℕ
+
+-- PartialEq of PointId
+unfoldable pub sameId : PointId → PointId → Bool
+sameId a b = eqb (a .round) (b .round) && (eqb (a .digest) (b .digest) && eqb (a .author) (b .author))
+
+-- the id of no point: where nothing is named
+abbrev pub noPoint : PointId
+noPoint = record { round = 0; digest = 0; author = 0 }
 
 -- link.rs, Through: the map and the peer that a link goes through
 pub data Through : Type 0 where
@@ -41,6 +49,14 @@ pub record PointInfo : Type 0 where
   pub role : PointRole
   pub time : ℕ
   pub anchorTime : ℕ
+
+-- "point .. rounds 4 to 2,147,483,647; times up to 2^63 − 1"
+unfoldable pub inDomain : PointInfo → Bool
+inDomain p =
+    leb 4 (p .id .round)
+    && (leb (p .id .round) 2147483647
+    && (leb (p .time) 9223372036854775807
+    && leb (p .anchorTime) 9223372036854775807))
 
 -- ---- data.rs, PointRole
 
@@ -121,14 +137,14 @@ unfoldable pub prevDigest : PointInfo → Option ℕ
 unfolding get
 prevDigest p = get (p .includes) (p .id .author)
 
-abbrev pub prevIdWith : PointInfo → Option ℕ → Option PointId
-prevIdWith p none = none
-prevIdWith p (some d) = some (record { round = p .id .round - 1; digest = d; author = p .id .author })
+abbrev pub prevIdWith : PointId → Option ℕ → Option PointId
+prevIdWith i none = none
+prevIdWith i (some d) = some (record { round = i .round - 1; digest = d; author = i .author })
 
 -- PointInfo::prev_id
 unfoldable pub prevId : PointInfo → Option PointId
 unfolding prevDigest
-prevId p = prevIdWith p (prevDigest p)
+prevId p = prevIdWith (p .id) (prevDigest p)
 
 -- the number of a proof in its sequence, and whether it is the last
 pub record Sticky : Type 0 where

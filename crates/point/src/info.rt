@@ -10,7 +10,7 @@ ghost use mathlib.Core.Option.{some};
 ghost use Rattle.map.specs.Rows.{foundOf};
 ghost use Rattle.record.specs.Record.{contentOf};
 ghost use Rattle.parts.specs.Parts.{number};
-ghost use Rattle.point.specs.Point.{isWaveLinkOk, digestSafe, throughId, prevDigest, stickyAnchors, orZero, source, targetOf, anchor};
+ghost use Rattle.point.specs.Point.{sameId, inDomain, isWaveLinkOk, digestSafe, throughId, prevDigest, stickyAnchors, orZero, source, targetOf, anchor};
 ghost use Rattle.point.specs.Reading.{pointIdOf, throughOf, linkOf, linkIn, pointOf, readPoint, viewOf, throughIdOf, stickyOf};
 
 pub struct PointId {
@@ -53,6 +53,36 @@ pub const NO_POINT: PointId = PointId {
     digest: parts::NO_ID,
     author: parts::NO_ID,
 };
+
+// PartialEq of PointId.
+pub fn is_same_id(x: PointId, y: PointId) -> bool
+    ensures { λ r. ⌜ r ≡ sameId (pointIdOf x) (pointIdOf y) ⌝ }
+{
+    if x.round != y.round {
+        return false;
+    }
+    if !parts::same(x.digest, y.digest) {
+        return false;
+    }
+    parts::same(x.author, y.author)
+}
+
+// Whether a point's round and times lie in the domain.
+pub fn is_in_domain(rec: &[u8], info: PointInfo) -> bool
+    ensures { λ r. ⌜ r ≡ inDomain (pointOf (now (rec .entry)) info) ⌝ }
+{
+    let id = info.id;
+    if id.round < 4 {
+        return false;
+    }
+    if 2147483647 < id.round {
+        return false;
+    }
+    if 9223372036854775807 < info.time {
+        return false;
+    }
+    info.anchor_time <= 9223372036854775807
+}
 
 // The includes, the witness and the evidence of a record, as parts of it.
 pub fn includes(rec: &[u8]) -> &[u8]

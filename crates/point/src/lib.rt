@@ -18,6 +18,8 @@ pub use info::anchor;
 pub use info::digest_safe;
 pub use info::evidence;
 pub use info::includes;
+pub use info::is_in_domain;
+pub use info::is_same_id;
 pub use info::prev_digest;
 pub use info::through_id;
 pub use info::witness;

@@ -6,8 +6,6 @@ ghost use Rattle.parts.specs.Parts.{number};
 ghost use Rattle.point.specs.Point.{isWaveFarEnough, through, throughRound, throughPeer};
 ghost use Rattle.point.specs.Reading.{throughOf, linkOf};
 
-const WAVE_ROUNDS: u32 = 4;
-
 pub enum Through {
     Includes(Id),
     Witness(Id),
@@ -61,7 +59,7 @@ impl AnchorLink {
             AnchorLink::Direct(_) => false,
             AnchorLink::Indirect(link) => {
                 let to = link.to;
-                WAVE_ROUNDS <= parts::rounds_back(current_round, to.round)
+                parts::WAVE_ROUNDS <= parts::rounds_back(current_round, to.round)
             }
         }
     }

@@ -1,6 +1,6 @@
 -- Laws of reason numbers, by ranges.
 use Prim.Native.Nat.{ℕ, _≤_, _<_}
-use mathlib.Core.Path.{_≡_, ap, _∙_}
+use mathlib.Core.Path.{_≡_}
 use mathlib.Core.Bool.{true, false}
 use mathlib.Core.Option.{some, none}
 use native.Mathlib.Omega.{arith}

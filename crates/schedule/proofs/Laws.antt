@@ -12,7 +12,7 @@ use lib.ListN.{length, getD, take, drop, set, replicate, length-take, length-dro
 use lib.Seq.{getD-take, take-all, take-suc, take-suc-set, drop-at, drop-drop, drop-set-lt, append-snoc, length-take-le}
 use lib.Dec.{leb, ltb}
 use borrow.Author.Tests.{lt-ltb, le-ltb, le-leb, lt-leb, eq-eqb}
-use Rattle.base.specs.Base.{pick}
+use Rattle.base.specs.Base.{pick, isEmpty}
 use Rattle.parts.specs.Bytes.{bytesAt, littleAt}
 use Rattle.parts.proofs.Laws.{at-split, at-length}
 use Rattle.map.specs.Rows.{peersOf, rising, wellRowed}
@@ -23,7 +23,7 @@ use Rattle.schedule.specs.declared.settings.Settings as code-settings
 use Rattle.schedule.specs.declared.schedule.Span as code
 use Rattle.schedule.specs.declared.schedule.ReadSchedule as code-read
 use Rattle.schedule.specs.Settings.{Settings, settingsIn, inLimits, readSettings, settingsOf}
-use Rattle.schedule.specs.Schedule.{Span, Schedule, spanAt, spanOk, lastOk, lastAt, spanThen, spansThen, scheduleFrom, firsts, isEmpty, ifUsable, readSchedule, orElse, lastStarted, spanFor, peersIn, peersFor, spanOf, spansOf, firstsOf, noSpan, codeSpanAt, codeSpansFrom, readScheduleOf, unreadable, Handed}
+use Rattle.schedule.specs.Schedule.{Span, Schedule, spanAt, spanOk, lastOk, lastAt, spanThen, spansThen, scheduleFrom, firsts, ifUsable, readSchedule, orElse, lastStarted, spanFor, peersIn, peersFor, spanOf, spansOf, firstsOf, noSpan, codeSpanAt, codeSpansFrom, readScheduleOf, unreadable, Handed}
 
 -- ---- choices
 

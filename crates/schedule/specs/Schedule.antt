@@ -6,7 +6,7 @@ use mathlib.Core.Option.{Option, none, some}
 use mathlib.Core.List.{List, [], _∷_}
 use lib.ListN.{length, getD, take, drop, replicate}
 use lib.Dec.{leb, eqb}
-use Rattle.base.specs.Base.{pick}
+use Rattle.base.specs.Base.{pick, isEmpty}
 use Rattle.parts.specs.Bytes.{bytesAt, littleAt}
 use Rattle.map.specs.Rows.{peersOf, rising, wellRowed}
 use Rattle.record.specs.Record.{fieldRow, fieldOk, nextAt, contentAt}
@@ -58,10 +58,6 @@ scheduleFrom (suc n) s at = pick (spanOk s at) (spanThen (spanAt s at) (schedule
 unfoldable pub firsts : List Span → List ℕ
 firsts [] = []
 firsts (x ∷ l) = x .first ∷ firsts l
-
-abbrev pub isEmpty : List Span → Bool
-isEmpty [] = true
-isEmpty (x ∷ l) = false
 
 -- "one to four fields of tag 34", "first rounds strictly rising"
 abbrev pub ifUsable : Option Schedule → Option Schedule

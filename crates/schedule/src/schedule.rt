@@ -9,8 +9,6 @@ ghost use Rattle.parts.specs.Bytes.{bytesAt};
 ghost use Rattle.map.specs.Rows.{peersOf, rising};
 ghost use Rattle.schedule.specs.Schedule.{spanOk, lastOk, readSchedule, spanFor, peersFor, requireRegularPoints, firstsOf, codeSpanAt, SpansRead, scheduleOf, readScheduleOf, unreadable, Handed, peerBytes, indexOf, requireOf};
 
-const WAVE_ROUNDS: u32 = 4;
-
 // A span of rounds: the first, and where in the schedule's bytes its peers stand, and how many.
 pub struct Span {
     pub first: u32,
@@ -249,10 +247,10 @@ pub fn require_regular_points(c: Schedule, round: u32) -> RequireRegularPoints
     let SpanIndex::At(i) = span_for(c, round) else {
         return RequireRegularPoints::Unknown;
     };
-    if u32::MAX - WAVE_ROUNDS < round {
+    if u32::MAX - parts::WAVE_ROUNDS < round {
         return RequireRegularPoints::Unknown;
     }
-    let SpanIndex::At(j) = span_for(c, round + WAVE_ROUNDS) else {
+    let SpanIndex::At(j) = span_for(c, round + parts::WAVE_ROUNDS) else {
         return RequireRegularPoints::Unknown;
     };
     if i == j {

@@ -9,17 +9,16 @@ use mathlib.Core.Option.{Option, none, some}
 use mathlib.Core.List.{List, [], _∷_, _++_, List·Memᴰ, List·Memᴰ·not-nil, List·Memᴰ·cases-cons}
 use lib.ListN.{length, drop}
 use lib.Dec.{eqb}
-use Rattle.base.specs.Base.{pick, iff, lastOf, isSome}
+use Rattle.base.specs.Base.{pick, iff, lastOf, isSome, isEmpty}
 use Rattle.base.proofs.Laws.{and-right, picked, append-none, AllNone, all-none, last-none}
 use Rattle.point.specs.Point.{PointInfo}
 use Rattle.point.specs.declared.data.AnchorStageRole.{AnchorStageRole}
 use Rattle.schedule.specs.Settings.{Settings}
 use Rattle.reasons.specs.Invalid.{InvalidReason, DependencyRoundDropped, InvalidDependency}
-use Rattle.verifier.specs.Verify.{isEmpty}
 use Rattle.verifier.specs.DagPoint.{DagPoint, Valid, TransInvalid, Invalid, IllFormed, NotFound, Dropped, depView, Entry, IndirectEntry, isDropped, PointView, pointView}
 use Rattle.verifier.specs.Validate.{pointRows, dependencyTrail, entryTrail, directTrail, indirectPointRows, indirectEntryTrail, indirectTrail, entryRecord, join, directRecord, indirectRecord, ValidateResult, isInvalid, isTransInvalid, isValid, resultWith, overLists, presenceReason, validateWith, validate}
 use Rattle.entries.specs.Entries.{Listed, readEntry, isInOrder, listThen, listWith, listFrom, directThen, directs, indirectThen, indirects}
-use Rattle.validate.specs.Validated.{Judging, laterOf, orDropped, start, directStep, indirectStep, directFold, targetStep, indirectFold, listedStep, listedFold, laterReason, resultOf}
+use Rattle.validate.specs.Validated.{Judging, laterOf, orDropped, start, directStep, indirectStep, directFold, targetStep, indirectFold, listedStep, listedFold, resultOf}
 
 -- ---- the last reason
 
@@ -36,11 +35,6 @@ later-last : (l : List InvalidReason) (x : InvalidReason) (o : Option InvalidRea
 unfolding lastOf
 later-last [] x o = refl
 later-last (y ∷ l) x o = later-last l y o
-
-first-last : (l : List InvalidReason) (x : InvalidReason) (o : Option InvalidReason) → laterReason (lastOf (x ∷ l)) o ≡ lastOf (x ∷ l)
-unfolding lastOf
-first-last [] x o = refl
-first-last (y ∷ l) x o = first-last l y o
 
 some-last : (l : List InvalidReason) (x : InvalidReason) → isSome (lastOf (x ∷ l)) ≡ true
 unfolding lastOf
@@ -147,13 +141,13 @@ module _ (c : Settings) (p : PointInfo) where
         recorded = f .recorded;
       }
 
-result-found : (d i : Option InvalidReason) (w : Option InvalidDependency) (j : Judging) → Found d i w j → resultOf j ≡ resultWith (laterReason d i) w
+result-found : (d i : Option InvalidReason) (w : Option InvalidDependency) (j : Judging) → Found d i w j → resultOf j ≡ resultWith (laterOf i d) w
 result-found d i w j f = rw (f .direct, f .indirect, f .recorded)
 
-first-of-both : (a b : List InvalidReason) → laterReason (lastOf a) (lastOf b) ≡ lastOf (pick (isEmpty a) b a)
+first-of-both : (a b : List InvalidReason) → laterOf (lastOf b) (lastOf a) ≡ lastOf (pick (isEmpty a) b a)
 unfolding lastOf
 first-of-both [] b = refl
-first-of-both (x ∷ l) b = first-last l x (lastOf b)
+first-of-both (x ∷ l) b = later-last l x (lastOf b)
 
 module _ (c : Settings) (required : Bool) (p : PointInfo) where
   -- the direct entries one by one, then the indirect ones

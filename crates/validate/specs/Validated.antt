@@ -1,4 +1,5 @@
--- What the code's values stand for, and judging as a step from entry to entry.
+-- What the code's values stand for, and judging as a step from entry to entry. This serves contracts below the public call's and
+-- follows the code; proofs/Laws.antt leads from it to `overLists`.
 use mathlib.Core.Bool.{Bool, true, false}
 use mathlib.Core.Option.{Option, none, some}
 use mathlib.Core.List.{List, [], _∷_}
@@ -11,7 +12,7 @@ use Rattle.verifier.specs.DagPoint.{Entry, IndirectEntry, isDropped, PointView,
 use Rattle.verifier.specs.Validate.{entryTrail, indirectEntryTrail, entryRecord, recordOf, join, ValidateResult, resultWith}
 use Rattle.entries.specs.Entries.{Listed}
 use Rattle.check_valid.specs.Views.{optionOf}
-use Rattle.dependency.specs.Given.{recordedOf}
+use Rattle.dependency.specs.Recorded.{recordedOf}
 use Rattle.validate.specs.declared.step.Judging as code-judging
 
 -- ---- judging so far: the last reason of the direct entries and of the indirect ones, the root cause recorded, and whether a
@@ -95,11 +96,6 @@ unfolding directStep indirectStep pointView
 listedFold c required p j [] = j
 listedFold c required p j (x ∷ l) = listedFold c required p (listedStep (x .aim) c required p j (x .entry)) l
 
--- "Indirect entries are judged only if the direct ones gave no reason"
-abbrev pub laterReason : Option InvalidReason → Option InvalidReason → Option InvalidReason
-laterReason (some reason) indirect = some reason
-laterReason none indirect = indirect
-
--- what judging has found, once both lists are done
+-- what judging has found, once both lists are done: "Indirect entries are judged only if the direct ones gave no reason"
 abbrev pub resultOf : Judging → ValidateResult
-resultOf j = resultWith (laterReason (j .direct) (j .indirect)) (j .recorded)
+resultOf j = resultWith (laterOf (j .indirect) (j .direct)) (j .recorded)

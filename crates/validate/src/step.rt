@@ -3,16 +3,22 @@ use check_valid::PointView;
 use check_valid::Reason;
 use dependency::Recorded;
 use entries::DagPoint;
+use entry_reason::Taken;
 use point::AnchorStageRole;
 use point::Through;
 use reasons::InvalidReason;
 use schedule::Settings;
 ghost use mathlib.Core.Path.{_≡_};
 ghost use mathlib.Core.Bool.{Bool};
+ghost use mathlib.Core.List.{List};
+ghost use Prim.Native.Nat.{ℕ};
 ghost use Rattle.point.specs.Reading.{throughOf};
 ghost use Rattle.schedule.specs.Settings.{settingsOf};
+ghost use Rattle.verifier.specs.Validate.{recordAs};
 ghost use Rattle.entries.specs.Entries.{entryOf, ReadFrom};
 ghost use Rattle.check_valid.specs.Views.{pointViewOf, optionOf};
+ghost use Rattle.dependency.specs.Recorded.{recordedOf};
+ghost use Rattle.entry_reason.specs.Taken.{takenOf};
 ghost use Rattle.validate.specs.Validated.{laterOf, orDropped, directStep, indirectStep, judgingOf};
 
 // What judging has found so far.
@@ -29,6 +35,25 @@ pub const START: Judging = Judging {
     recorded: Recorded::Nothing,
     ended: false,
 };
+
+// What a direct entry would have recorded, taken so.
+fn entry_record(
+    conf: Settings,
+    round: u32,
+    how: Taken,
+    point: DagPoint,
+    certified: bool,
+) -> Recorded
+    ensures { λ r. ⌜ ((s : List ℕ) (first : Bool) → recordedOf r ≡ recordAs (settingsOf conf) round (takenOf how) (entryOf s point certified first)) ⌝ }
+{
+    let through = dependency::direct_through(round, point.id());
+    match how {
+        Taken::AsDependency => dependency::record_of(conf, round, certified, through, point),
+        Taken::AsPrevPoint => dependency::record_of(conf, round, certified, through, point),
+        Taken::AsVersion => Recorded::Nothing,
+        Taken::Aside => Recorded::Nothing,
+    }
+}
 
 // A later reason replaces an earlier one.
 fn later(old: Reason, new: Reason) -> Reason
@@ -79,8 +104,8 @@ pub fn judge_direct(
         };
     }
     let id = p.id;
-    let how = dependency::how_taken(p, point.id());
-    let reason = dependency::entry_reason(
+    let how = entry_reason::how_taken(p, point.id());
+    let reason = entry_reason::entry_reason(
         conf,
         required,
         p,
@@ -90,7 +115,7 @@ pub fn judge_direct(
         certified,
         first_valid,
     );
-    let record = dependency::entry_record(conf, id.round, how, point, certified);
+    let record = entry_record(conf, id.round, how, point, certified);
     Judging {
         direct: later(direct, reason),
         indirect,
@@ -117,7 +142,7 @@ pub fn judge_indirect(
     let direct = so_far.direct;
     let indirect = so_far.indirect;
     let recorded = so_far.recorded;
-    let reason = dependency::indirect_reason(conf, role, p, rec, point);
+    let reason = entry_reason::indirect_reason(conf, role, p, rec, point);
     let record = dependency::record_of(conf, id.round, certified, through, point);
     Judging {
         direct,

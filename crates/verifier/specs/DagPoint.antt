@@ -3,7 +3,7 @@
 use Prim.Native.Nat.{ℕ}
 use mathlib.Core.Bool.{Bool, true, false}
 use mathlib.Core.Option.{Option}
-use Rattle.point.specs.Point.{PointId, PointInfo, prevDigest, source, target, top}
+use Rattle.point.specs.Point.{PointId, PointInfo, prevDigest, source, target, top, noPoint}
 use Rattle.point.specs.declared.data.AnchorStageRole.{AnchorStageRole}
 use Rattle.point.specs.declared.data.AnchorStageRole.the-variants.{Proof, Trigger}
 use Rattle.point.specs.declared.data.PointRole.{PointRole}
@@ -34,7 +34,7 @@ entryId (TransInvalid q root n) = q .id
 entryId (Invalid q n) = q .id
 entryId (IllFormed i n) = i
 entryId (NotFound i) = i
-entryId Dropped = record { round = 0; digest = 0; author = 0 }
+entryId Dropped = noPoint
 
 abbrev pub isDropped : DagPoint → Bool
 isDropped (Valid q) = false

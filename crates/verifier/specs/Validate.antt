@@ -6,20 +6,16 @@ use mathlib.Core.Bool.{Bool, true, false, not, _&&_, _||_}
 use mathlib.Core.Option.{Option, none, some}
 use mathlib.Core.List.{List, [], _∷_, _++_}
 use lib.Dec.{leb, ltb, eqb}
-use Rattle.base.specs.Base.{pick, iff, concat, lastOf}
-use Rattle.point.specs.Point.{PointId, Through, Includes, Witness, PointInfo, isAnchorProof, isAnchorTrigger, isAnchorStage, Sticky, stickyAnchors, through, anchorLink}
+use Rattle.base.specs.Base.{pick, iff, concat, lastOf, isEmpty}
+use Rattle.point.specs.Point.{PointId, Through, Includes, Witness, PointInfo, isAnchorProof, isAnchorTrigger, isAnchorStage, Sticky, stickyAnchors, through, anchorLink, sameId}
 use Rattle.point.specs.declared.data.AnchorStageRole.{AnchorStageRole}
 use Rattle.point.specs.declared.data.AnchorStageRole.the-variants.{Proof, Trigger}
 use Rattle.point.specs.declared.data.PointMap.the-variants as map
 use Rattle.point.specs.declared.data.PointRole.{PointRole}
 use Rattle.schedule.specs.Settings.{Settings}
-use Rattle.verifier.specs.Verify.{isEmpty}
 use Rattle.verifier.specs.DagPoint.{DagPoint, Valid, TransInvalid, Invalid, IllFormed, NotFound, Dropped, Entry, IndirectEntry, entryId, isDropped, PointView, pointView, linksIn, DepView, depView, topIn}
 use Rattle.reasons.specs.Invalid.{InvalidReason, NoRoundInDag, DependencyRoundDropped, NotTrigger, TerminalTriggerBeforeLastProof, TimeNotGreaterThanInPrevPoint, AnchorProofDoesntInheritAnchorTime, AnchorTimeNotInheritedFromProof, MustHaveReferencedPrevPoint, MustHaveSkippedRound, DependencyTimeTooFarInFuture, NewerAnchorInDependency, AnchorLink, AnchorLinkRole, AnchorLinkBadPath, BadStickySequence, TriggerProofMismatch, DepIllFormed, DepNotFound, hasDagRound, InvalidDependency}
-
--- PartialEq of PointId
-unfoldable pub sameId : PointId → PointId → Bool
-sameId a b = eqb (a .round) (b .round) && (eqb (a .digest) (b .digest) && eqb (a .author) (b .author))
+use Rattle.reasons.specs.Verdict as verdict
 
 -- ---- is_proof_ok: of the previous point q, the first reason alone
 
@@ -275,6 +271,11 @@ pub data ValidateResult : Type 0 where
   isInvalid : InvalidReason → ValidateResult
   isTransInvalid : InvalidDependency → ValidateResult
   isValid : ValidateResult
+
+abbrev pub ofResult : ValidateResult → verdict.Verdict
+ofResult (isInvalid r) = verdict.Invalid r
+ofResult (isTransInvalid d) = verdict.TransInvalid d
+ofResult isValid = verdict.Valid
 
 abbrev pub resultWith : Option InvalidReason → Option InvalidDependency → ValidateResult
 resultWith (some reason) d = isInvalid reason

@@ -1,19 +1,17 @@
 -- Verification: BasicVerifier (verifier.rs) as the table of its tests in the order in which they are made. The answer is the
 -- first fault; no fault is a pass.
-use Prim.Native.Nat.{ℕ, zero, suc, _+_, _-_, _*_, _/_}
+use Prim.Native.Nat.{ℕ, _+_, _-_}
 use mathlib.Core.Bool.{Bool, true, false, not, _&&_, _||_}
 use mathlib.Core.Option.{Option, none, some}
-use mathlib.Core.List.{List, [], _∷_, _++_}
+use mathlib.Core.List.{List, [], _∷_}
 use lib.ListN.{length}
 use lib.Dec.{leb, ltb, eqb}
-use Rattle.base.specs.Base.{pick, iff, concat, firstOf, isSome}
+use Rattle.base.specs.Base.{pick, iff, concat, firstOf, isSome, isEmpty}
 use Rattle.parts.specs.Parts.{oneF, majority, majorityOfOthers}
-use Rattle.parts.specs.declared.PeerCount.{PeerCount}
 use Rattle.map.specs.Rows.{has, peers}
-use Rattle.point.specs.Point.{PointId, Through, Includes, Witness, AnchorLink, Direct, Indirect, PointInfo, isAnchorTrigger, requiresPrevPoint, throughRound, throughPeer, throughMap, digestSafe, prevDigest, Sticky, stickyAnchors, through, anchorLink, targetRound}
+use Rattle.point.specs.Point.{Through, Includes, Witness, AnchorLink, Direct, Indirect, PointInfo, isAnchorTrigger, requiresPrevPoint, throughRound, digestSafe, prevDigest, Sticky, stickyAnchors, through, targetRound}
 use Rattle.point.specs.declared.data.PointRole.{PointRole}
 use Rattle.point.specs.declared.data.PointRole.the-variants.{Regular, AnchorProof, AnchorTrigger, Genesis}
-use Rattle.point.specs.declared.data.AnchorStageRole.{AnchorStageRole}
 use Rattle.point.specs.declared.data.AnchorStageRole.the-variants.{Proof, Trigger}
 use Rattle.point.specs.declared.data.PointMap.{PointMap}
 use Rattle.point.specs.declared.data.PointMap.the-variants as map
@@ -22,14 +20,9 @@ use Rattle.schedule.specs.Schedule.{Schedule, peersFor}
 use Rattle.unknown.specs.Unknown.{unknownIn}
 use Rattle.reasons.specs.declared.ill_formed.StructureIssue.{StructureIssue}
 use Rattle.reasons.specs.declared.ill_formed.StructureIssue.the-variants.{ExpectedGenesis, BadGenesisPrevPoint, AuthorInMap, TriggerBadProofLink, Link, AnchorTime, NoPrevPoint}
-use Rattle.reasons.specs.declared.ill_formed.IllFormedReason.{IllFormedReason}
 use Rattle.reasons.specs.declared.ill_formed.IllFormedReason.the-variants.{BeforeGenesis, UnknownAuthor, FalseGenesis, TooLargePayload, Structure, TooManyStickyAnchors, BadLastStickyFlag, LinksAcrossGenesis, MustBeEmpty, UnknownPeers, UnknownPeerInAnchorLink, LackOfPeers}
 use Rattle.reasons.specs.declared.ill_formed.VerifyError.{VerifyError}
 use Rattle.reasons.specs.declared.ill_formed.VerifyError.the-variants.{Fail, IllFormed}
-
-abbrev pub isEmpty {ℓ} : {A : Type ℓ} → List A → Bool
-isEmpty [] = true
-isEmpty (x ∷ l) = false
 
 -- ---- BasicVerifierInner::new
 

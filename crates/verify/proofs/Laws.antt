@@ -5,11 +5,11 @@ use mathlib.Core.Path.{_≡_, refl, ap, sym, _∙_}
 use mathlib.Core.Bool.{Bool, true, false, not, _&&_, _||_}
 use mathlib.Core.Option.{Option, none, some}
 use mathlib.Core.List.{List, [], _∷_, _++_}
-use lib.Dec.{leb, ltb, eqb}
-use borrow.Author.Tests.{lt-ltb, le-ltb, le-leb, not-true, not-false}
+use lib.Dec.{ltb, eqb}
+use borrow.Author.Tests.{lt-ltb, le-ltb, not-true, not-false}
 use Rattle.base.specs.Base.{pick, iff, concat, firstOf}
 use Rattle.base.proofs.Laws.{and-left, and-right}
-use Rattle.point.specs.Point.{PointInfo, Sticky}
+use Rattle.point.specs.Point.{PointInfo, Sticky, inDomain}
 use Rattle.point.specs.Reading.{readPoint}
 use Rattle.schedule.specs.Settings.{Settings, readSettings}
 use Rattle.schedule.specs.Schedule.{Schedule, readSchedule, scheduleOf, readScheduleOf}
@@ -21,7 +21,7 @@ use Rattle.reasons.specs.declared.ill_formed.Verified.the-variants.{Passed, Fai
 use Rattle.verifier.specs.Verify.{Scheduled, scheduled, verify, vsetRow, newRows, structure, genesisRows, stickyFault, aboveRows, wellFormedRows}
 use Rattle.verifier.specs.Found.{unknownMap, bufferWith, verifiedOf, verifiedFrom}
 use Rattle.check_peers.proofs.Laws.{Told, buffer-kept}
-use Rattle.verify.specs.Call.{inDomain, Input, Tested, refused, taken, tested, verifyWith, verifyBuffer}
+use Rattle.verify.specs.Call.{Input, Tested, refused, taken, tested, verifyWith, verifyBuffer}
 use Rattle.verify.specs.declared.VerifyAnswer.{VerifyAnswer}
 use Rattle.verify.specs.declared.VerifyAnswer.the-variants.{Number, Verdict}
 
@@ -134,13 +134,6 @@ module _ (s : List ℕ) (r : ReadSchedule) (e : readScheduleOf s r ≡ readSched
 
   pub schedule-unread : not (r .readable) ≡ true → readSchedule s ≡ none
   schedule-unread h = sym e ∙ rw (not-true (r .readable) h)
-
--- ---- the domain
-
-pub domain-last : (p : PointInfo) → 4 ≤ p .id .round → p .id .round ≤ 2147483647 → p .time ≤ 9223372036854775807 →
-    inDomain p ≡ leb (p .anchorTime) 9223372036854775807
-unfolding inDomain
-domain-last p a b t = simp (le-leb _ _ a, le-leb _ _ b, le-leb _ _ t)
 
 -- ---- the numbers
 

@@ -1,11 +1,11 @@
 -- The public call: document 01's numbers 1 to 5, then the verdict of verification; and what the peer buffer holds.
 use Prim.Native.Nat.{ℕ}
-use mathlib.Core.Bool.{Bool, true, false, not, _&&_}
+use mathlib.Core.Bool.{Bool, not, _&&_}
 use mathlib.Core.Option.{Option, none, some}
 use mathlib.Core.List.{List}
-use lib.Dec.{leb, ltb}
+use lib.Dec.{ltb}
 use Rattle.base.specs.Base.{pick}
-use Rattle.point.specs.Point.{PointInfo}
+use Rattle.point.specs.Point.{PointInfo, inDomain}
 use Rattle.point.specs.Reading.{readPoint}
 use Rattle.schedule.specs.Settings.{Settings, readSettings}
 use Rattle.schedule.specs.Schedule.{Schedule, readSchedule}
@@ -13,14 +13,6 @@ use Rattle.verifier.specs.Verify.{scheduled, verify}
 use Rattle.verifier.specs.Found.{verifiedFrom, bufferWith}
 use Rattle.verify.specs.declared.VerifyAnswer.{VerifyAnswer}
 use Rattle.verify.specs.declared.VerifyAnswer.the-variants.{Number, Verdict}
-
--- "point .. rounds 4 to 2,147,483,647; times up to 2^63 − 1"
-unfoldable pub inDomain : PointInfo → Bool
-inDomain p =
-    leb 4 (p .id .round)
-    && (leb (p .id .round) 2147483647
-    && (leb (p .time) 9223372036854775807
-    && leb (p .anchorTime) 9223372036854775807))
 
 -- what a call that read its input goes on with
 pub record Input : Type 0 where

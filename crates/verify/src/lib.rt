@@ -15,29 +15,12 @@ ghost use Rattle.schedule.specs.Settings.{settingsOf};
 ghost use Rattle.schedule.specs.Schedule.{readSchedule, scheduleOf};
 ghost use Rattle.verifier.specs.Verify.{scheduled, verify};
 ghost use Rattle.verifier.specs.Found.{verifiedOf, bufferWith};
-ghost use Rattle.verify.specs.Call.{inDomain, tested, verifyWith, verifyBuffer};
+ghost use Rattle.verify.specs.Call.{tested, verifyWith, verifyBuffer};
 
 // Document 01's number in place of a verdict, or what verification found.
 pub enum VerifyAnswer {
     Number(u8),
     Verdict(Verified),
-}
-
-// Whether a point's round and times lie in the domain.
-pub fn is_in_domain(rec: &[u8], info: PointInfo) -> bool
-    ensures { λ r. ⌜ r ≡ inDomain (pointOf (now (rec .entry)) info) ⌝ }
-{
-    let id = info.id;
-    if id.round < 4 {
-        return false;
-    }
-    if 2147483647 < id.round {
-        return false;
-    }
-    if 9223372036854775807 < info.time {
-        return false;
-    }
-    info.anchor_time <= 9223372036854775807
 }
 
 // BasicVerifier::verify, of input that was read.
@@ -103,7 +86,7 @@ pub fn verify(settings: &[u8], schedule: &[u8], rec: &[u8], peers: &mut [u8]) ->
     let ReadPoint::Point(info) = point::read_point(rec) else {
         return VerifyAnswer::Number(3);
     };
-    if !is_in_domain(rec, info) {
+    if !point::is_in_domain(rec, info) {
         return VerifyAnswer::Number(4);
     }
     if peers.len() < 8160 {

@@ -3,7 +3,6 @@
 use Prim.Native.Nat.{ℕ}
 use mathlib.Core.Path.{_≡_, ap, sym, _∙_}
 use mathlib.Core.List.{List}
-use denote.Ref.{now}
 use borrow.Author.Needs.{needs}
 use Rattle.base.specs.Base.{isSome}
 use Rattle.schedule.specs.Schedule.{requireRegularPoints, scheduleOf, requireOf}

@@ -5,7 +5,7 @@ use denote.Ref.{now}
 use borrow.Author.Needs.{needs}
 use borrow.Author.Tests.{not-true, not-false}
 use Rattle.point.specs.Reading.{pointOf}
-use Rattle.verify.specs.Call.{inDomain}
+use Rattle.point.specs.Point.{inDomain}
 use Rattle.entries.proofs.Laws.{unlisted-domain, unlisted-proof, listed-trigger}
 use Rattle.entries.proofs.is_listable.Statement.{statement}
 use Rattle.entries.proofs.is_listable.Tie as tie

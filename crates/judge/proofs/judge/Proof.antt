@@ -6,12 +6,12 @@ use mathlib.Core.Option.{some}
 use lib.ListN.{length}
 use denote.Ref.{now}
 use borrow.Author.Tests.{not-true, not-false}
-use Rattle.point.specs.Point.{PointInfo}
+use Rattle.point.specs.Point.{PointInfo, inDomain}
 use Rattle.point.specs.Reading.{readPoint, pointOf, readPointOf}
 use Rattle.schedule.specs.Settings.{Settings, readSettings, settingsOf, readSettingsOf}
 use Rattle.schedule.specs.Schedule.{Schedule, readSchedule, scheduleOf}
 use Rattle.verifier.specs.Found.{verifiedOf}
-use Rattle.verify.specs.Call.{inDomain, Input, Tested, taken, tested}
+use Rattle.verify.specs.Call.{Input, Tested, taken, tested}
 use Rattle.verify.proofs.Laws.{schedule-read, schedule-unread, no-settings, no-schedule, no-point, no-domain, no-room, all-taken}
 use Rattle.judge.specs.Judge.{flagsOk}
 use Rattle.judge.proofs.Laws.{answer-number, answer-failed, answer-passed}

@@ -1,5 +1,5 @@
--- `judge_over_list` meets its contract: what the walk came to, and a law for each `return`.
-use mathlib.Core.Path.{refl, ap, sym, _∙_}
+-- `judge_over_list` meets its contract: what judging over the list came to, and a law for each `return`.
+use mathlib.Core.Path.{ap, sym, _∙_}
 use mathlib.Core.Bool.{false}
 use mathlib.Core.Option.{Option, none, some}
 use mathlib.Core.List.{List}
@@ -8,9 +8,9 @@ use Rattle.point.specs.Point.{PointInfo}
 use Rattle.point.specs.Reading.{pointOf}
 use Rattle.schedule.specs.Settings.{settingsOf}
 use Rattle.entries.specs.Entries.{Listed, readList}
-use Rattle.judge_list.specs.Walk.{Walk, walkOf, judgedListOf}
-use Rattle.judge.specs.Judge.{Given}
-use Rattle.judge.proofs.Laws.{Walked, Mismatch, answer-unread, was-read, answer-mismatch, answer-uncovered, answer-witness, answer-verdict}
+use Rattle.reasons.specs.Verdict.{verdictOf}
+use Rattle.judge_list.specs.JudgedList.{Judged, judgedListOf}
+use Rattle.judge.proofs.Laws.{Over, Mismatch, answer-unread, was-read, answer-mismatch, answer-uncovered, answer-witness, answer-verdict}
 use borrow.Author.Needs.{needs}
 use Rattle.judge.proofs.judge_over_list.Statement.{statement}
 use Rattle.judge.proofs.judge_over_list.Tie as tie
@@ -24,27 +24,27 @@ list c = readList (now (c .args .list))
 abbrev start : tie.After-known-told → tie.Start
 start c = c .before .before .before .before .before .before
 
-abbrev walk : tie.After-known-told → Walk
-walk c = walkOf (c .before .walk .given .0 .0)
+abbrev judged : tie.After-known-told → Judged
+judged c = record { verdict = verdictOf (c .before .verdict .given .0 .0); uncovered = c .before .verdict .given .0 .1 .0 }
 
-has-walk : (c : tie.After-known-told) →
-    Walked (settingsOf (start c .args .conf)) (start c .args .required) (point (start c)) (list (start c)) (some (walk c))
-has-walk c = sym (ap judgedListOf (c .before .walk .given .1)) ∙ c .before .before .before .judge-list .ensures
+was-judged : (c : tie.After-known-told) →
+    Over (settingsOf (start c .args .conf)) (start c .args .required) (point (start c)) (list (start c)) (some (judged c))
+was-judged c = sym (ap judgedListOf (c .before .verdict .given .1)) ∙ c .before .before .before .judge-list .ensures
 
-no-walk : (c : tie.After-enum-told) →
-    Walked
+not-judged : (c : tie.After-enum-told) →
+    Over
     (settingsOf (c .before .before .before .before .before .args .conf))
     (c .before .before .before .before .before .args .required)
     (point (c .before .before .before .before .before))
     (list (c .before .before .before .before .before))
     none
-no-walk c = sym (ap judgedListOf (c .enum-told .given .1)) ∙ c .before .before .judge-list .ensures
+not-judged c = sym (ap judgedListOf (c .enum-told .given .1)) ∙ c .before .before .judge-list .ensures
 
 judge-list-requires : tie.Need-judge-list-requires
 judge-list-requires c κs = search needs
 
-enum-known-walk : tie.Need-enum-known-walk
-enum-known-walk c = search needs
+enum-known-verdict : tie.Need-enum-known-verdict
+enum-known-verdict c = search needs
 
 enum-told : tie.Need-enum-told
 enum-told c = search needs
@@ -52,17 +52,17 @@ enum-told c = search needs
 returns : tie.Need-returns
 returns c =
     let s = c .before .before .before .before .before in
-    answer-unread (settingsOf (s .args .conf)) (s .args .required) (s .args .presence) (point s) (list s) (no-walk c)
+    answer-unread (settingsOf (s .args .conf)) (s .args .required) (s .args .presence) (point s) (list s) (not-judged c)
 
 is-mismatch-requires : tie.Need-is-mismatch-requires
 is-mismatch-requires c κs =
     let s = start c in
-    (s .pre .0, was-read (settingsOf (s .args .conf)) (s .args .required) (point s) (list s) (walk c) (has-walk c))
+    (s .pre .0, was-read (settingsOf (s .args .conf)) (s .args .required) (point s) (list s) (judged c) (was-judged c))
 
 returns-2 : tie.Need-returns-2
 returns-2 c =
     let m = c .before in
-    answer-mismatch _ _ _ _ _ (walk (m .before)) (has-walk (m .before)) (λ l e. sym (c .if1 .taken) ∙ m .is-mismatch .ensures l e)
+    answer-mismatch _ _ _ _ _ (judged (m .before)) (was-judged (m .before)) (λ l e. sym (c .if1 .taken) ∙ m .is-mismatch .ensures l e)
 
 no-mismatch : (c : tie.Else1) →
     Mismatch (start (c .before .before) .args .presence) (point (start (c .before .before))) (list (start (c .before .before))) false
@@ -71,7 +71,7 @@ no-mismatch c = λ l e. sym (c .if1 .left) ∙ c .before .is-mismatch .ensures l
 returns-3 : tie.Need-returns-3
 returns-3 c =
     let k = c .before .before .before in
-    answer-uncovered _ _ _ _ _ (walk k) (has-walk k) (no-mismatch (c .before)) (c .if2 .taken)
+    answer-uncovered _ _ _ _ _ (judged k) (was-judged k) (no-mismatch (c .before)) (c .if2 .taken)
 
 lacks-witness-requires : tie.Need-lacks-witness-requires
 lacks-witness-requires c κs = search needs
@@ -85,27 +85,22 @@ returns-4 c =
     let u = t .before .before in
     let k = u .before .before .before in
     c .no-round .ensures
-    ∙ answer-witness _ _ _ _ (start k .pre .1) _ (walk k) (has-walk k) (no-mismatch (u .before)) (u .if2 .left)
+    ∙ answer-witness _ _ _ _ (start k .pre .1) _ (judged k) (was-judged k) (no-mismatch (u .before)) (u .if2 .left)
     (sym (t .if3 .taken) ∙ t .before .lacks-witness .ensures (start k .args .info))
-
-verdict-requires : tie.Need-verdict-requires
-verdict-requires c κs = search needs
 
 returns-5 : tie.Need-returns-5
 returns-5 c =
-    let t = c .before .before in
-    let u = t .before .before in
+    let u = c .before .before in
     let k = u .before .before .before in
-    ap Given (c .verdict .ensures)
-    ∙ answer-verdict _ _ _ _ (start k .pre .1) (now (start k .args .list)) _ (walk k) refl (has-walk k) (no-mismatch (u .before)) (u .if2 .left)
-    (sym (t .if3 .left) ∙ t .before .lacks-witness .ensures (start k .args .info))
+    answer-verdict _ _ _ _ (start k .pre .1) _ (judged k) (was-judged k) (no-mismatch (u .before)) (u .if2 .left)
+    (sym (c .if3 .left) ∙ c .before .lacks-witness .ensures (start k .args .info))
 
 pub judge-over-list-spec : {M : Type 1} → statement M
 judge-over-list-spec =
     tie.close
     (tie.spec
     judge-list-requires
-    enum-known-walk
+    enum-known-verdict
     enum-told
     returns
     is-mismatch-requires
@@ -114,5 +109,4 @@ judge-over-list-spec =
     lacks-witness-requires
     no-round-requires
     returns-4
-    verdict-requires
     returns-5)

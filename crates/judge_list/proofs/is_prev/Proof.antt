@@ -1,14 +1,13 @@
 -- `is_prev` meets its contract: each `return` is one part of the id.
 use Prim.Native.Nat.{ℕ, _-_}
 use mathlib.Core.Option.{Option}
-use Rattle.point.specs.Point.{PointId}
+use Rattle.point.specs.Point.{PointId, prevIdWith}
 use Rattle.point.specs.Reading.{pointIdOf}
 use mathlib.Core.Path.{_≡_, ap, sym, _∙_}
 use mathlib.Core.Bool.{true}
 use lib.Dec.{eqb}
 use borrow.Author.Tests.{eq-eqb, ne-eqb, not-true, not-false}
 use Rattle.map.specs.Rows.{foundOf}
-use Rattle.judge_list.specs.Walk.{prevFrom}
 use Rattle.mismatch.specs.Mismatch.{isId}
 use Rattle.judge_list.proofs.Laws.{prev-other-round, prev-other-author, prev-digest}
 use borrow.Author.Needs.{needs}
@@ -67,7 +66,7 @@ returns-3 c =
     let f = e .before .before in
     let b = start f in
     c .same2 .ensures
-    ∙ sym (ap (λ o. isId (prevFrom (own b) (foundOf o)) (other b)) (t .prev-digest .given .1)
+    ∙ sym (ap (λ o. isId (prevIdWith (own b) (foundOf o)) (other b)) (t .prev-digest .given .1)
     ∙ prev-digest (own b) (other b) _ (round f) (author e))
 
 returns-4 : tie.Need-returns-4

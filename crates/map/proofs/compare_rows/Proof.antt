@@ -1,7 +1,6 @@
 -- `map::compare_rows` meets its contract: both rows are within their bytes (`peersOf-room`).
 use Prim.Native.Nat.{_+_, _*_, _≤_}
 use native.Mathlib.Omega.{arith}
-use mathlib.Core.Path.{_≡_, sym, _∙_}
 use lib.ListN.{length}
 use denote.Ref.{now}
 use Rattle.map.specs.Rows.{peerAt}

@@ -1,5 +1,5 @@
 -- `map::contains` meets its contract: the peer has a position.
-use mathlib.Core.Path.{_≡_, ap, sym, _∙_}
+use mathlib.Core.Path.{ap, sym, _∙_}
 use borrow.Author.Needs.{needs}
 use Rattle.base.specs.Base.{isSome}
 use Rattle.map.specs.Rows.{has, positionOf}

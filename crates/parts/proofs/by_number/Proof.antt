@@ -2,8 +2,6 @@ use borrow.Author.Tests.{lt-ltb, le-ltb}
 use Rattle.parts.specs.Parts.{orderThen}
 use Rattle.parts.proofs.by_number.Statement.{statement}
 use Rattle.parts.proofs.by_number.Tie as tie
-use Rattle.parts.proofs.by_number.Reads as reads
-use Rattle.parts.proofs.by_number.Lts as lts
 
 -- src/lib.rt:125:9
 returns : tie.Need-returns

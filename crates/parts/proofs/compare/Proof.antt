@@ -1,12 +1,9 @@
-use mathlib.Core.Path.{_≡_, sym, _∙_}
+use mathlib.Core.Path.{sym, _∙_}
 use native.Mathlib.Omega.{arith}
 use Rattle.parts.proofs.Laws.{Words, number-order}
 use borrow.Author.Needs.{needs}
 use Rattle.parts.proofs.compare.Statement.{statement}
 use Rattle.parts.proofs.compare.Tie as tie
-use Rattle.parts.proofs.compare.Reads as reads
-use Rattle.parts.proofs.compare.Lts as lts
-use Rattle.parts.proofs.by_number.Reads as by-number-reads
 
 words-x : (c : tie.Start) → Words (c .args .x)
 words-x c = record { wa = omega arith; wb = omega arith; wc = omega arith; wd = omega arith }

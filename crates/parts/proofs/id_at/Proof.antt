@@ -1,14 +1,10 @@
-use native.Mathlib.Omega.{arith}
-use mathlib.Core.Path.{_≡_, refl, ap, sym, _∙_}
+use mathlib.Core.Path.{sym}
 use denote.Ref.{now}
 use Rattle.parts.specs.Parts.{number}
 use Rattle.parts.proofs.Laws.{big-words}
 use borrow.Author.Needs.{needs}
 use Rattle.parts.proofs.id_at.Statement.{statement}
 use Rattle.parts.proofs.id_at.Tie as tie
-use Rattle.parts.proofs.id_at.Reads as reads
-use Rattle.parts.proofs.id_at.Lts as lts
-use Rattle.parts.proofs.big64_at.Reads as big64-at-reads
 
 -- src/lib.rt:97:12
 big64-at-requires : tie.Need-big64-at-requires

@@ -1,6 +1,6 @@
 -- `parts::same` meets its contract: equal numbers have equal words, since the words fit.
 use native.Mathlib.Omega.{arith}
-use mathlib.Core.Path.{_≡_, sym}
+use mathlib.Core.Path.{sym}
 use Rattle.parts.proofs.Laws.{Words, number-differs, number-last}
 use Rattle.parts.proofs.same.Statement.{statement}
 use Rattle.parts.proofs.same.Tie as tie

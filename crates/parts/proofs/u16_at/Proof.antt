@@ -1,14 +1,10 @@
 use Prim.Native.Nat.{_+_}
 use native.Mathlib.Omega.{arith}
-use mathlib.Core.Path.{_≡_, refl, ap, sym, _∙_}
 use denote.Ref.{now}
 use Rattle.parts.proofs.Laws.{little-split, little-one}
 use borrow.Author.Needs.{needs}
 use Rattle.parts.proofs.u16_at.Statement.{statement}
 use Rattle.parts.proofs.u16_at.Tie as tie
-use Rattle.parts.proofs.u16_at.Reads as reads
-use Rattle.parts.proofs.u16_at.Lts as lts
-use Rattle.parts.proofs.wide.Reads as wide-reads
 
 -- src/lib.rt:36:20
 shared-slice-read-wide : tie.Need-shared-slice-read-wide

@@ -1,13 +1,9 @@
 use native.Mathlib.Omega.{arith}
-use mathlib.Core.Path.{_≡_, refl, ap, sym, _∙_}
 use denote.Ref.{now}
 use Rattle.parts.proofs.Laws.{little-split}
 use borrow.Author.Needs.{needs}
 use Rattle.parts.proofs.u32_at.Statement.{statement}
 use Rattle.parts.proofs.u32_at.Tie as tie
-use Rattle.parts.proofs.u32_at.Reads as reads
-use Rattle.parts.proofs.u32_at.Lts as lts
-use Rattle.parts.proofs.u16_at.Reads as u16-at-reads
 
 -- src/lib.rt:46:9
 u16-at-requires : tie.Need-u16-at-requires

@@ -1,13 +1,9 @@
 use native.Mathlib.Omega.{arith}
-use mathlib.Core.Path.{_≡_, refl, ap, sym, _∙_}
 use denote.Ref.{now}
 use Rattle.parts.proofs.Laws.{little-split}
 use borrow.Author.Needs.{needs}
 use Rattle.parts.proofs.u64_at.Statement.{statement}
 use Rattle.parts.proofs.u64_at.Tie as tie
-use Rattle.parts.proofs.u64_at.Reads as reads
-use Rattle.parts.proofs.u64_at.Lts as lts
-use Rattle.parts.proofs.u32_at.Reads as u32-at-reads
 
 -- src/lib.rt:56:9
 u32-at-requires : tie.Need-u32-at-requires

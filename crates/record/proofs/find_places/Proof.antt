@@ -1,8 +1,6 @@
 -- `record::find_places` meets its contract: each field starts behind the one before.
-use Prim.Native.Nat.{ℕ}
 use native.Mathlib.Omega.{arith}
 use mathlib.Core.Path.{_≡_, ap, _∙_}
-use mathlib.Core.List.{List}
 use denote.Ref.{now}
 use borrow.Author.Needs.{needs}
 use Rattle.record.specs.Record.{nextAt, startOf}

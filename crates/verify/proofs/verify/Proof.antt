@@ -6,11 +6,11 @@ use mathlib.Core.Option.{some}
 use lib.ListN.{length}
 use denote.Ref.{now}
 use borrow.Author.Tests.{not-true, not-false}
-use Rattle.point.specs.Point.{PointInfo}
+use Rattle.point.specs.Point.{PointInfo, inDomain}
 use Rattle.point.specs.Reading.{readPoint, pointOf, readPointOf}
 use Rattle.schedule.specs.Settings.{Settings, readSettings, settingsOf, readSettingsOf}
 use Rattle.schedule.specs.Schedule.{Schedule, readSchedule, scheduleOf}
-use Rattle.verify.specs.Call.{inDomain, Tested, tested}
+use Rattle.verify.specs.Call.{Tested, tested}
 use Rattle.verify.proofs.Laws.{schedule-read, schedule-unread, no-settings, no-schedule, no-point, no-domain, no-room, all-taken, answer-number, answer-verdict}
 use borrow.Author.Needs.{needs}
 use Rattle.verify.proofs.verify.Statement.{statement}

@@ -6,9 +6,10 @@ use borrow.Author.Tests.{not-true, not-false}
 use Rattle.base.specs.Base.{iff, lastOf}
 use Rattle.base.proofs.Laws.{last-here, last-before}
 use Rattle.point.specs.Reading.{pointIdOf}
+use Rattle.point.specs.Point.{sameId}
 use Rattle.reasons.specs.Invalid.{InvalidReason, AnchorLinkBadPath}
 use Rattle.verifier.specs.DagPoint.{linksIn, topIn}
-use Rattle.verifier.specs.Validate.{sameId, carriedRow, sourceRow}
+use Rattle.verifier.specs.Validate.{carriedRow, sourceRow}
 use Rattle.check_valid.specs.Views.{pointViewOf, depViewOf, optionOf}
 use borrow.Author.Needs.{needs}
 use Rattle.check_valid.proofs.rows.check_source.Statement.{statement}

@@ -11,10 +11,9 @@ use denote.Ref.{now}
 use borrow.Author.Needs.{needs}
 use Rattle.base.specs.Base.{isSome}
 use Rattle.map.specs.Rows.{positionOf}
-use Rattle.point.specs.Point.{PointInfo}
+use Rattle.point.specs.Point.{PointInfo, sameId}
 use Rattle.point.specs.Reading.{pointIdOf, pointOf}
 use Rattle.point.proofs.Laws.{readable}
-use Rattle.verifier.specs.Validate.{sameId}
 use Rattle.entries.specs.Entries.{aimOf, readList, directs}
 use Rattle.mismatch.specs.Head.{codeHeadOf, listed}
 use Rattle.mismatch.specs.Mismatch.{pairId}

@@ -3,8 +3,6 @@ use Rattle.parts.specs.Parts.{peerCount}
 use borrow.Author.Needs.{needs}
 use Rattle.parts.proofs.PeerCount.try_from.Statement.{statement}
 use Rattle.parts.proofs.PeerCount.try_from.Tie as tie
-use Rattle.parts.proofs.PeerCount.try_from.Reads as reads
-use Rattle.parts.proofs.PeerCount.try_from.Lts as lts
 
 -- src/lib.rt:161:13
 returns : tie.Need-returns

@@ -7,7 +7,8 @@ use lib.ListN.{length, take, length-take, length-map}
 use denote.Ref.{now}
 use borrow.Author.Tests.{not-true, not-false}
 use borrow.Author.Needs.{needs}
-use Rattle.schedule.specs.Schedule.{lastOk, isEmpty, spansOf}
+use Rattle.base.specs.Base.{isEmpty}
+use Rattle.schedule.specs.Schedule.{lastOk, spansOf}
 use Rattle.schedule.proofs.Laws.{read-is, not-empty, last-within, unread}
 use Rattle.schedule.proofs.schedule.read_schedule.Statement.{statement}
 use Rattle.schedule.proofs.schedule.read_schedule.Tie as tie
