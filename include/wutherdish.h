@@ -2,7 +2,7 @@
  * Wutherdish: verdicts on Tycho points, as calls for other languages.
  *
  * The library is target/staticlib/libwutherdish.a, made by `rt staticlib wutherdish` from the repository's root.
- * What the bytes of settings, schedules, records and lists mean is laid down in document 01.
+ * What the bytes of settings, schedules, records, lists and books mean is laid down in document 01.
  */
 #ifndef WUTHERDISH_H
 #define WUTHERDISH_H
@@ -40,8 +40,8 @@ extern "C" {
 #endif
 
 /*
- * The calls below return document 01's number, or 0 for a verdict. The numbers, tested in this order; verifying has the
- * first five:
+ * The calls below return document 01's number, or 0 for a verdict. The numbers that verifying and judging test, in this
+ * order; verifying has the first five:
  *
  *   1  settings are unreadable or outside their limits
  *   2  the schedule is unreadable
@@ -80,6 +80,37 @@ uint8_t wutherdish_judge(const uint8_t *settings, size_t settings_len,
                          const uint8_t *record, size_t record_len,
                          uint8_t leader, uint8_t presence,
                          const uint8_t *list, size_t list_len,
+                         uint8_t *peers, size_t peers_len,
+                         uint8_t answer[WUTHERDISH_ANSWER]);
+
+/*
+ * A book keeps points with their verdicts in a slice of 47 to 16,777,216 bytes: settings, at most 4,096 entries, zeros.
+ * Opening sets every byte of the slice. It tests, in this order:
+ *
+ *    1  settings are unreadable or outside their limits
+ *    5  the slice is under 47 or over 16,777,216 bytes
+ *
+ * and returns 0 if the book is opened.
+ */
+uint8_t wutherdish_open(uint8_t *book, size_t book_len, const uint8_t *settings, size_t settings_len);
+
+/*
+ * Offers a point to a book: it is judged by the list that the book builds of its entries, with any answer but passed. An
+ * offer tests, in this order:
+ *
+ *   10  the bytes are no book
+ *    2, 3, 4, 5 as above
+ *   11  the point is in the book already
+ *   12  4,096 entries, or no room for the point
+ *
+ * and then 6 as above. Where the list is needed, the point's previous point, if the book keeps it, is marked certified.
+ * Fail leaves the book as it is; any other verdict is appended with the point. As above, the book, the peer buffer and
+ * the answer overlap neither each other nor the rest.
+ */
+uint8_t wutherdish_offer(uint8_t *book, size_t book_len,
+                         const uint8_t *schedule, size_t schedule_len,
+                         uint8_t leader,
+                         const uint8_t *record, size_t record_len,
                          uint8_t *peers, size_t peers_len,
                          uint8_t answer[WUTHERDISH_ANSWER]);
 

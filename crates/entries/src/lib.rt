@@ -172,7 +172,7 @@ fn read_record(s: &[u8]) -> ReadRecord
 }
 
 // Whether a number counts a reason of InvalidReason.
-fn is_reason(number: u8) -> bool
+pub fn is_reason(number: u8) -> bool
     ensures { λ r. ⌜ r ≡ isSome (dagRound number) ⌝ }
 {
     let round = reasons::dag_round(number);

@@ -12,10 +12,10 @@ use Rattle.base.specs.Base.{pick, isSome, isEmpty}
 use Rattle.point.specs.Point.{PointInfo, prevId}
 use Rattle.point.specs.declared.data.PointMap.the-variants as case-map
 use Rattle.schedule.specs.Settings.{Settings}
+use Rattle.schedule.specs.Schedule.{Schedule}
 use Rattle.reasons.specs.Invalid.{NoRoundInDag}
-use Rattle.reasons.specs.Verdict.{Valid, verdictOf}
+use Rattle.reasons.specs.Verdict.{Verdict, Valid}
 use Rattle.reasons.specs.declared.ill_formed.VerifyError.{VerifyError}
-use Rattle.reasons.specs.declared.verdict.Verdict as code-verdict
 use Rattle.verifier.specs.Verify.{scheduled, verify}
 use Rattle.verifier.specs.Found.{bufferWith}
 use Rattle.verifier.specs.DagPoint.{Entry, IndirectEntry}
@@ -26,9 +26,9 @@ use Rattle.check_ill_formed.specs.declared.WaveChecked.{WaveChecked}
 use Rattle.entries.specs.Entries.{Listed, readList, directs, indirects}
 use Rattle.mismatch.specs.Mismatch.{mismatch, uncovered}
 use Rattle.judge_list.specs.JudgedList.{Judged, judgedWith}
-use Rattle.judge.specs.Judge.{JudgeAnswer, Number, Given, ofError, Before, needed, beforeWave, beforeWith, before, judgeFrom, overList, judgeWith, judgeAnswerOf}
-use Rattle.judge.specs.declared.JudgeAnswer as code-answer
-use Rattle.judge.specs.declared.JudgeAnswer.the-variants as case-answer
+use Rattle.judge.specs.Judge.{JudgeAnswer, Number, Given, ofError, Before, answered, needed, beforeWave, beforeWith, before, judgeFrom, overList, judgeWith, judgeAnswerOf}
+use Rattle.judge.specs.declared.before.JudgeAnswer as code-answer
+use Rattle.judge.specs.declared.before.JudgeAnswer.the-variants as case-answer
 
 -- ---- the answer over a list, from what judging came to and the tests that led there
 
@@ -117,12 +117,30 @@ module _ (c : Settings) (presence : ℕ) (p : PointInfo) (list : List ℕ) where
     pub answer-needed : (a : JudgeAnswer) → 2 ≤ presence → a ≡ overList c required presence p (readList list) → From (needed required) a
     answer-needed a h e = e ∙ rw (le-leb 2 presence h)
 
-  pub answer-genesis : (wave : WaveChecked) → p .id .round ≡ c .genesisRound → From (beforeWith none (eqb (p .id .round) (c .genesisRound)) wave) (Given Valid)
-  answer-genesis wave h = rw (eq-eqb (p .id .round) (c .genesisRound) h)
+-- ---- what is known before the list
 
-  pub answer-wave : (found wave : WaveChecked) (a : JudgeAnswer) → (p .id .round ≡ c .genesisRound → ⊥) → found ≡ wave → From (beforeWave found) a →
-      From (beforeWith none (eqb (p .id .round) (c .genesisRound)) wave) a
-  answer-wave found wave a h e f = f ∙ rw (ne-eqb (p .id .round) (c .genesisRound) h, e)
+module _ (round genesis : ℕ) (wave : WaveChecked) where
+  pub before-genesis : round ≡ genesis → answered (Given Valid) ≡ beforeWith none (eqb round genesis) wave
+  before-genesis h = rw (eq-eqb round genesis h)
+
+  pub before-wave : (found : WaveChecked) (b : Before) → (round ≡ genesis → ⊥) → found ≡ wave → b ≡ beforeWave found →
+      b ≡ beforeWith none (eqb round genesis) wave
+  before-wave found b h e f = f ∙ rw (ne-eqb round genesis h, e)
+
+module _ (c : Settings) (s : Schedule) (leader : Bool) (p : PointInfo) (o : Option VerifyError) (e : o ≡ verify c s p) where
+  -- a verification that didn't pass
+  pub before-failed : (v : Verdict) (x : VerifyError) → o ≡ some x → v ≡ ofError x → answered (Given v) ≡ before c s leader p
+  unfolding before
+  before-failed v x f g = rw (← e, f, g)
+
+  -- one that passed
+  pub before-passed : (b : Before) → o ≡ none → b ≡ beforeWith none (eqb (p .id .round) (c .genesisRound)) (waveChecked s leader p) → b ≡ before c s leader p
+  unfolding before
+  before-passed b f g = g ∙ rw (← e, f)
+
+pub buffered : (c : Settings) (s : Schedule) (p : PointInfo) (o : Option VerifyError) (old new : List ℕ) → o ≡ verify c s p →
+    new ≡ bufferWith (scheduled c s p) p o old → new ≡ bufferWith (scheduled c s p) p (verify c s p) old
+buffered c s p o old new e b = rw (← e) b
 
 -- ---- the call's answer and the buffer, from what its input was tested for
 
@@ -135,28 +153,13 @@ module _ (leader presence : ℕ) (list : List ℕ) where
   unfolding judgeWith
   answer-number t n old h = rw h (refl, refl)
 
-  module _ (t : Tested) (i : Input) (h : t ≡ taken i) (o : Option VerifyError) (e : o ≡ verify (i .settings) (i .schedule) (i .point)) (old new : List ℕ)
-      (b : new ≡ bufferWith (scheduled (i .settings) (i .schedule) (i .point)) (i .point) o old) where
-    buffered : new ≡ verifyBuffer t old
-    buffered = rw h (rw (← e) b)
-
-    judged-from : judgeWith leader presence list (taken i)
-        ≡ judgeFrom (i .settings) presence (i .point) list
-        (beforeWith o (eqb (i .point .id .round) (i .settings .genesisRound)) (waveChecked (i .schedule) (eqb leader 1) (i .point)))
-    unfolding judgeWith before
-    judged-from = rw (← e)
-
-    -- a verification that didn't pass
-    pub answer-failed : (v : code-verdict.Verdict) (x : VerifyError) → o ≡ some x → verdictOf v ≡ ofError x → Answered t (case-answer.Verdict v) old new
-    answer-failed v x f g = (ap Given g ∙ sym (ap (judgeWith leader presence list) h ∙ judged-from ∙ rw f), buffered)
-
-    -- one that passed
-    pub answer-passed : (a : code-answer.JudgeAnswer) → o ≡ none →
-        judgeAnswerOf a
-        ≡ judgeFrom (i .settings) presence (i .point) list
-        (beforeWith none (eqb (i .point .id .round) (i .settings .genesisRound)) (waveChecked (i .schedule) (eqb leader 1) (i .point))) →
-        Answered t a old new
-    answer-passed a f g = (g ∙ sym (ap (judgeWith leader presence list) h ∙ judged-from ∙ rw f), buffered)
+  -- the input was taken, and this is known before the list
+  pub answer-taken : (t : Tested) (i : Input) (a : code-answer.JudgeAnswer) (b : Before) (old new : List ℕ) → t ≡ taken i →
+      b ≡ before (i .settings) (i .schedule) (eqb leader 1) (i .point) → judgeAnswerOf a ≡ judgeFrom (i .settings) presence (i .point) list b →
+      new ≡ bufferWith (scheduled (i .settings) (i .schedule) (i .point)) (i .point) (verify (i .settings) (i .schedule) (i .point)) old →
+      Answered t a old new
+  unfolding judgeWith
+  answer-taken t i a b old new h e f g = rw h (f ∙ ap (judgeFrom (i .settings) presence (i .point) list) e, g)
 
 pub filled : {A : Type 0} (l : List A) → ltb 0 (length l) ≡ not (isEmpty l)
 filled [] = refl

@@ -13,6 +13,7 @@ use Rattle.reasons.specs.Verdict.{Verdict, Fail, IllFormed, Valid, verdictOf}
 use Rattle.reasons.specs.declared.ill_formed.VerifyError.{VerifyError}
 use Rattle.reasons.specs.declared.ill_formed.VerifyError.the-variants as case-error
 use Rattle.verifier.specs.Verify.{verify}
+use Rattle.verifier.specs.DagPoint.{Entry, IndirectEntry}
 use Rattle.verifier.specs.Validate.{ofResult, validate}
 use Rattle.verify.specs.Call.{Tested, refused, taken}
 use Rattle.check_ill_formed.specs.WaveChecked.{waveChecked}
@@ -20,8 +21,10 @@ use Rattle.check_ill_formed.specs.declared.WaveChecked.{WaveChecked}
 use Rattle.check_ill_formed.specs.declared.WaveChecked.the-variants as case-wave
 use Rattle.entries.specs.Entries.{Listed, readList, directs, indirects}
 use Rattle.mismatch.specs.Mismatch.{mismatch, uncovered}
-use Rattle.judge.specs.declared.JudgeAnswer as code-answer
-use Rattle.judge.specs.declared.JudgeAnswer.the-variants as case-answer
+use Rattle.judge.specs.declared.before.JudgeAnswer as code-answer
+use Rattle.judge.specs.declared.before.JudgeAnswer.the-variants as case-answer
+use Rattle.judge.specs.declared.before.Before as code-before
+use Rattle.judge.specs.declared.before.Before.the-variants as case-before
 
 -- a number of document 01 in place of a verdict, or the verdict
 pub data JudgeAnswer : Type 0 where
@@ -55,12 +58,16 @@ before c s leader p = beforeWith (verify c s p) (eqb (p .id .round) (c .genesisR
 
 -- ---- the list
 
+-- 8, 9, and the verdict over the direct and the indirect entries
+abbrev pub overEntries : Settings → Bool → ℕ → PointInfo → List Entry → List IndirectEntry → JudgeAnswer
+overEntries c required presence p es ts =
+    pick (mismatch presence p es ts) (Number 8)
+    (pick (uncovered (prevId p) es ts) (Number 9)
+    (Given (ofResult (validate c required presence p es ts))))
+
 abbrev pub overList : Settings → Bool → ℕ → PointInfo → Option (List Listed) → JudgeAnswer
 overList c required presence p none = Number 7
-overList c required presence p (some l) =
-    pick (mismatch presence p (directs l) (indirects l)) (Number 8)
-    (pick (uncovered (prevId p) (directs l) (indirects l)) (Number 9)
-    (Given (ofResult (validate c required presence p (directs l) (indirects l)))))
+overList c required presence p (some l) = overEntries c required presence p (directs l) (indirects l)
 
 -- "Presence 0 and 1 .., the list unread"
 abbrev pub judgeFrom : Settings → ℕ → PointInfo → List ℕ → Before → JudgeAnswer
@@ -84,3 +91,7 @@ judgeWith leader presence list (taken i) =
 abbrev pub judgeAnswerOf : code-answer.JudgeAnswer → JudgeAnswer
 judgeAnswerOf (case-answer.Number n) = Number n
 judgeAnswerOf (case-answer.Verdict v) = Given (verdictOf v)
+
+abbrev pub beforeOf : code-before.Before → Before
+beforeOf (case-before.Answered a) = answered (judgeAnswerOf a)
+beforeOf (case-before.Needed required) = needed required

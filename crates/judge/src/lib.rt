@@ -1,21 +1,21 @@
 // Verifier::validate of verifier.rs on points whose dependencies are listed in the order of their arrival.
-use check_ill_formed::WaveChecked;
+mod before;
+
+pub use before::Before;
+pub use before::JudgeAnswer;
+pub use before::before_list;
 use judge_list::JudgedList;
 use point::PointInfo;
 use point::PointMap;
 use point::ReadPoint;
 use reasons::InvalidReason;
 use reasons::Verdict;
-use reasons::Verified;
-use reasons::VerifyError;
 use schedule::ReadSettings;
-use schedule::Schedule;
 use schedule::Settings;
 ghost use mathlib.Core.Path.{_≡_};
 ghost use mathlib.Core.Bool.{not, _&&_};
-ghost use mathlib.Core.List.{List};
-ghost use mathlib.Core.Option.{none, some};
-ghost use Prim.Native.Nat.{ℕ, _≤_};
+ghost use mathlib.Core.Option.{some};
+ghost use Prim.Native.Nat.{_≤_};
 ghost use lib.ListN.{length};
 ghost use lib.Dec.{eqb};
 ghost use Rattle.base.specs.Base.{isEmpty};
@@ -23,21 +23,11 @@ ghost use Rattle.point.specs.Reading.{pointOf, readPoint};
 ghost use Rattle.point.specs.declared.info.PointInfo as code-info;
 ghost use Rattle.point.specs.Point.{inDomain};
 ghost use Rattle.schedule.specs.Settings.{settingsOf};
-ghost use Rattle.schedule.specs.Schedule.{scheduleOf};
 ghost use Rattle.reasons.specs.Invalid.{NoRoundInDag};
-ghost use Rattle.reasons.specs.Verdict.{verdictOf};
-ghost use Rattle.verifier.specs.Found.{verifiedOf};
 ghost use Rattle.verifier.specs.Validate.{isInvalid, ofResult};
 ghost use Rattle.verify.specs.Call.{tested, verifyBuffer};
-ghost use Rattle.check_ill_formed.specs.WaveChecked.{waveChecked};
 ghost use Rattle.entries.specs.Entries.{readList};
-ghost use Rattle.judge.specs.Judge.{Given, ofError, beforeWith, needed, overList, judgeFrom, flagsOk, judgeWith, judgeAnswerOf};
-
-// Document 01's number in place of a verdict, or the verdict.
-pub enum JudgeAnswer {
-    Number(u8),
-    Verdict(Verdict),
-}
+ghost use Rattle.judge.specs.Judge.{Given, needed, overList, judgeFrom, flagsOk, judgeWith, judgeAnswerOf};
 
 fn no_round(map: PointMap) -> JudgeAnswer
     ensures { λ r. ⌜ judgeAnswerOf r ≡ Given (ofResult (isInvalid (NoRoundInDag map))) ⌝ }
@@ -108,51 +98,7 @@ fn judge_needed(
     }
 }
 
-// Judges a verified point.
-fn judge_verified(
-    conf: Settings,
-    spans: Schedule,
-    rec: &[u8],
-    info: PointInfo,
-    is_leader: bool,
-    presence: u8,
-    list: &[u8],
-) -> JudgeAnswer
-    requires { ⌜ readPoint (now rec) ≡ some (pointOf (now rec) info) ⌝ }
-    ensures { λ r. ⌜ ((s : List ℕ) → judgeAnswerOf r ≡ judgeFrom (settingsOf conf) presence (pointOf (now (rec .entry)) info) (now (list .entry)) (beforeWith none (eqb (info .id .round) (settingsOf conf .genesisRound)) (waveChecked (scheduleOf s spans) «is_leader» (pointOf (now (rec .entry)) info)))) ⌝ }
-{
-    let id = info.id;
-    if id.round == conf.genesis_round {
-        return JudgeAnswer::Verdict(Verdict::Valid);
-    }
-    let wave = check_ill_formed::check_ill_formed(spans, rec, info, is_leader);
-    match wave {
-        WaveChecked::Horizon => JudgeAnswer::Number(6),
-        WaveChecked::IllFormed(reason) => JudgeAnswer::Verdict(Verdict::IllFormed(reason)),
-        WaveChecked::Sound(required) => { judge_needed(conf, required, presence, rec, info, list) }
-    }
-}
-
-fn of_error(error: VerifyError) -> Verdict
-    ensures { λ r. ⌜ verdictOf r ≡ ofError error ⌝ }
-{
-    match error {
-        VerifyError::Fail(u) => Verdict::Fail(u),
-        VerifyError::IllFormed(reason) => Verdict::IllFormed(reason),
-    }
-}
-
-// The verdict on a point whose verification didn't pass.
-fn of_verified(verified: Verified) -> Verdict
-    ensures { λ r. ⌜ ((e : VerifyError) → verifiedOf verified ≡ some e → verdictOf r ≡ ofError e) ⌝ }
-{
-    match verified {
-        Verified::Passed => Verdict::Valid,
-        Verified::Failed(error) => of_error(error),
-    }
-}
-
-// Numbers 1 to 5 in number order, then the judgement. A verification that didn't pass ends it.
+// Numbers 1 to 5 in number order, then the judgement.
 pub fn judge(
     settings: &[u8],
     schedule: &[u8],
@@ -182,11 +128,11 @@ pub fn judge(
     if peers.len() < 8160 {
         return JudgeAnswer::Number(5);
     }
-    let verified = verify::verify_point(conf, schedule, spans, rec, info, peers);
-    let Verified::Passed = verified else {
-        return JudgeAnswer::Verdict(of_verified(verified));
-    };
-    judge_verified(conf, spans, rec, info, leader == 1, presence, list)
+    let known = before::before_list(conf, schedule, spans, rec, info, leader == 1, peers);
+    match known {
+        Before::Answered(answer) => answer,
+        Before::Needed(required) => judge_needed(conf, required, presence, rec, info, list),
+    }
 }
 
 // Whether the point, the leader flag and the presence lie in the domain.

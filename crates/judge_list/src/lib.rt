@@ -75,7 +75,7 @@ fn is_in_order(behind: bool, aim: Aim) -> bool
 }
 
 // Whether an id is the previous point's.
-fn is_prev(p: PointView, id: PointId) -> bool
+pub fn is_prev(p: PointView, id: PointId) -> bool
     ensures { λ r. ⌜ r ≡ isId (prevIn (pointViewOf p)) (pointIdOf id) ⌝ }
 {
     let own = p.id;
@@ -241,7 +241,7 @@ fn of_record(recorded: Recorded) -> Verdict
 
 // The verdict over a list that was walked: the indirect entries are asked where the direct ones gave no reason, and Invalid
 // wins over a record.
-fn verdict(judging: Judging) -> Verdict
+pub fn verdict(judging: Judging) -> Verdict
     ensures { λ r. ⌜ verdictOf r ≡ ofResult (resultOf (judgingOf judging)) ⌝ }
 {
     let direct = judging.direct;

@@ -6,6 +6,8 @@ ghost use mathlib.Core.Bool.{true};
 ghost use lib.ListN.{length};
 ghost use Rattle.verify.specs.Call.{tested, verifyWith, verifyBuffer};
 ghost use Rattle.judge.specs.Judge.{flagsOk, judgeWith};
+ghost use Rattle.plain_book.specs.Calls.{openNumber, openBytes, offerBytes};
+ghost use Rattle.book.specs.Decided.{offerOf};
 ghost use Rattle.wutherdish.specs.Calls.{verifyNumber, verifyAnswer, judgeNumber, judgeAnswer};
 
 // Verifies a point. Answers document 01's number, or 0 with the verdict in `answer` and the unknown peers in `peers`; with a
@@ -53,6 +55,40 @@ pub extern "C" fn wutherdish_judge(
         JudgeAnswer::Number(n) => n,
         JudgeAnswer::Verdict(v) => {
             answer::put_answer(answer, answer::of_verdict(v));
+            0
+        }
+    }
+}
+
+// Opens a book in a slice, with its settings. Answers 1, 5, or 0 where it is open; with a number no byte changes.
+#[no_mangle]
+pub extern "C" fn wutherdish_open(book: &mut [u8], settings: &[u8]) -> u8
+    ensures { λ r. ⌜ r ≡ openNumber (now (settings .entry)) (length (now (book .entry))) ⌝ }
+    ensures { λ r. ⌜ now (book .exit) ≡ openBytes (now (settings .entry)) (now (book .entry)) ⌝ }
+{
+    book::open(book, settings)
+}
+
+// Offers a point to a book, which keeps it unless the verdict is Fail; answers as verifying does.
+#[no_mangle]
+pub extern "C" fn wutherdish_offer(
+    book: &mut [u8],
+    schedule: &[u8],
+    leader: u8,
+    rec: &[u8],
+    peers: &mut [u8],
+    answer: &mut [u8; 114],
+) -> u8
+    ensures { λ r. ⌜ r ≡ judgeNumber (offerBytes (now (book .entry)) (offerOf (now (schedule .entry)) leader (now (rec .entry)) (now (peers .entry))) .answer) ⌝ }
+    ensures { λ r. ⌜ now (answer .exit) ≡ judgeAnswer (offerBytes (now (book .entry)) (offerOf (now (schedule .entry)) leader (now (rec .entry)) (now (peers .entry))) .answer) (now (answer .entry)) ⌝ }
+    ensures { λ r. ⌜ now (peers .exit) ≡ offerBytes (now (book .entry)) (offerOf (now (schedule .entry)) leader (now (rec .entry)) (now (peers .entry))) .peers ⌝ }
+    ensures { λ r. ⌜ now (book .exit) ≡ offerBytes (now (book .entry)) (offerOf (now (schedule .entry)) leader (now (rec .entry)) (now (peers .entry))) .bytes ⌝ }
+{
+    let judged = book::offer(book, schedule, leader, rec, peers);
+    match judged {
+        JudgeAnswer::Number(n) => n,
+        JudgeAnswer::Verdict(verdict) => {
+            answer::put_answer(answer, answer::of_verdict(verdict));
             0
         }
     }

@@ -1,7 +1,10 @@
 //! The oracle's commands.
 
+mod book_sharpness;
+mod books;
 mod edges;
 mod run_cases;
+mod run_feeds;
 mod spread;
 mod store;
 mod vectors;
@@ -14,8 +17,11 @@ const USAGE: &str = "oracle COMMAND
   sharpness SEED COUNT   run them through the plain judge too, with each mistake in it
   agree SEED COUNT       run them through the oracle and the plain judge alone
   spread SEED COUNT      how far the source's certificates spread, by depth and on feeds
-  vectors FILE           run the verify and judge cases of a file and compare with its answers
-  lines FILE             run them and print one line each
+  feeds SEED COUNT       run feeds of 200 offers through the plain book and print how often each answer appears
+  books-damaged SEED COUNT   offer the points of feeds to damaged copies of their books
+  book-sharpness SEED COUNT  run feeds and damaged books with each mistake in the plain book
+  vectors FILE           run the cases of a file and compare with its answers
+  lines FILE             run its verify and judge cases and print one line each
   store FILE             write the stored list
   stored FILE            replay it";
 
@@ -24,7 +30,7 @@ fn main() -> ExitCode {
     let words: Vec<&str> = arguments.iter().map(String::as_str).collect();
     let result = match words[..] {
         ["edges"] => edges::run(),
-        ["vectors", file] => vectors::compare(file),
+        ["vectors", file] => vectors::compare(file).and_then(|()| books::compare(file)),
         ["lines", file] => vectors::lines(file),
         ["histogram", seed, count] => {
             two_numbers(seed, count).and_then(|(seed, count)| run_cases::histogram(seed, count))
@@ -34,6 +40,13 @@ fn main() -> ExitCode {
         }
         ["agree", seed, count] => two_numbers(seed, count).and_then(|(seed, count)| run_cases::agree(seed, count)),
         ["spread", seed, feeds] => two_numbers(seed, feeds).and_then(|(seed, feeds)| spread::run(seed, feeds)),
+        ["feeds", seed, count] => two_numbers(seed, count).and_then(|(seed, count)| run_feeds::feeds(seed, count)),
+        ["books-damaged", seed, count] => {
+            two_numbers(seed, count).and_then(|(seed, count)| run_feeds::damaged(seed, count))
+        }
+        ["book-sharpness", seed, count] => {
+            two_numbers(seed, count).and_then(|(seed, count)| book_sharpness::run(seed, count))
+        }
         ["store", file] => store::write(file),
         ["stored", file] => store::check(file),
         _ => Err(USAGE.to_string()),

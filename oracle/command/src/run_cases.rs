@@ -4,7 +4,7 @@ use std::time::Instant;
 
 use cases::histogram::Histogram;
 use oracle::Answer;
-use plain::{Mistake, Prepared};
+use plain::{KNOWN_PANIC, Mistake, Prepared};
 
 /// Every answer that can be given appears at least this often in 20,000 cases.
 const LEAST: u64 = 50;
@@ -93,8 +93,7 @@ fn disagreement(seed: u64, place: u64, answer: &Answer, plain: &Answer) -> Strin
     format!("seed {seed} case {place}: the oracle says {answer}; the plain judge says {plain}")
 }
 
-/// The one panic of the Rust inside document 01's domain: a set of 254 or 255 peers.
 fn check_panic(message: &str) -> Result<(), String> {
-    let known = message.starts_with("node count 3F+1=256 overflows u8");
+    let known = message.starts_with(KNOWN_PANIC);
     if known { Ok(()) } else { Err(format!("a panic that is not listed: {message}")) }
 }

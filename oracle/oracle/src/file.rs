@@ -84,8 +84,11 @@ pub fn answer_bytes(answer: &Answer) -> Option<Vec<u8>> {
     Some(out)
 }
 
-/// Cases of kinds 1 and 2 with their answers; other kinds are passed over. `None` if the file isn't whole.
-pub fn read(mut bytes: &[u8]) -> Option<Vec<(Case, Vec<u8>)>> {
+/// A case as it stands in a file: its kind and its blobs.
+pub type Blobs<'a> = (u8, Vec<&'a [u8]>);
+
+/// The cases of a file. `None` if it isn't whole.
+pub fn blobs(mut bytes: &[u8]) -> Option<Vec<Blobs<'_>>> {
     let mut cases = Vec::new();
     while !bytes.is_empty() {
         let (&[kind, count], rest) = bytes.split_first_chunk()?;
@@ -94,14 +97,18 @@ pub fn read(mut bytes: &[u8]) -> Option<Vec<(Case, Vec<u8>)>> {
         for _ in 0..count {
             let (length, rest) = bytes.split_first_chunk()?;
             let (blob, rest) = rest.split_at_checked(u32::from_le_bytes(*length) as usize)?;
-            blobs.push(blob.to_vec());
+            blobs.push(blob);
             bytes = rest;
         }
-        if kind == VERIFY || kind == JUDGE {
-            cases.push(case(kind, blobs)?);
-        }
+        cases.push((kind, blobs));
     }
     Some(cases)
+}
+
+/// Cases of kinds 1 and 2 with their answers; other kinds are passed over. `None` if the file isn't whole.
+pub fn read(bytes: &[u8]) -> Option<Vec<(Case, Vec<u8>)>> {
+    let judged = blobs(bytes)?.into_iter().filter(|(kind, _)| matches!(*kind, VERIFY | JUDGE));
+    judged.map(|(kind, blobs)| case(kind, blobs.into_iter().map(<[u8]>::to_vec).collect())).collect()
 }
 
 fn case(kind: u8, blobs: Vec<Vec<u8>>) -> Option<(Case, Vec<u8>)> {

@@ -9,6 +9,7 @@ pub mod file;
 pub mod numbers;
 pub mod read;
 mod run;
+pub mod sha256;
 pub mod steps;
 pub mod value;
 pub mod write;

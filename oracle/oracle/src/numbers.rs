@@ -1,4 +1,4 @@
-//! Document 01's numbers 1 to 9, read plainly from its table. They come in front of the Rust.
+//! Document 01's numbers, and the tests for 1 to 9, read plainly from its table. They come in front of the Rust.
 
 use std::collections::HashSet;
 
@@ -15,9 +15,24 @@ pub const HORIZON: u8 = 6;
 pub const ENTRIES: u8 = 7;
 pub const MISMATCH: u8 = 8;
 pub const UNCOVERED: u8 = 9;
+pub const BOOK: u8 = 10;
+pub const KEPT: u8 = 11;
+pub const FULL: u8 = 12;
 
-pub const WORDS: [&str; 9] =
-    ["settings", "schedule", "record", "domain", "short", "horizon", "entries", "mismatch", "uncovered"];
+pub const WORDS: [&str; 12] = [
+    "settings",
+    "schedule",
+    "record",
+    "domain",
+    "short",
+    "horizon",
+    "entries",
+    "mismatch",
+    "uncovered",
+    "book",
+    "kept",
+    "full",
+];
 
 /// What stands before any list is read.
 pub struct Read {
@@ -47,18 +62,18 @@ pub fn before(
     Ok(Read { settings, schedule, point })
 }
 
-fn within_limits(settings: &Settings) -> bool {
+pub fn within_limits(settings: &Settings) -> bool {
     round_in_domain(settings.genesis_round)
         && settings.payload_batch_bytes >= 1
         && settings.clock_skew_millis >= 1
         && settings.commit_history_rounds >= 1
 }
 
-fn round_in_domain(round: u32) -> bool {
+pub fn round_in_domain(round: u32) -> bool {
     (4..=2_147_483_647).contains(&round)
 }
 
-fn in_domain(point: &Point) -> bool {
+pub fn in_domain(point: &Point) -> bool {
     let greatest = i64::MAX as u64;
     round_in_domain(point.id.round) && point.time <= greatest && point.anchor_time <= greatest
 }
@@ -96,7 +111,7 @@ fn entry_in_domain(entry: &Entry) -> bool {
 }
 
 /// A direct link names a peer of its map.
-fn names_its_peers(point: &Point) -> bool {
+pub fn names_its_peers(point: &Point) -> bool {
     let named = |link: &AnchorLink| link.to.is_some() || find(point.map(link.through), &link.peer).is_some();
     named(&point.anchor_proof) && named(&point.anchor_trigger)
 }

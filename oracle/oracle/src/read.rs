@@ -57,7 +57,9 @@ impl<'a> Bytes<'a> {
     }
 
     fn id(&mut self) -> Option<Id> {
-        Some(Id { round: self.u32()?, digest: self.array()?, author: self.array()? })
+        let (&bytes, rest) = self.0.split_first_chunk()?;
+        self.0 = rest;
+        Some(id(&bytes))
     }
 
     fn next_tag(&self) -> Option<u8> {
@@ -82,21 +84,47 @@ impl<'a> Bytes<'a> {
     }
 }
 
+pub fn id(bytes: &[u8; 68]) -> Id {
+    let (round, rest) = bytes.split_first_chunk().expect("4 of 68 bytes");
+    let (digest, author) = rest.split_at(32);
+    let all = "32 of 64 bytes";
+    Id {
+        round: u32::from_le_bytes(*round),
+        digest: digest.try_into().expect(all),
+        author: author.try_into().expect(all),
+    }
+}
+
+/// What stands at the front of the bytes, with nothing behind it.
+fn alone<T>((value, rest): (T, &[u8])) -> Option<T> {
+    rest.is_empty().then_some(value)
+}
+
 pub fn settings(bytes: &[u8]) -> Option<Settings> {
+    settings_front(bytes).and_then(alone)
+}
+
+/// Settings at the front of the bytes, and what stands behind them.
+pub fn settings_front(bytes: &[u8]) -> Option<(Settings, &[u8])> {
     let mut rest = Bytes(bytes);
     let mut field = rest.field(32, 44, 44)?;
-    rest.end()?;
-    Some(Settings {
+    let settings = Settings {
         genesis_round: field.u32()?,
         genesis_digest: field.array()?,
         payload_batch_bytes: field.u32()?,
         sticky_anchors: field.byte()?,
         clock_skew_millis: field.u16()?,
         commit_history_rounds: field.byte()?,
-    })
+    };
+    Some((settings, rest.0))
 }
 
 pub fn schedule(bytes: &[u8]) -> Option<Schedule> {
+    schedule_front(bytes).and_then(alone)
+}
+
+/// A schedule at the front of the bytes, and what stands behind it.
+pub fn schedule_front(bytes: &[u8]) -> Option<(Schedule, &[u8])> {
     let mut rest = Bytes(bytes);
     let mut spans: Vec<Span> = Vec::new();
     while rest.next_tag() == Some(34) {
@@ -107,17 +135,19 @@ pub fn schedule(bytes: &[u8]) -> Option<Schedule> {
         }
         spans.push(span);
     }
-    let mut field = rest.field(35, 4, 4)?;
-    rest.end()?;
-    let last_known = field.u32()?;
-    (1..=4).contains(&spans.len()).then_some(Schedule { spans, last_known })
+    let last_known = rest.field(35, 4, 4)?.u32()?;
+    (1..=4).contains(&spans.len()).then_some((Schedule { spans, last_known }, rest.0))
 }
 
 pub fn record(bytes: &[u8]) -> Option<Point> {
+    record_front(bytes).and_then(alone)
+}
+
+/// A record at the front of the bytes, and what stands behind it.
+pub fn record_front(bytes: &[u8]) -> Option<(Point, &[u8])> {
     let mut rest = Bytes(bytes);
     let point = point(&mut rest)?;
-    rest.end()?;
-    Some(point)
+    Some((point, rest.0))
 }
 
 fn point(rest: &mut Bytes<'_>) -> Option<Point> {

@@ -4,7 +4,7 @@ use crate::value::{
     AnchorLink, AnchorStageRole, Digest, Entry, Id, Peer, Point, PointRole, Schedule, Settings, State, Through,
 };
 
-fn field(out: &mut Vec<u8>, tag: u8, content: &[u8]) {
+pub fn field(out: &mut Vec<u8>, tag: u8, content: &[u8]) {
     out.push(tag);
     out.extend_from_slice(&(content.len() as u16).to_le_bytes());
     out.extend_from_slice(content);

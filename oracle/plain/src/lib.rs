@@ -15,6 +15,9 @@ use oracle::numbers::{self, Read};
 use oracle::value::Entry;
 use oracle::{Answer, Verdict};
 
+/// How the one panic of the Rust inside document 01's domain begins: a set of 254 or 255 peers. This judge has none.
+pub const KNOWN_PANIC: &str = "node count 3F+1=256 overflows u8";
+
 /// A case as it reads: numbers 1 to 5, and 7 for the list.
 pub struct Prepared {
     read: Result<Read, u8>,

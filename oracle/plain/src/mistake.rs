@@ -1,5 +1,7 @@
 //! Porting mistakes.
 
+/// An enum `Mistake`, each case with its text.
+#[macro_export]
 macro_rules! mistakes {
     ($($(#[doc = $text:literal])+ $name:ident,)+) => {
         #[derive(Clone, Copy, PartialEq, Eq, Debug)]

@@ -9,6 +9,7 @@ use oracle::steps::{DagRound, Judging};
 use oracle::{Answer, PEER_BUFFER};
 use watcher::{ANSWER, judge_into};
 
+use crate::pass::sum;
 use crate::points::{Bytes, bytes_with_lists};
 use crate::rounds::{median, rounds};
 
@@ -150,10 +151,4 @@ fn clock<T>(calls: impl Iterator<Item = T>, call: impl FnMut(T) -> bool) -> (usi
     let start = Instant::now();
     let valid = calls.map(call).filter(|valid| *valid).count();
     (valid, start.elapsed().as_nanos() as f64)
-}
-
-fn sum(bytes: &[u8]) -> u64 {
-    let (words, rest) = bytes.as_chunks();
-    let words = words.iter().map(|word| u64::from_le_bytes(*word));
-    words.chain(rest.iter().map(|byte| u64::from(*byte))).fold(0, u64::wrapping_add)
 }

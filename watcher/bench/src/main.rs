@@ -1,6 +1,9 @@
-//! The static library's time beside the Rust's, from the same bytes.
+//! The static library's time beside the Rust's and a plain pass, from the same bytes.
 
+mod dag;
 mod judge;
+mod offer;
+mod pass;
 mod points;
 mod rounds;
 mod verify;
@@ -17,7 +20,7 @@ A ratio is the Rust's time divided by the library's in the same round: over 1 th
 
 fn main() -> ExitCode {
     println!("{WORDS}");
-    match verify::table(&PEERS).and_then(|()| judge::table(&PEERS)) {
+    match verify::table(&PEERS).and_then(|()| judge::table(&PEERS)).and_then(|()| offer::table()) {
         Ok(()) => ExitCode::SUCCESS,
         Err(fault) => {
             eprintln!("{fault}");

@@ -6,9 +6,9 @@ use oracle::value::{
 };
 use oracle::write;
 
-const GENESIS: u32 = 100;
+pub const GENESIS: u32 = 100;
 const ROUND: u32 = 110;
-const ANCHOR_TIME: u64 = 1_700_000_000_000;
+pub const ANCHOR_TIME: u64 = 1_700_000_000_000;
 
 /// Settings, a schedule of one set, and records of points of that set.
 pub struct Bytes {
@@ -39,21 +39,25 @@ pub fn bytes_with_lists(peers: usize, points: usize) -> (Bytes, Vec<Vec<u8>>) {
     (with_records(random, set, records), lists)
 }
 
-fn set(random: &mut Random, peers: usize) -> Vec<Peer> {
+pub fn set(random: &mut Random, peers: usize) -> Vec<Peer> {
     let mut set: Vec<Peer> = (0..peers).map(|_| random.bytes()).collect();
     set.sort_unstable();
     set
 }
 
-fn with_records(random: &mut Random, set: Vec<Peer>, records: Vec<Vec<u8>>) -> Bytes {
-    let settings = Settings {
+pub fn settings(random: &mut Random) -> Settings {
+    Settings {
         genesis_round: GENESIS,
         genesis_digest: random.bytes(),
         payload_batch_bytes: 786_432,
         sticky_anchors: 3,
         clock_skew_millis: 5_000,
         commit_history_rounds: 21,
-    };
+    }
+}
+
+fn with_records(random: &mut Random, set: Vec<Peer>, records: Vec<Vec<u8>>) -> Bytes {
+    let settings = settings(random);
     let schedule = Schedule { spans: vec![Span { first: GENESIS, peers: set }], last_known: ROUND + 4 };
     Bytes { settings: write::settings(&settings), schedule: write::schedule(&schedule), records }
 }

@@ -2,13 +2,10 @@
 
 use oracle::Answer;
 use oracle::file::Case;
-use plain::Prepared;
+use plain::{KNOWN_PANIC, Prepared};
 
 use crate::lent::{Expected, Lent};
 use crate::report::report;
-
-/// The one panic of the Rust inside document 01's domain: a set of 254 or 255 peers.
-const KNOWN_PANIC: &str = "node count 3F+1=256 overflows u8";
 
 /// An answer that both gave.
 pub enum Agreed {

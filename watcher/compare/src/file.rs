@@ -3,13 +3,14 @@
 use oracle::file::{self, Case};
 use watcher::ANSWER;
 
+use crate::book_file;
 use crate::lent::{Expected, FILL, Lent};
 use crate::report::report;
 
 pub fn run(path: &str) -> Result<(), String> {
     let bytes = std::fs::read(path).map_err(|e| format!("{path}: {e}"))?;
     let cases = file::read(&bytes).ok_or_else(|| format!("{path}: not a whole file of cases"))?;
-    let mut lent = Lent::new();
+    let mut lent = Lent::default();
     for (place, (case, answer)) in cases.iter().enumerate() {
         let expected = expected(answer).ok_or_else(|| format!("{path}: case {place} has no whole answer"))?;
         lent.call(case);
@@ -23,11 +24,11 @@ pub fn run(path: &str) -> Result<(), String> {
     println!(
         "{path}: {verified} verify and {judged} judge cases answered as the file says, peer buffers byte for byte"
     );
-    Ok(())
+    book_file::run(path, &bytes)
 }
 
 /// Number, 113 bytes of the answer, 40 zeros, the count of unknown peers and the peers.
-fn expected(file_answer: &[u8]) -> Option<Expected> {
+pub fn expected(file_answer: &[u8]) -> Option<Expected> {
     let (&number, rest) = file_answer.split_first()?;
     let (head, rest) = rest.split_at_checked(ANSWER - 1)?;
     let (_, rest) = rest.split_at_checked(40)?;

@@ -1,9 +1,10 @@
 //! What a call leaves behind, and what it has to.
 
+use book::Offer;
 use oracle::Answer;
 use oracle::file::Case;
 use oracle::value::Peer;
-use watcher::{ANSWER, judge_into, verify_into};
+use watcher::{ANSWER, Book, judge_into, verify_into};
 
 /// What lent bytes hold before a call.
 pub const FILL: u8 = 0xA5;
@@ -36,28 +37,42 @@ pub struct Lent {
     untouched: Vec<u8>,
 }
 
-impl Lent {
-    pub fn new() -> Self {
+impl Default for Lent {
+    fn default() -> Self {
         Self { number: 0, answer: [FILL; ANSWER], peers: Vec::new(), untouched: Vec::new() }
     }
+}
 
-    /// Calls the library on freshly filled bytes.
-    pub fn call(&mut self, case: &Case) {
-        let (Case::Verify { peer_buffer, .. } | Case::Judge { peer_buffer, .. }) = case;
-        let length = *peer_buffer as usize;
+impl Lent {
+    /// A freshly filled peer buffer of this length, and answer.
+    fn fill(&mut self, peer_buffer: u32) -> (&mut [u8], &mut [u8; ANSWER]) {
+        let length = peer_buffer as usize;
         self.peers.clear();
         self.peers.resize(length, FILL);
         if self.untouched.len() < length {
             self.untouched.resize(length, FILL);
         }
         self.answer = [FILL; ANSWER];
-        let (peers, answer) = (&mut self.peers, &mut self.answer);
+        (&mut self.peers, &mut self.answer)
+    }
+
+    /// Calls the library on freshly filled bytes.
+    pub fn call(&mut self, case: &Case) {
+        let (Case::Verify { peer_buffer, .. } | Case::Judge { peer_buffer, .. }) = case;
+        let (peers, answer) = self.fill(*peer_buffer);
         self.number = match case {
             Case::Verify { settings, schedule, record, .. } => verify_into(settings, schedule, record, peers, answer),
             Case::Judge { settings, schedule, record, leader, presence, list, .. } => {
                 judge_into(settings, schedule, record, *leader, *presence, list, peers, answer)
             }
         };
+    }
+
+    /// Offers a point to the book in a slice, likewise.
+    pub fn offer(&mut self, slice: &mut [u8], offer: &Offer) {
+        let (peers, answer) = self.fill(offer.peer_buffer);
+        let mut book = Book::found(slice);
+        self.number = book.offer_into(&offer.schedule, offer.leader, &offer.record, peers, answer);
     }
 
     /// Whether number, answer and every byte of the peer buffer are as expected.

@@ -1,13 +1,16 @@
-//! The static library against the oracle: numbers, answers and peer buffers, byte for byte.
+//! The static library against the oracle: numbers, answers, peer buffers and books, byte for byte.
 
+mod book_file;
 mod damage;
 mod difference;
+mod feeds;
 mod file;
 mod kind;
 mod lent;
 mod permute;
 mod report;
 mod run;
+mod run_cases;
 mod tally;
 
 use std::process::ExitCode;
@@ -24,6 +27,8 @@ const USAGE: &str = "compare COMMAND
   judge SEED COUNT [THREADS]           generated cases, as judge cases
   judge-damaged SEED COUNT [THREADS]   the same cases with damaged bytes
   permutations SEED COUNT [THREADS]    those of the judge cases with short lists, in every order of the entries
+  feeds SEED COUNT [THREADS]           feeds of offers, through the plain book and the library
+  books-damaged SEED COUNT [THREADS]   the same offers to damaged copies of their books
   file FILE                            the cases of a file, against the answers in it
 THREADS is 1 or 2, by default 2";
 
@@ -45,6 +50,8 @@ fn main() -> ExitCode {
         ["judge", ref words @ ..] => run(JUDGE, words),
         ["judge-damaged", ref words @ ..] => run(JUDGE_DAMAGED, words),
         ["permutations", ref words @ ..] => run(PERMUTATIONS, words),
+        ["feeds", ref words @ ..] => range(words).and_then(|range| feeds::feeds(&range)),
+        ["books-damaged", ref words @ ..] => range(words).and_then(|range| feeds::books_damaged(&range)),
         ["file", path] => file::run(path),
         _ => Err(USAGE.to_string()),
     };
@@ -58,7 +65,7 @@ fn main() -> ExitCode {
 }
 
 fn run((name, make): Comparison, words: &[&str]) -> Result<(), String> {
-    run::run(name, make, &range(words)?)
+    run_cases::cases(name, make, &range(words)?)
 }
 
 /// SEED COUNT [THREADS]

@@ -2,6 +2,8 @@
 
 use std::fmt::Write;
 
+use book::Offer;
+use oracle::Answer;
 use oracle::file::Case;
 
 use crate::lent::{Expected, FILL, Lent};
@@ -9,7 +11,33 @@ use crate::lent::{Expected, FILL, Lent};
 /// The case in hex, what was expected and what the library left behind.
 pub fn report(case: &Case, heading: &str, expected: Option<&Expected>, lent: &Lent) -> String {
     let mut lines = inputs(case);
-    lines.push(heading.to_string());
+    lines.extend(answers(heading, expected, lent));
+    lines.join("\n")
+}
+
+/// The offer in hex, both answers, and the first place where the book's bytes part. Seed and place give the book.
+pub fn offer_report(offer: &Offer, answer: &Answer, lent: &Lent, book: &[u8], slice: &[u8]) -> String {
+    let mut lines = vec![
+        format!("schedule {}", hex(&offer.schedule)),
+        format!("leader {}", offer.leader),
+        format!("record {}", hex(&offer.record)),
+        format!("peer buffer of {} bytes", offer.peer_buffer),
+    ];
+    lines.extend(answers(&format!("the plain book: {answer}"), Expected::new(answer).as_ref(), lent));
+    lines.push(book_difference(book, slice));
+    lines.join("\n")
+}
+
+/// Where the book's bytes part from what they have to be.
+pub fn book_difference(book: &[u8], slice: &[u8]) -> String {
+    let place = book.iter().zip(slice).position(|(expected, found)| expected != found);
+    let Some(place) = place else { return format!("no byte of the book's {} differs", book.len()) };
+    let part = |bytes: &[u8]| hex(&bytes[place..bytes.len().min(place + 64)]);
+    format!("the book of {} bytes from byte {place} on\n  {}\n  {} by the library", book.len(), part(book), part(slice))
+}
+
+fn answers(heading: &str, expected: Option<&Expected>, lent: &Lent) -> Vec<String> {
+    let mut lines = vec![heading.to_string()];
     if let Some(expected) = expected {
         lines.push(format!("  number {}, answer {}", expected.number, hex(&expected.answer)));
         lines.push(format!("  peer buffer's front {}", hex(expected.unknown.as_flattened())));
@@ -17,7 +45,7 @@ pub fn report(case: &Case, heading: &str, expected: Option<&Expected>, lent: &Le
     lines.push("the library:".to_string());
     lines.push(format!("  number {}, answer {}", lent.number, hex(&lent.answer)));
     lines.push(format!("  peer buffer's front {}", hex(touched(&lent.peers))));
-    lines.join("\n")
+    lines
 }
 
 fn inputs(case: &Case) -> Vec<String> {

@@ -1,28 +1,25 @@
-//! Many cases, on one thread or two, up to the first difference.
+//! Many places of a seed, on one thread or two, up to the first difference.
 
 use std::sync::Mutex;
 use std::sync::atomic::{AtomicU64, Ordering};
 use std::thread;
-use std::time::Instant;
 
-use oracle::file::Case;
-
-use crate::difference::compare;
-use crate::lent::Lent;
-use crate::tally::Tally;
-
-/// The cases of a seed at the places under `count`.
+/// The places of a seed under `count`.
 pub struct Range {
     pub seed: u64,
     pub count: u64,
     pub threads: u64,
 }
 
-/// Places that a thread takes at a time.
-const BLOCK: u64 = 256;
+/// What a thread compares with; at the end it holds what came.
+pub trait Counts: Default + Send {
+    fn merge(&mut self, other: Self);
+}
 
 /// What the threads share.
 struct Shared {
+    /// Places that a thread takes at a time.
+    block: u64,
     /// The next place that nobody took.
     next: AtomicU64,
     /// The lowest place with a difference so far, or the count.
@@ -31,48 +28,42 @@ struct Shared {
     found: Mutex<Option<(u64, String)>>,
 }
 
-/// Compares the cases that `make` gives by seed and place; fails with the first difference.
-pub fn run(name: &str, make: fn(u64, u64) -> Vec<Case>, range: &Range) -> Result<(), String> {
-    let start = Instant::now();
-    let shared = Shared { next: AtomicU64::new(0), end: AtomicU64::new(range.count), found: Mutex::new(None) };
-    let mut tally = Tally::default();
+/// Compares all places, taken in blocks; fails with the report of the first difference.
+pub fn run<C: Counts>(
+    range: &Range,
+    block: u64,
+    compare: impl Fn(&mut C, u64) -> Result<(), String> + Sync,
+) -> Result<C, String> {
+    let Range { seed, count, threads } = *range;
+    let shared = Shared { block, next: AtomicU64::new(0), end: AtomicU64::new(count), found: Mutex::new(None) };
+    let mut all = C::default();
     thread::scope(|scope| {
-        let work = || shared.work(|place| make(range.seed, place));
-        let threads: Vec<_> = (0..range.threads).map(|_| scope.spawn(work)).collect();
+        let threads: Vec<_> = (0..threads).map(|_| scope.spawn(|| shared.work(&compare))).collect();
         for thread in threads {
-            tally.merge(thread.join().expect("a thread ended before its work"));
+            all.merge(thread.join().expect("a thread ended before its work"));
         }
     });
-    if let Some((place, report)) = shared.found.into_inner().expect("no thread panicked") {
-        return Err(format!("seed {}, a {name} case at place {place} differs\n{report}", range.seed));
+    match shared.found.into_inner().expect("no thread panicked") {
+        Some((place, report)) => Err(format!("seed {seed}, place {place}: {report}")),
+        None => Ok(all),
     }
-    tally.print();
-    let seconds = start.elapsed().as_secs_f64();
-    let Range { seed, count, threads } = range;
-    let cases = tally.cases();
-    println!("seed {seed}, {count} places: {cases} {name} cases in {seconds:.1} s, threads {threads}: no difference");
-    Ok(())
 }
 
 impl Shared {
     /// Takes blocks of places until all are taken or a lower place differs.
-    fn work(&self, make: impl Fn(u64) -> Vec<Case>) -> Tally {
-        let mut tally = Tally::default();
-        let mut lent = Lent::new();
+    fn work<C: Counts>(&self, compare: impl Fn(&mut C, u64) -> Result<(), String>) -> C {
+        let mut counts = C::default();
         loop {
-            let first = self.next.fetch_add(BLOCK, Ordering::Relaxed);
+            let first = self.next.fetch_add(self.block, Ordering::Relaxed);
             if first >= self.end.load(Ordering::Relaxed) {
-                return tally;
+                return counts;
             }
-            for place in first..first + BLOCK {
+            for place in first..first + self.block {
                 if place >= self.end.load(Ordering::Relaxed) {
                     break;
                 }
-                for case in make(place) {
-                    match compare(&case, &mut lent) {
-                        Ok(agreed) => tally.add(&case, &agreed),
-                        Err(report) => self.found(place, report),
-                    }
+                if let Err(report) = compare(&mut counts, place) {
+                    self.found(place, report);
                 }
             }
         }

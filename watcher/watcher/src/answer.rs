@@ -20,6 +20,9 @@ pub fn refusal(number: u8) -> Option<Refusal> {
         7 => Refusal::Entries,
         8 => Refusal::Mismatch,
         9 => Refusal::Uncovered,
+        10 => Refusal::Book,
+        11 => Refusal::Kept,
+        12 => Refusal::Full,
         _ => return None,
     })
 }
@@ -144,11 +147,11 @@ mod tests {
 
     #[test]
     fn numbers_are_refusals() {
-        for number in 1..=9 {
+        for number in 1..=12 {
             assert_eq!(refusal(number).map(Refusal::number), Some(number));
         }
         assert_eq!(refusal(0), None);
-        assert_eq!(refusal(10), None);
+        assert_eq!(refusal(13), None);
     }
 
     #[test]

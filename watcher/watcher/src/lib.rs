@@ -1,12 +1,14 @@
 //! Wutherdish for Rust hosts: the proved calls on byte slices, with their answers as Rust enums.
 //!
-//! What the bytes of settings, schedules, records and lists mean is laid down in document 01.
+//! What the bytes of settings, schedules, records, lists and books mean is laid down in document 01.
 
 mod answer;
+mod book;
 mod invalid;
 pub mod raw;
 mod reasons;
 
+pub use book::{Book, open_into};
 pub use invalid::{Digest, IndirectLink, InvalidDependency, InvalidReason, PointId, Through};
 pub use reasons::{
     AnchorStageRole, IllFormedReason, Peer, PeerCount, PointMap, Refusal, StructureIssue, UninitVset, Verdict,

@@ -19,7 +19,8 @@ pub enum Refusal {
     Record = 3,
     /// The point's round or a time of it, the leader flag or the presence is outside the domain.
     Domain = 4,
-    /// The peer buffer is under [`PEER_BUFFER`](crate::PEER_BUFFER) bytes.
+    /// The peer buffer is under [`PEER_BUFFER`](crate::PEER_BUFFER) bytes, or the slice to open a book in is shorter
+    /// than its settings or longer than a book may be.
     Short = 5,
     /// The point's round or the fourth after it is in no span of the schedule.
     Horizon = 6,
@@ -29,6 +30,12 @@ pub enum Refusal {
     Mismatch = 8,
     /// The previous point's entry is not certified.
     Uncovered = 9,
+    /// The bytes are no book.
+    Book = 10,
+    /// The point is in the book already.
+    Kept = 11,
+    /// The book has no room for the point.
+    Full = 12,
 }
 
 /// `Result<(), VerifyError>` of the source.
@@ -168,11 +175,14 @@ impl Display for Refusal {
             Self::Schedule => "the schedule is unreadable",
             Self::Record => "the point record is unreadable",
             Self::Domain => "the point's round or a time of it, the leader flag or the presence is outside the domain",
-            Self::Short => "the peer buffer is too short",
+            Self::Short => "the peer buffer is too short, or the book's slice too short or too long",
             Self::Horizon => "the point's round or the fourth after it is in no span of the schedule",
             Self::Entries => "the list is unreadable or outside the domain",
             Self::Mismatch => "the list's entries are not the point's dependencies",
             Self::Uncovered => "the previous point's entry is not certified",
+            Self::Book => "the bytes are no book",
+            Self::Kept => "the point is in the book already",
+            Self::Full => "the book has no room for the point",
         };
         write!(f, "{}: {text}", self.number())
     }

@@ -1,6 +1,6 @@
 -- `judge` meets its contract: a lemma for each test that passed says what it told, and each `return` cites the law of its number.
 use native.Mathlib.Omega.{arith}
-use mathlib.Core.Path.{_≡_, ap, sym, _∙_}
+use mathlib.Core.Path.{_≡_, refl, ap, sym, _∙_}
 use mathlib.Core.Bool.{Bool, true, false, _&&_}
 use mathlib.Core.Option.{some}
 use lib.ListN.{length}
@@ -10,11 +10,10 @@ use Rattle.point.specs.Point.{PointInfo, inDomain}
 use Rattle.point.specs.Reading.{readPoint, pointOf, readPointOf}
 use Rattle.schedule.specs.Settings.{Settings, readSettings, settingsOf, readSettingsOf}
 use Rattle.schedule.specs.Schedule.{Schedule, readSchedule, scheduleOf}
-use Rattle.verifier.specs.Found.{verifiedOf}
 use Rattle.verify.specs.Call.{Input, Tested, taken, tested}
 use Rattle.verify.proofs.Laws.{schedule-read, schedule-unread, no-settings, no-schedule, no-point, no-domain, no-room, all-taken}
-use Rattle.judge.specs.Judge.{flagsOk}
-use Rattle.judge.proofs.Laws.{answer-number, answer-failed, answer-passed}
+use Rattle.judge.specs.Judge.{beforeOf, flagsOk}
+use Rattle.judge.proofs.Laws.{answer-number, answer-taken}
 use borrow.Author.Needs.{needs}
 use Rattle.judge.proofs.judge.Statement.{statement}
 use Rattle.judge.proofs.judge.Tie as tie
@@ -137,44 +136,37 @@ returns-5 c =
     let k = first s in
     answer-number _ _ _ (all (start k)) 5 _ (no-room _ _ _ _ _ _ (has-settings k) _ (has-schedule s) _ (has-point p) (in-domain d) (omega (arith, c .if3 .taken)))
 
-verify-point-requires : tie.Need-verify-point-requires
-verify-point-requires c κs =
+before-list-requires : tie.Need-before-list-requires
+before-list-requires c κs =
     let p = c .before .before .before .before in
     (has-schedule (second p), (has-point p, omega (arith, c .before .if3 .left)))
 
-enum-told-3 : tie.Need-enum-told-3
-enum-told-3 c = search needs
+enum-known-known : tie.Need-enum-known-known
+enum-known-known c = search needs
 
-enum-told-4 : tie.Need-enum-told-4
-enum-told-4 c = search needs
+enum-known-known-2 : tie.Need-enum-known-known-2
+enum-known-known-2 c = search needs
 
-of-verified-requires : tie.Need-of-verified-requires
-of-verified-requires c κs = search needs
+judge-needed-requires : tie.Need-judge-needed-requires
+judge-needed-requires c κs = has-point (passed (c .before .before .before) .before .before)
 
 same-length : tie.Need-same-length
 same-length c = search needs
 
 returns-6 : tie.Need-returns-6
 returns-6 c =
-    let t = c .before in
-    let k = t .before .before in
-    let v = k .before .before .verify-point in
-    let e = ap verifiedOf (t .enum-told4 .given .1) in
-    answer-failed _ _ _ _ _ (has-input k) _ (v .ensures .0) _ _ (v .ensures .1) (c .of-verified .result) _ e (c .of-verified .ensures _ e)
-
-judge-verified-requires : tie.Need-judge-verified-requires
-judge-verified-requires c κs = has-point (passed (c .before .before) .before .before)
+    let k = c .before .before .before in
+    let v = k .before .before .before-list in
+    answer-taken _ _ _ _ _ (c .before .known .given .0 .0) _ _ _ (has-input k) (sym (ap beforeOf (c .before .known .given .1)) ∙ v .ensures .0) refl (v .ensures .1)
 
 same-length-2 : tie.Need-same-length-2
 same-length-2 c = search needs
 
 returns-7 : tie.Need-returns-7
 returns-7 c =
-    let t = c .before in
-    let k = t .before .before in
-    let v = k .before .before .verify-point in
-    answer-passed _ _ _ _ _ (has-input k) _ (v .ensures .0) _ _ (v .ensures .1) (c .judge-verified .result)
-    (ap verifiedOf (t .enum-told3 .given .1)) (c .judge-verified .ensures _)
+    let k = c .before .before .before .before in
+    let v = k .before .before .before-list in
+    answer-taken _ _ _ _ _ (c .judge-needed .result) _ _ _ (has-input k) (sym (ap beforeOf (c .before .before .known2 .given .1)) ∙ v .ensures .0) (c .judge-needed .ensures) (v .ensures .1)
 
 pub judge-spec : {M : Type 1} → statement M
 judge-spec =
@@ -193,12 +185,11 @@ judge-spec =
     are-in-domain-requires
     returns-4
     returns-5
-    verify-point-requires
-    enum-told-3
-    enum-told-4
-    of-verified-requires
+    before-list-requires
+    enum-known-known
+    enum-known-known-2
+    judge-needed-requires
     same-length
     returns-6
-    judge-verified-requires
     same-length-2
     returns-7)

@@ -1,0 +1,3 @@
+pub mod OpenLaws
+pub mod Tests
+pub mod OfferLaws

@@ -1,0 +1,136 @@
+-- Laws of the tests on the way to a decision: whether there is room, the previous point's id, and the entry at a place.
+use Prim.Native.Nat.{ℕ, _+_, _-_, _≤_, _<_}
+use native.Mathlib.Omega.{arith}
+use native.Mathlib.Decide.{decLt}
+use mathlib.Core.Path.{_≡_, refl, ap, sym, _∙_, subst}
+use mathlib.Core.Bool.{Bool, true, false, not, _&&_, _||_}
+use mathlib.Core.Option.{Option, none, some}
+use mathlib.Core.List.{List}
+use lib.ListN.{length}
+use lib.Dec.{leb, ltb}
+use borrow.Author.Tests.{ltb-false, lt-ltb, le-ltb, le-leb, lt-leb}
+use Rattle.base.specs.Base.{pick}
+use Rattle.point.specs.Point.{PointInfo, prevDigest, prevIdWith, prevId, inDomain}
+use Rattle.point.specs.Reading.{readPoint}
+use Rattle.schedule.specs.Settings.{Settings}
+use Rattle.schedule.specs.Schedule.{Schedule, readSchedule}
+use Rattle.verify.specs.Call.{Input, Tested, refused, taken, testedWith}
+use Rattle.plain_book.specs.Kept.{Kept, Book, find}
+use Rattle.plain_book.specs.Offer.{Offer, used, isFull, testedRoom, offerTested}
+use Rattle.plain_book.specs.Layout.{KeptFront, keptFront}
+use Rattle.layout.specs.Values.{readKeptOf, Placed, KeptPlaced}
+use Rattle.layout.specs.declared.read.Kept as code-kept
+use Rattle.layout.specs.declared.read.ReadKept as code-read-kept
+use Rattle.layout.specs.declared.read.ReadKept.the-variants as case-read-kept
+use Rattle.book.specs.Decided.{inputTested}
+
+pub full-last : (a b : ℕ) → 108 ≤ a → ltb (a - 108) b ≡ ltb a (b + 108)
+full-last a b h = elim (decLt (a - 108) b) [
+  | yes g ↦ lt-ltb (a - 108) b g ∙ sym (lt-ltb a (b + 108) (omega arith))
+  | no g ↦ le-ltb (a - 108) b (omega arith) ∙ sym (le-ltb a (b + 108) (omega arith))
+]
+
+-- ---- the previous point
+
+module _ (p : PointInfo) where
+  pub prev-none : prevDigest p ≡ none → prevId p ≡ none
+  unfolding prevId
+  prev-none h = ap (prevIdWith (p .id)) h
+
+  pub prev-some : (d round : ℕ) → prevDigest p ≡ some d → round ≡ p .id .round - 1 →
+      prevId p ≡ some (record { round = round; digest = d; author = p .id .author })
+  unfolding prevId
+  prev-some d round h e = ap (prevIdWith (p .id)) h ∙ rw e
+
+-- ---- the entry at the front of a slice
+
+abbrev sizeOf : Option KeptFront → ℕ
+sizeOf none = 0
+sizeOf (some x) = x .size
+
+module _ (s : List ℕ) (x : code-read-kept.ReadKept) where
+  pub kept-placed : (y : code-kept.Kept) → x ≡ case-read-kept.Kept y → KeptPlaced s x → Placed s y
+  kept-placed y e h = rw e at h
+
+  module _ (e : readKeptOf s x ≡ keptFront s) (k : Kept) (g : keptFront s ≡ some (record { kept = k; size = length (k .bytes) + 108 })) where
+    size-is : sizeOf (readKeptOf s x) ≡ length (k .bytes) + 108
+    size-is = ap sizeOf (e ∙ g)
+
+    pub front-place : (y : code-kept.Kept) → x ≡ case-read-kept.Kept y → y .place ≡ length (k .bytes)
+    front-place y f = let n : y .place + 108 ≡ length (k .bytes) + 108 = rw f at size-is in omega arith
+
+    pub front-none : x ≡ case-read-kept.Unreadable → ⊥
+    front-none f = let n : 0 ≡ length (k .bytes) + 108 = rw f at size-is in omega arith
+
+-- ---- the numbers 2 to 5 in their order
+
+module _ (c : Settings) (o : Offer) where
+  pub no-schedule : readSchedule (o .schedule) ≡ none → inputTested c o ≡ refused 2
+  no-schedule h = rw h
+
+  module _ (s : Schedule) (h : readSchedule (o .schedule) ≡ some s) where
+    pub no-point : readPoint (o .bytes) ≡ none → inputTested c o ≡ refused 3
+    no-point g = rw (h, g)
+
+    module _ (p : PointInfo) (g : readPoint (o .bytes) ≡ some p) where
+      pub no-domain : inDomain p ≡ false → inputTested c o ≡ refused 4
+      no-domain d = rw (h, g) (rw d)
+
+      module _ (d : inDomain p ≡ true) where
+        pub no-leader : 1 < o .leader → inputTested c o ≡ refused 4
+        no-leader l = rw (h, g) (rw (d, lt-leb (o .leader) 1 l))
+
+        module _ (l : o .leader ≤ 1) where
+          pub no-buffer : length (o .peers) < 8160 → inputTested c o ≡ refused 5
+          no-buffer m = rw (h, g) (rw (d, le-leb (o .leader) 1 l, lt-ltb (length (o .peers)) 8160 m))
+
+          pub all-passed : 8160 ≤ length (o .peers) → inputTested c o ≡ taken (record { settings = c; schedule = s; point = p })
+          all-passed m = rw (h, g) (rw (d, le-leb (o .leader) 1 l, le-ltb (length (o .peers)) 8160 m))
+
+abbrev Roomy : ℕ → Tested → Type 0
+Roomy size (refused n) = Unit
+Roomy size (taken i) = 8160 ≤ size
+
+-- an input that passed has room for peers
+pub passed-buffer : (c : Settings) (o : Offer) (i : Input) → inputTested c o ≡ taken i → 8160 ≤ length (o .peers)
+passed-buffer c o i h = subst (Roomy (length (o .peers))) h (all (readSchedule (o .schedule)) (readPoint (o .bytes)))
+  where
+    all : (s : Option Schedule) (p : Option PointInfo) → Roomy (length (o .peers)) (testedWith (some c) s p (leb (o .leader) 1) (length (o .peers)))
+    all none p = tt
+    all (some s) none = tt
+    all (some s) (some p) = go (not (inDomain p && leb (o .leader) 1)) (ltb (length (o .peers)) 8160) refl
+      where
+        go : (x y : Bool) → ltb (length (o .peers)) 8160 ≡ y → Roomy (length (o .peers)) (pick x (refused 4) (pick y (refused 5) (taken (record { settings = c; schedule = s; point = p }))))
+        go true y e = tt
+        go false true e = tt
+        go false false e = ltb-false (length (o .peers)) 8160 e
+
+-- ---- 11 and 12
+
+module _ (c : Settings) (len : ℕ) (b : Book) (o : Offer) where
+  pub input-refused : (n : ℕ) → inputTested c o ≡ refused n → offerTested c len b o ≡ refused n
+  unfolding offerTested
+  input-refused n h = rw h
+
+  module _ (i : Input) (h : inputTested c o ≡ taken i) where
+    after-input : offerTested c len b o ≡ testedRoom len b (o .bytes) (taken i)
+    unfolding offerTested
+    after-input = ap (testedRoom len b (o .bytes)) h
+
+    pub is-there : (k : Kept) → find b (i .point .id) ≡ some k → offerTested c len b o ≡ refused 11
+    is-there k f = after-input ∙ rw f
+
+    module _ (f : find b (i .point .id) ≡ none) where
+      pub no-room : isFull len b (o .bytes) ≡ true → offerTested c len b o ≡ refused 12
+      no-room r = after-input ∙ rw (f, r)
+
+      pub all-taken : isFull len b (o .bytes) ≡ false → offerTested c len b o ≡ taken i
+      all-taken r = after-input ∙ rw (f, r)
+
+-- of a book that was read, so many entries that end at a place
+pub full-is : (len : ℕ) (b : Book) (bytes : List ℕ) (n end : ℕ) → n ≡ length b → end ≡ 47 + used b →
+    (leb 4096 n || ltb (len - end) (length bytes + 108)) ≡ isFull len b bytes
+unfolding isFull
+full-is len b bytes n end h e =
+    let f : len - end ≡ len - 47 - used b = omega arith in
+    rw (h, f)

@@ -1,0 +1,114 @@
+-- `decide_point` meets its contract: what the index and the room tell, and each number by its law.
+use native.Mathlib.Omega.{arith}
+use mathlib.Core.Path.{_≡_, sym, _∙_, subst}
+use mathlib.Core.Option.{none}
+use lib.ListN.{length}
+use denote.Ref.{now}
+use Rattle.parts.proofs.Laws.{Bytes}
+use Rattle.verify.specs.Call.{Input}
+use Rattle.plain_book.specs.Kept.{Book, find}
+use Rattle.plain_book.specs.Offer.{Offer, isFull}
+use Rattle.index.specs.Index.{FoundAt}
+use Rattle.read_book.proofs.Laws.{found-kept, absent-kept}
+use Rattle.book.specs.Decided.{offerOf, inputOf}
+use Rattle.book.proofs.Tests.{is-there, no-room, full-is}
+use Rattle.book.proofs.OfferLaws.{refused-decides, end-within}
+use borrow.Author.Needs.{needs}
+use Rattle.book.proofs.decide.decide_point.Statement.{statement}
+use Rattle.book.proofs.decide.decide_point.Tie as tie
+
+-- the book and the offer
+abbrev start : tie.After-find → tie.Start
+start c = c .before .before .before .before .before .before .before .before .before
+
+bytes : (c : tie.After-find) → Bytes (now (start c .args .book))
+bytes c k = omega (arith, c .before .before .before .before .before .shared-slice-known3 .given k)
+
+abbrev book : tie.After-find → Book
+book c = start c .pre .0 .opened .book
+
+abbrev offer : tie.After-find → Offer
+offer c = let a = start c .args in offerOf (now (a .schedule)) (a .leader) (now (a .rec)) (now (a .peers))
+
+abbrev input : tie.After-find → Input
+input c = let a = start c .args in inputOf (a .conf) (now (a .schedule)) (a .spans) (now (a .rec)) (a .info)
+
+-- what the tests told
+is-new : (c : tie.After-enum-told) → let f = c .before .before in find (book f) (input f .point .id) ≡ none
+is-new c =
+    let f = c .before .before in
+    absent-kept (start f .pre .0 .holds) _ (subst (FoundAt _ _ _ _) (c .enum-told .given .1) (f .find .ensures))
+
+is-full-or-not : (c : tie.After-is-full) →
+    let f = c .before .before .before in
+    c .is-full .result ≡ isFull (length (now (start f .args .book))) (book f) (now (start f .args .rec))
+is-full-or-not c =
+    let h = start (c .before .before .before) .pre .0 in
+    c .is-full .ensures ∙ full-is _ (h .opened .book) _ _ _ (h .holds .count) (h .ends)
+
+find-requires : tie.Need-find-requires
+find-requires c κs = search needs
+
+enum-told : tie.Need-enum-told
+enum-told c = search needs
+
+enum-told-2 : tie.Need-enum-told-2
+enum-told-2 c = search needs
+
+refused-requires : tie.Need-refused-requires
+refused-requires c κs = search needs
+
+returns : tie.Need-returns
+returns c =
+    let t = c .before in
+    let f = t .before .before in
+    let h = start f .pre in
+    let x = found-kept (h .0 .holds) (input f .point .id) _ (subst (FoundAt _ _ _ _) (t .enum-told2 .given .1) (f .find .ensures)) in
+    refused-decides (h .0) (bytes f) (offer f) 11 _ (is-there _ _ _ (offer f) _ (h .1) (x .kept) (x .found)) (c .refused .ensures .0) (c .refused .ensures .1)
+
+is-full-requires : tie.Need-is-full-requires
+is-full-requires c κs =
+    let f = c .before .before in
+    end-within (start f .pre .0) (bytes f)
+
+refused-requires-2 : tie.Need-refused-requires-2
+refused-requires-2 c κs = search needs
+
+returns-2 : tie.Need-returns-2
+returns-2 c =
+    let t = c .before in
+    let k = t .before in
+    let e = k .before in
+    let f = e .before .before in
+    let h = start f .pre in
+    refused-decides (h .0) (bytes f) (offer f) 12 _ (no-room _ _ _ (offer f) _ (h .1) (is-new e) (sym (is-full-or-not k) ∙ t .if1 .taken)) (c .refused2 .ensures .0) (c .refused2 .ensures .1)
+
+judge-offer-requires : tie.Need-judge-offer-requires
+judge-offer-requires c κs =
+    let t = c .before in
+    let k = t .before in
+    let e = k .before in
+    let h = start (e .before .before) .pre in
+    record { read = h .0; passed = h .1; new = is-new e; room = sym (is-full-or-not k) ∙ t .if1 .left }
+
+same-length : tie.Need-same-length
+same-length c = search needs
+
+returns-3 : tie.Need-returns-3
+returns-3 c = search needs
+
+pub decide-point-spec : {M : Type 1} → statement M
+decide-point-spec =
+    tie.close
+    (tie.spec
+    find-requires
+    enum-told
+    enum-told-2
+    refused-requires
+    returns
+    is-full-requires
+    refused-requires-2
+    returns-2
+    judge-offer-requires
+    same-length
+    returns-3)

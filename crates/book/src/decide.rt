@@ -1,0 +1,262 @@
+// What an offer comes to, decided over the book as it stands.
+use index::Place;
+use judge::Before;
+use judge::JudgeAnswer;
+use layout::ReadKept;
+use map::Found;
+use point::PointId;
+use point::PointInfo;
+use point::ReadPoint;
+use read_book::ReadBook;
+use schedule::Schedule;
+use schedule::Settings;
+ghost use mathlib.Core.Path.{_≡_};
+ghost use mathlib.Core.Bool.{_||_};
+ghost use mathlib.Core.Option.{some};
+ghost use Prim.Native.Nat.{_+_, _-_, _≤_};
+ghost use lib.ListN.{length, drop};
+ghost use lib.Dec.{leb, ltb};
+ghost use Rattle.point.specs.Point.{prevId};
+ghost use Rattle.point.specs.Reading.{pointOf, readPoint};
+ghost use Rattle.schedule.specs.Settings.{settingsOf};
+ghost use Rattle.verify.specs.Call.{taken};
+ghost use Rattle.judge.specs.Judge.{Number, judgeAnswerOf};
+ghost use Rattle.index.specs.Index.{Index};
+ghost use Rattle.read_book.specs.ReadBook.{IsRead};
+ghost use Rattle.plain_book.specs.Kept.{Kept};
+ghost use Rattle.plain_book.specs.Layout.{keptFront};
+ghost use Rattle.book.specs.Decided.{offerOf, Decides, inputTested, inputOf, Ready, MarkPlace};
+
+// The answer, the place of the mark that the offer makes, 0 if none, and where the entries end.
+pub struct Decided {
+    pub answer: JudgeAnswer,
+    pub mark: usize,
+    pub end: usize,
+}
+
+fn refused(number: u8) -> Decided
+    ensures { λ r. ⌜ (judgeAnswerOf (r .answer) ≡ Number number) × (r .mark ≡ 0) ⌝ }
+{
+    let mark = 0;
+    Decided {
+        answer: JudgeAnswer::Number(number),
+        mark,
+        end: 0,
+    }
+}
+
+// Whether a book so long, whose n entries end at a place, has no room for a record so long.
+fn is_full(len: usize, n: usize, end: usize, rec_len: usize) -> bool
+    requires { ⌜ end ≤ len ⌝ }
+    ensures { λ r. ⌜ r ≡ (leb 4096 n || ltb (len - end) («rec_len» + 108)) ⌝ }
+{
+    if index::MOST <= n {
+        return true;
+    }
+    if len - end < 108 {
+        return true;
+    }
+    len - end - 108 < rec_len
+}
+
+// Where the certified flag of the entry at a place stands.
+fn flag_at(book: &[u8], place: usize) -> usize
+    requires { ⌜ place ≤ length (now book) ⌝ }
+    ensures { λ r. ⌜ ((k : Kept) → keptFront (drop place (now (book .entry))) ≡ some (record { kept = k; size = length (k .bytes) + 108 }) → r ≡ place + length (k .bytes) + 4) ⌝ }
+{
+    let read = layout::read_kept(&book[place..]);
+    match read {
+        ReadKept::Kept(k) => place + k.place + 4,
+        ReadKept::Unreadable => 0,
+    }
+}
+
+// Where the mark of the previous point goes, 0 if it is not kept.
+fn mark_at(
+    rec: &[u8],
+    info: PointInfo,
+    book: &[u8],
+    n: usize,
+    at: &[u32],
+    next: &[u16],
+    heads: &[u16],
+) -> usize
+    requires { ⌜ readPoint (now rec) ≡ some (pointOf (now rec) info) ⌝ }
+    requires { ⌜ Index (now book) n (now at) (now next) (now heads) ⌝ }
+    ensures { λ r. ⌜ MarkPlace (now (book .entry)) n (now (at .entry)) (prevId (pointOf (now (rec .entry)) info)) r ⌝ }
+{
+    let found = point::prev_digest(rec, info);
+    let Found::Digest(digest) = found else {
+        return 0;
+    };
+    let own = info.id;
+    let author = own.author;
+    let id = PointId {
+        round: parts::rounds_back(own.round, 1),
+        digest,
+        author,
+    };
+    let place = index::find(book, n, at, next, heads, id);
+    match place {
+        Place::At(j) => flag_at(book, at[j] as usize),
+        Place::Absent => 0,
+    }
+}
+
+// Judges an offer that passed the tests.
+fn judge_offer(
+    conf: Settings,
+    schedule: &[u8],
+    spans: Schedule,
+    leader: u8,
+    rec: &[u8],
+    info: PointInfo,
+    peers: &mut [u8],
+    book: &[u8],
+    n: usize,
+    end: usize,
+    at: &[u32],
+    next: &[u16],
+    heads: &[u16],
+) -> Decided
+    requires { ⌜ Ready (now book) (offerOf (now schedule) leader (now rec) (now peers)) (settingsOf conf) n end (now at) (now next) (now heads) (inputOf conf (now schedule) spans (now rec) info) ⌝ }
+    ensures { λ r. ⌜ Decides (now (book .entry)) (offerOf (now (schedule .entry)) leader (now (rec .entry)) (now (peers .entry))) r (now (peers .exit)) ⌝ }
+{
+    let before = judge::before_list(conf, schedule, spans, rec, info, leader == 1, peers);
+    match before {
+        Before::Answered(answer) => Decided {
+            answer,
+            mark: 0,
+            end,
+        },
+        Before::Needed(required) => {
+            let v = judge_book::judge_book(conf, required, rec, info, book, n, at, next, heads);
+            Decided {
+                answer: JudgeAnswer::Verdict(v),
+                mark: mark_at(rec, info, book, n, at, next, heads),
+                end,
+            }
+        }
+    }
+}
+
+// The numbers 11 and 12 of an offer whose point was read, then the judgement.
+fn decide_point(
+    conf: Settings,
+    schedule: &[u8],
+    spans: Schedule,
+    leader: u8,
+    rec: &[u8],
+    info: PointInfo,
+    peers: &mut [u8],
+    book: &[u8],
+    n: usize,
+    end: usize,
+    at: &[u32],
+    next: &[u16],
+    heads: &[u16],
+) -> Decided
+    requires { ⌜ IsRead (now book) (settingsOf conf) n end (now at) (now next) (now heads) ⌝ }
+    requires { ⌜ inputTested (settingsOf conf) (offerOf (now schedule) leader (now rec) (now peers)) ≡ taken (inputOf conf (now schedule) spans (now rec) info) ⌝ }
+    ensures { λ r. ⌜ Decides (now (book .entry)) (offerOf (now (schedule .entry)) leader (now (rec .entry)) (now (peers .entry))) r (now (peers .exit)) ⌝ }
+{
+    let id = info.id;
+    let Place::Absent = index::find(book, n, at, next, heads, id) else {
+        return refused(11);
+    };
+    if is_full(book.len(), n, end, rec.len()) {
+        return refused(12);
+    }
+    judge_offer(
+        conf,
+        schedule,
+        spans,
+        leader,
+        rec,
+        info,
+        peers,
+        book,
+        n,
+        end,
+        at,
+        next,
+        heads,
+    )
+}
+
+// The numbers 2 to 5 in their order, then the rest.
+fn decide_in(
+    conf: Settings,
+    schedule: &[u8],
+    leader: u8,
+    rec: &[u8],
+    peers: &mut [u8],
+    book: &[u8],
+    n: usize,
+    end: usize,
+    at: &[u32],
+    next: &[u16],
+    heads: &[u16],
+) -> Decided
+    requires { ⌜ IsRead (now book) (settingsOf conf) n end (now at) (now next) (now heads) ⌝ }
+    ensures { λ r. ⌜ Decides (now (book .entry)) (offerOf (now (schedule .entry)) leader (now (rec .entry)) (now (peers .entry))) r (now (peers .exit)) ⌝ }
+{
+    let read = schedule::read_schedule(schedule);
+    if !read.readable {
+        return refused(2);
+    }
+    let spans = read.schedule;
+    let ReadPoint::Point(info) = point::read_point(rec) else {
+        return refused(3);
+    };
+    if !point::is_in_domain(rec, info) {
+        return refused(4);
+    }
+    if 1 < leader {
+        return refused(4);
+    }
+    if peers.len() < 8160 {
+        return refused(5);
+    }
+    decide_point(
+        conf,
+        schedule,
+        spans,
+        leader,
+        rec,
+        info,
+        peers,
+        book,
+        n,
+        end,
+        at,
+        next,
+        heads,
+    )
+}
+
+// Decides an offer over a book as it stands, number 10 first.
+pub fn decide(book: &[u8], schedule: &[u8], leader: u8, rec: &[u8], peers: &mut [u8]) -> Decided
+    ensures { λ r. ⌜ Decides (now (book .entry)) (offerOf (now (schedule .entry)) leader (now (rec .entry)) (now (peers .entry))) r (now (peers .exit)) ⌝ }
+{
+    let mut at = [0u32; 4096];
+    let mut next = [0u16; 4096];
+    let mut heads = [0u16; 4096];
+    let read = read_book::read_book(book, &mut at, &mut next, &mut heads);
+    match read {
+        ReadBook::Book(conf, n, end) => decide_in(
+            conf,
+            schedule,
+            leader,
+            rec,
+            peers,
+            book,
+            n,
+            end,
+            &at,
+            &next,
+            &heads,
+        ),
+        ReadBook::Unreadable => refused(10),
+    }
+}

@@ -1,0 +1,206 @@
+-- After an offer every entry stands as before, and the entry that it leaves stands too.
+use Prim.Native.Nat.{ℕ, _≤_}
+use native.Mathlib.Omega.{arith}
+use mathlib.Core.Path.{_≡_, refl, sym, ap, _∙_, subst}
+use mathlib.Core.Bool.{Bool, true, false, not, _&&_}
+use mathlib.Core.Option.{Option, none, some}
+use mathlib.Core.List.{List, [], _∷_, List·Memᴰ, List·Memᴰ·not-nil, List·Memᴰ·eq-of-singleton}
+use lib.Dec.{leb, ltb, eqb}
+use borrow.Author.Tests.{leb-true, eqb-true, not-false}
+use Rattle.base.specs.Base.{pick, isSome}
+use Rattle.base.proofs.Laws.{and-left}
+use Rattle.map.specs.Rows.{rising, peers}
+use Rattle.point.specs.Point.{PointId, PointInfo, prevId, inDomain}
+use Rattle.point.specs.Reading.{readPoint}
+use Rattle.point.proofs.Laws.{readable}
+use Rattle.schedule.specs.Settings.{Settings}
+use Rattle.schedule.specs.Schedule.{Schedule, readSchedule}
+use Rattle.reasons.specs.IllFormed.{illFormedNumber}
+use Rattle.reasons.specs.Invalid.{invalidNumber}
+use Rattle.reasons.specs.declared.ill_formed.VerifyError.{VerifyError}
+use Rattle.reasons.specs.declared.ill_formed.VerifyError.the-variants as case-error
+use Rattle.verifier.specs.Verify.{verify}
+use Rattle.verifier.specs.DagPoint.{IndirectEntry, pointView}
+use Rattle.verifier.specs.Validate.{ValidateResult, isInvalid, isTransInvalid, isValid, validate, ofResult}
+use Rattle.verify.specs.Call.{Input, Tested, refused, taken, testedWith}
+use Rattle.check_ill_formed.specs.declared.WaveChecked.{WaveChecked}
+use Rattle.check_ill_formed.specs.declared.WaveChecked.the-variants as case-wave
+use Rattle.check_ill_formed.specs.WaveChecked.{waveChecked}
+use Rattle.validate.proofs.Laws.{hasReason, Passed, validate-all}
+use Rattle.mismatch.specs.Mismatch.{mismatch, uncovered, entriesIn}
+use Rattle.judge.specs.Judge.{Number, Given, ofError, Before, answered, needed, beforeWith, before}
+use Rattle.plain_book.specs.Kept.{Status, Valid, TransInvalid, Invalid, IllFormed, Kept, Book, find, markOne, mark, markPrev}
+use Rattle.plain_book.specs.Lists.{directList, indirectList}
+use Rattle.plain_book.specs.Offer.{Offer, isFull, testedRoom, offerTested, markedBy, areStatesOk, overLists, answerWith, keptAs, leftBy, leftFrom, beforeIn, markedIn, answerIn, offerWith, offer, after}
+use Rattle.claims.specs.FoundBook.{Judged, judgedOf}
+use Rattle.claims.proofs.Following.{Stands, AllStand}
+use Rattle.claims.proofs.Growth.{all-stand-marked, all-stand-append}
+use Rattle.claims.proofs.Verified.{pass-floor, pass-genesis, pass-link}
+use Rattle.claims.proofs.Dependencies.{includes-held, witness-held, source-linked}
+
+-- ---- an entry by its verdict
+
+module _ (c : Settings) (b : Book) (p : PointInfo) where
+  ill-formed-stands : (n : ℕ) → Stands c b p (IllFormed n)
+  ill-formed-stands n = record { floor = λ f. absurd f; genesis = λ f. absurd f; includes = λ u. absurd u; witness = λ u. absurd u; linked = λ u. absurd u }
+
+  module _ (s : Schedule) (pass : verify c s p ≡ none) where
+    invalid-stands : (n : ℕ) → Stands c b p (Invalid n)
+    invalid-stands n =
+        record {
+          floor = λ f. pass-floor c s p pass;
+          genesis = λ f. pass-genesis c s p pass;
+          includes = λ u. absurd u;
+          witness = λ u. absurd u;
+          linked = λ u. absurd u;
+        }
+
+    genesis-stands : p .id .round ≡ c .genesisRound → (x : Status) → Stands c b p x
+    genesis-stands e x =
+        record {
+          floor = λ f. pass-floor c s p pass;
+          genesis = λ f. pass-genesis c s p pass;
+          includes = λ u a. absurd (omega arith);
+          witness = λ u a. absurd (omega arith);
+          linked = λ u a. absurd (omega arith);
+        }
+
+    usable-stands : rising (peers (p .includes)) ≡ true → 2 ≤ p .id .round → (required : Bool) (ts : List IndirectEntry) →
+        Passed c required (pointView p) (directList b p) ts → (x : Status) → Stands c b p x
+    usable-stands rise second required ts passed x =
+        record {
+          floor = λ f. pass-floor c s p pass;
+          genesis = λ f. pass-genesis c s p pass;
+          includes = λ u a. includes-held c b p required rise second (passed .entries);
+          witness = λ u a. witness-held c b p required rise second (passed .entries);
+          linked = λ u a g. (let d = pass-link c s p pass a g in source-linked c b p required rise second (passed .entries) g (d .0) (d .1));
+        }
+
+-- ---- what a judgement leaves
+
+module _ (c : Settings) (s : Schedule) (b : Book) (bytes : List ℕ) (p : PointInfo) (rise : rising (peers (p .includes)) ≡ true) (second : 2 ≤ p .id .round) where
+  abbrev Each : List Kept → Type 0
+  Each l = (k : Kept) → List·Memᴰ k l → Stands c b (k .point) (k .status)
+
+  each-none : Each []
+  each-none k m = absurd (List·Memᴰ·not-nil m)
+
+  each-one : (x : Status) → Stands c b p x → Each (keptAs bytes p x ∷ [])
+  each-one x h k m = subst (λ (y : Kept). Stands c b (y .point) (y .status)) (sym (List·Memᴰ·eq-of-singleton m)) h
+
+  each-error : (e : VerifyError) → Each (leftBy bytes p (ofError e))
+  each-error (case-error.Fail u) = each-none
+  each-error (case-error.IllFormed r) = each-one (IllFormed (illFormedNumber r)) (ill-formed-stands c b p (illFormedNumber r))
+
+  module _ (pass : verify c s p ≡ none) (required : Bool) where
+    each-result : (ts : List IndirectEntry) (r : ValidateResult) → validate c required 3 p (directList b p) ts ≡ r → Each (leftBy bytes p (ofResult r))
+    each-result ts (isInvalid r) h = each-one (Invalid (invalidNumber r)) (invalid-stands c b p s pass (invalidNumber r))
+    each-result ts (isTransInvalid d) h =
+        each-one (TransInvalid d) (usable-stands c b p s pass rise second required ts (validate-all c required p (directList b p) ts 3 (ap hasReason h) .1) (TransInvalid d))
+    each-result ts isValid h =
+        each-one Valid (usable-stands c b p s pass rise second required ts (validate-all c required p (directList b p) ts 3 (ap hasReason h) .1) Valid)
+
+    -- the numbers 7 to 9 leave nothing
+    each-lists : (ts : List IndirectEntry) → Each (leftFrom bytes p (overLists c required p (directList b p) ts))
+    unfolding overLists
+    each-lists ts =
+        go (areStatesOk (directList b p) && areStatesOk (entriesIn ts)) (mismatch 3 p (directList b p) ts) (uncovered (prevId p) (directList b p) ts)
+      where
+        go : (x y z : Bool) → Each (leftFrom bytes p (pick x (pick y (Number 8) (pick z (Number 9) (Given (ofResult (validate c required 3 p (directList b p) ts))))) (Number 7)))
+        go true true z = each-none
+        go true false true = each-none
+        go true false false = each-result ts (validate c required 3 p (directList b p) ts) refl
+        go false y z = each-none
+
+  each-before : (o : Option VerifyError) → verify c s p ≡ o → (g : Bool) → eqb (p .id .round) (c .genesisRound) ≡ g → (w : WaveChecked) →
+      Each (leftFrom bytes p (answerWith c p b (beforeWith o g w)))
+  each-before (some e) v g t w = each-error e
+  each-before none v true t w = each-one Valid (genesis-stands c b p s v (eqb-true _ _ t) Valid)
+  each-before none v false t case-wave.Horizon = each-none
+  each-before none v false t (case-wave.IllFormed r) = each-one (IllFormed (illFormedNumber r)) (ill-formed-stands c b p (illFormedNumber r))
+  each-before none v false t (case-wave.Sound required) = each-lists v required (indirectList b p)
+
+-- ---- an offer that is taken
+
+-- its settings are the book's, its record reads, and its point lies in the domain
+pub record TakenFrom (c : Settings) (o : Offer) (i : Input) : Type 0 where
+  pub settings : i .settings ≡ c
+  pub read : readPoint (o .bytes) ≡ some (i .point)
+  pub domain : inDomain (i .point) ≡ true
+
+unless-refused : (t : Bool) (n : ℕ) (x : Tested) (i : Input) → pick t (refused n) x ≡ taken i → (t ≡ false) × (x ≡ taken i)
+unless-refused true n x i h = let z : _≡_ {A = ℕ} 0 1 = cc in absurd (omega arith)
+unless-refused false n x i h = (refl, h)
+
+room-taken : (len : ℕ) (b : Book) (bytes : List ℕ) (t : Tested) (i : Input) → testedRoom len b bytes t ≡ taken i → t ≡ taken i
+room-taken len b bytes (refused n) i h = let z : _≡_ {A = ℕ} 0 1 = cc in absurd (omega arith)
+room-taken len b bytes (taken j) i h =
+    unless-refused (isFull len b bytes) 12 (taken j) i (unless-refused (isSome (find b (j .point .id))) 11 _ i h .1) .1
+
+with-taken : (c : Settings) (s : Option Schedule) (o : Offer) (p : Option PointInfo) (others : Bool) (size : ℕ) (i : Input) → readPoint (o .bytes) ≡ p →
+    testedWith (some c) s p others size ≡ taken i → TakenFrom c o i
+with-taken c none o p others size i e h = let z : _≡_ {A = ℕ} 0 1 = cc in absurd (omega arith)
+with-taken c (some s) o none others size i e h = let z : _≡_ {A = ℕ} 0 1 = cc in absurd (omega arith)
+with-taken c (some s) o (some p) others size i e h =
+    let domain = unless-refused (not (inDomain p && others)) 4 _ i h in
+    let room : taken (record { settings = c; schedule = s; point = p }) ≡ taken i = unless-refused (ltb size 8160) 5 _ i (domain .1) .1 in
+    let same : i ≡ record { settings = c; schedule = s; point = p } = cc in
+    record {
+      settings = ap (λ (j : Input). j .settings) same;
+      read = e ∙ ap (λ (j : Input). some (j .point)) (sym same);
+      domain = ap (λ (j : Input). inDomain (j .point)) same ∙ and-left (inDomain p) others (not-false _ (domain .0));
+    }
+
+pub offer-taken : (c : Settings) (len : ℕ) (b : Book) (o : Offer) (i : Input) → offerTested c len b o ≡ taken i → TakenFrom c o i
+unfolding offerTested
+offer-taken c len b o i h = with-taken c (readSchedule (o .schedule)) o (readPoint (o .bytes)) _ _ i refl (room-taken len b (o .bytes) _ i h)
+
+-- ---- a mark changes marks alone
+
+mark-judged : (i : PointId) (b : Book) → judgedOf (mark i b) ≡ judgedOf b
+unfolding mark markOne judgedOf
+mark-judged i [] = refl
+mark-judged i (k ∷ b) = ap (λ (l : List Judged). record { bytes = k .bytes; point = k .point; status = k .status } ∷ l) (mark-judged i b)
+
+prev-judged : (o : Option PointId) (b : Book) → judgedOf (markPrev o b) ≡ judgedOf b
+prev-judged none b = refl
+prev-judged (some i) b = mark-judged i b
+
+by-judged : (p : PointInfo) (b : Book) (x : Before) → judgedOf (markedBy p b x) ≡ judgedOf b
+by-judged p b (answered a) = refl
+by-judged p b (needed required) = prev-judged (prevId p) b
+
+pub marked-judged : (i : Input) (leader : ℕ) (b : Book) → judgedOf (markedIn i leader b) ≡ judgedOf b
+unfolding markedIn
+marked-judged i leader b = by-judged (i .point) b (beforeIn i leader)
+
+-- ---- the book after an offer, and after all of them
+
+answer-stands : (i : Input) (leader : ℕ) (b : Book) (bytes : List ℕ) → readPoint bytes ≡ some (i .point) → inDomain (i .point) ≡ true →
+    (k : Kept) → List·Memᴰ k (leftFrom bytes (i .point) (answerIn i leader b)) → Stands (i .settings) (markedIn i leader b) (k .point) (k .status)
+unfolding answerIn beforeIn before inDomain
+answer-stands i leader b bytes read domain =
+    let four : 4 ≤ i .point .id .round = leb-true _ _ (and-left (leb 4 (i .point .id .round)) _ domain) in
+    each-before (i .settings) (i .schedule) (markedIn i leader b) bytes (i .point) (readable bytes (i .point) read .includes .rise) (omega arith)
+    (verify (i .settings) (i .schedule) (i .point)) refl (eqb (i .point .id .round) (i .settings .genesisRound)) refl (waveChecked (i .schedule) (eqb leader 1) (i .point))
+
+offer-stands : (c : Settings) (len : ℕ) (b : Book) (o : Offer) → AllStand c b → AllStand c (offer c len b o .book)
+unfolding offer offerWith
+offer-stands c len b o all = go (offerTested c len b o) refl
+  where
+    go : (t : Tested) → offerTested c len b o ≡ t → AllStand c (offerWith b o t .book)
+    go (refused n) h = all
+    go (taken i) h =
+        let w : TakenFrom c o i = offer-taken c len b o i h in
+        all-stand-append c (markedIn i (o .leader) b) (leftFrom (o .bytes) (i .point) (answerIn i (o .leader) b))
+        (all-stand-marked c b (markedIn i (o .leader) b) (sym (marked-judged i (o .leader) b)) all)
+        (λ k m. subst (λ (x : Settings). Stands x (markedIn i (o .leader) b) (k .point) (k .status)) (w .settings)
+        (answer-stands i (o .leader) b (o .bytes) (w .read) (w .domain) k m))
+
+pub after-stands : (c : Settings) (len : ℕ) (b : Book) (l : List Offer) → AllStand c b → AllStand c (after c len b l)
+unfolding after
+after-stands c len b [] all = all
+after-stands c len b (o ∷ l) all = after-stands c len (offer c len b o .book) l (offer-stands c len b o all)
+
+pub empty-stands : (c : Settings) → AllStand c []
+empty-stands c k m = absurd (List·Memᴰ·not-nil m)

@@ -1,0 +1,191 @@
+-- Laws of feeds: how far their parts reach, and that a part of a feed that is long enough gives what the whole gives.
+use Prim.Native.Nat.{ℕ, zero, suc, _+_, _-_, _≤_, _<_}
+use native.Mathlib.Omega.{arith}
+use native.Mathlib.Numerals.{add-one}
+use mathlib.Core.Path.{_≡_, refl, ap, _∙_}
+use mathlib.Core.Bool.{Bool, true, false}
+use mathlib.Core.Option.{Option, none, some}
+use mathlib.Core.List.{List, [], _∷_}
+use lib.ListN.{length, getD, take, drop, length-drop}
+use lib.Dec.{eqb}
+use borrow.Author.Tests.{ne-eqb}
+use Rattle.base.specs.Base.{pick}
+use Rattle.base.proofs.Laws.{picked}
+use Rattle.record.specs.declared.Row.{Row}
+use Rattle.record.specs.Record.{nextAt, fieldRow, fieldOk, endFrom, rows, recordEnd}
+use Rattle.record.proofs.Laws.{next-within, fitting, end-behind}
+use Rattle.schedule.specs.Settings.{readSettings}
+use Rattle.schedule.specs.Schedule.{Schedule, readSchedule}
+use Rattle.reasons.specs.Verdict.{Fail, IllFormed, Invalid, TransInvalid, Valid}
+use Rattle.judge.specs.Judge.{JudgeAnswer, Number, Given}
+use Rattle.plain_book.specs.Calls.{openNumber, Result}
+use Rattle.feed.specs.declared.line.Line.{Line}
+use Rattle.feed.specs.declared.front.Front.the-variants as case-front
+use Rattle.feed.specs.declared.next.Next as code-next
+use Rattle.feed.specs.declared.next.Next.the-variants as case-next
+use Rattle.feed.specs.Tally.{refusedLine, lineOf, lastKnownEnd, scheduleEndFrom, scheduleEnd, scheduleTo, begin, Step, over, last, offered, recordTo, step, nextOf, bookAfter, peersAfter, Within}
+
+-- ---- where fields end
+
+abbrev pub span : Row
+span = fieldRow 34 4 8164
+
+abbrev pub lastKnown : Row
+lastKnown = fieldRow 35 4 4
+
+-- the most bytes that fields of some rows take
+abbrev most : List Row → ℕ
+most [] = 0
+most (r ∷ rs) = 3 + r .greatest + most rs
+
+end-most : (rs : List Row) (s : List ℕ) (at n : ℕ) → endFrom rs s at ≡ some n → n ≤ at + most rs
+unfolding endFrom
+end-most [] s at n h = let e : at ≡ n = cc in omega arith
+end-most (r ∷ rs) s at n h =
+    let p = picked (fieldOk r s at) (endFrom rs s (nextAt s at)) n h in
+    let f = fitting r s at (p .0) in
+    omega (arith, f .next, f .greatest, end-most rs s (nextAt s at) n (p .1))
+
+end-inside : (rs : List Row) (s : List ℕ) (at n : ℕ) → at ≤ length s → endFrom rs s at ≡ some n → n ≤ length s
+unfolding endFrom
+end-inside [] s at n b h = let e : at ≡ n = cc in omega arith
+end-inside (r ∷ rs) s at n b h =
+    let p = picked (fieldOk r s at) (endFrom rs s (nextAt s at)) n h in
+    end-inside rs s (nextAt s at) n (next-within s at) (p .1)
+
+pub record-most : (s : List ℕ) (n : ℕ) → recordEnd s ≡ some n → n ≤ 41126
+unfolding recordEnd rows
+record-most s n h = end-most rows s 0 n h
+
+-- ---- where a schedule ends
+
+-- what was picked was picked for one of two reasons
+pub by-test : {X : Type 0} (t : Bool) (x y : Option ℕ) (n : ℕ) → pick t x y ≡ some n → (t ≡ true → x ≡ some n → X) → (t ≡ false → y ≡ some n → X) → X
+by-test true x y n h f g = f refl h
+by-test false x y n h f g = g refl h
+
+pub schedule-behind : (k : ℕ) (s : List ℕ) (at n : ℕ) → scheduleEndFrom k s at ≡ some n → at ≤ n
+unfolding scheduleEndFrom
+schedule-behind zero s at n h = end-behind (lastKnown ∷ []) s at n h
+schedule-behind (suc k) s at n h =
+    by-test (fieldOk span s at) (scheduleEndFrom k s (nextAt s at)) (lastKnownEnd s at) n h
+    (λ t x. omega (arith, fitting span s at t .next, schedule-behind k s (nextAt s at) n x))
+    (λ t y. end-behind (lastKnown ∷ []) s at n y)
+
+-- the most bytes that so many spans and the last known round take
+abbrev mostSpans : ℕ → ℕ
+mostSpans zero = 7
+mostSpans (suc k) = 8167 + mostSpans k
+
+from-most : (k : ℕ) (s : List ℕ) (at n : ℕ) → scheduleEndFrom k s at ≡ some n → n ≤ at + mostSpans k
+unfolding scheduleEndFrom
+from-most zero s at n h = end-most (lastKnown ∷ []) s at n h
+from-most (suc k) s at n h =
+    by-test (fieldOk span s at) (scheduleEndFrom k s (nextAt s at)) (lastKnownEnd s at) n h
+    (λ t x. let f = fitting span s at t in omega (arith, f .next, f .greatest, from-most k s (nextAt s at) n x))
+    (λ t y. omega (arith, end-most (lastKnown ∷ []) s at n y))
+
+from-inside : (k : ℕ) (s : List ℕ) (at n : ℕ) → at ≤ length s → scheduleEndFrom k s at ≡ some n → n ≤ length s
+unfolding scheduleEndFrom
+from-inside zero s at n b h = end-inside (lastKnown ∷ []) s at n b h
+from-inside (suc k) s at n b h =
+    by-test (fieldOk span s at) (scheduleEndFrom k s (nextAt s at)) (lastKnownEnd s at) n h
+    (λ t x. from-inside k s (nextAt s at) n (next-within s at) x)
+    (λ t y. end-inside (lastKnown ∷ []) s at n b y)
+
+module _ (s : List ℕ) (n : ℕ) (h : scheduleEnd s ≡ some n) where
+  pub schedule-most : n ≤ 32675
+  unfolding scheduleEnd
+  schedule-most = from-most 4 s 0 n h
+
+  pub schedule-inside : n ≤ length s
+  unfolding scheduleEnd
+  schedule-inside = from-inside 4 s 0 n (omega arith) h
+
+-- the schedule ends where at most so many spans from a place on, and the last known round, end
+pub schedule-start : (s : List ℕ) → scheduleEnd s ≡ scheduleEndFrom 4 s 0
+unfolding scheduleEnd
+schedule-start s = refl
+
+pub from-step : (n m : ℕ) (s : List ℕ) (at : ℕ) → n ≡ suc m →
+    scheduleEndFrom n s at ≡ pick (fieldOk span s at) (scheduleEndFrom m s (nextAt s at)) (lastKnownEnd s at)
+unfolding scheduleEndFrom
+from-step n m s at e = ap (λ (k : ℕ). scheduleEndFrom k s at) e
+
+pub from-none : (s : List ℕ) (at : ℕ) → scheduleEndFrom 0 s at ≡ lastKnownEnd s at
+unfolding scheduleEndFrom
+from-none s at = refl
+
+-- ---- the front of a feed
+
+unlike : (n m : ℕ) → n < m → eqb n m ≡ false
+unlike n m h = ne-eqb n m (λ e. omega arith)
+
+-- no settings are shorter than 47 bytes
+pub short-settings : (s : List ℕ) (len : ℕ) → length s < 47 → openNumber s len ≡ 1
+unfolding openNumber readSettings
+short-settings s len h = simp (unlike (length s) 47 h)
+
+module _ (len : ℕ) (feed : List ℕ) where
+  pub begin-number : (n : ℕ) → openNumber (take 47 feed) len ≡ n → (n ≡ 0 → ⊥) → begin len feed ≡ case-front.Number n
+  unfolding begin
+  begin-number zero e d = absurd (d refl)
+  begin-number (suc n) e d = rw e
+
+  module _ (z : openNumber (take 47 feed) len ≡ 0) where
+    pub begin-open : begin len feed ≡ scheduleTo (drop 47 feed) (scheduleEnd (drop 47 feed))
+    unfolding begin
+    begin-open = rw z
+
+    pub begin-endless : scheduleEnd (drop 47 feed) ≡ none → begin len feed ≡ case-front.Number 2
+    begin-endless e = begin-open ∙ rw e
+
+    module _ (n : ℕ) (e : scheduleEnd (drop 47 feed) ≡ some n) where
+      pub begin-unread : readSchedule (take n (drop 47 feed)) ≡ none → begin len feed ≡ case-front.Number 2
+      begin-unread u = begin-open ∙ rw (e, u)
+
+      pub begin-read : (c : Schedule) → readSchedule (take n (drop 47 feed)) ≡ some c → begin len feed ≡ case-front.Points (47 + n)
+      begin-read c r = begin-open ∙ rw (e, r)
+
+      pub begins : 47 ≤ length feed → (47 ≤ 47 + n) × (47 + n ≤ length feed) × (47 + n ≤ 32722)
+      begins h =
+          let i = schedule-inside (drop 47 feed) n e in
+          (omega arith, omega (arith, length-drop 47 feed), omega (arith, schedule-most (drop 47 feed) n e))
+
+-- ---- the next point
+
+pub step-over : (schedule book peers : List ℕ) (lines : ℕ) (feed : List ℕ) → length feed ≡ 0 → step schedule book peers lines feed ≡ over
+unfolding step
+step-over schedule book peers lines [] h = refl
+step-over schedule book peers lines (x ∷ s) h = absurd (omega arith)
+
+pub step-record : (schedule book peers : List ℕ) (lines : ℕ) (feed : List ℕ) (o : Option ℕ) → (length feed ≡ 0 → ⊥) → recordEnd (drop 1 feed) ≡ o →
+    step schedule book peers lines feed ≡ recordTo schedule book peers (suc lines) (getD feed 0 0) (drop 1 feed) o
+unfolding step
+step-record schedule book peers lines [] o h e = absurd (h refl)
+step-record schedule book peers lines (x ∷ s) o h e = ap (recordTo schedule book peers (suc lines) x s) e
+
+line-place : (place round : ℕ) (a : JudgeAnswer) → lineOf place round a .place ≡ place
+line-place place round (Number n) = refl
+line-place place round (Given (Fail u)) = refl
+line-place place round (Given (IllFormed r)) = refl
+line-place place round (Given (Invalid r)) = refl
+line-place place round (Given (TransInvalid d)) = refl
+line-place place round (Given Valid) = refl
+
+-- what a step gives, as its contract says it
+abbrev pub Gives : List ℕ → List ℕ → ℕ → ℕ → Step → code-next.Next → List ℕ → List ℕ → Type 0
+Gives book peers lines len t r book' peers' = (r ≡ nextOf t) × ((book' ≡ bookAfter book t) × ((peers' ≡ peersAfter peers t) × Within lines len r))
+
+module _ (book peers : List ℕ) (lines len : ℕ) where
+  pub gives-over : (t : Step) → t ≡ over → Gives book peers lines len t case-next.Over book peers
+  gives-over t e = rw e (refl, (refl, (refl, tt)))
+
+  pub gives-last : (t : Step) (l : Line) → t ≡ last (refusedLine (suc lines) 0 3) → l ≡ refusedLine (lines + 1) 0 3 → Gives book peers lines len t (case-next.Last l) book peers
+  gives-last t l e f = rw (e, f, add-one lines) (refl, (refl, (refl, tt)))
+
+  pub gives-point : (t : Step) (round n : ℕ) (r : Result) (l : Line) (a : JudgeAnswer) (b p : List ℕ) → t ≡ offered (suc lines) round (suc n) r →
+      l ≡ lineOf (lines + 1) round a → a ≡ r .answer → b ≡ r .bytes → p ≡ r .peers → n < len → Gives book peers lines len t (case-next.Point l (n + 1)) b p
+  gives-point t round n r l a b p e f g h i k =
+      let f' : l ≡ lineOf (suc lines) round (r .answer) = f ∙ rw (add-one lines, g) in
+      rw (e, f', add-one n) (refl, (h, (i, (line-place (suc lines) round (r .answer), omega arith))))

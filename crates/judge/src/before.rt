@@ -1,0 +1,101 @@
+// What is known of a point before any list is read.
+use check_ill_formed::WaveChecked;
+use point::PointInfo;
+use reasons::Verdict;
+use reasons::Verified;
+use reasons::VerifyError;
+use schedule::Schedule;
+use schedule::Settings;
+ghost use mathlib.Core.Path.{_≡_};
+ghost use mathlib.Core.List.{List};
+ghost use mathlib.Core.Option.{none, some};
+ghost use Prim.Native.Nat.{ℕ, _≤_};
+ghost use lib.ListN.{length};
+ghost use lib.Dec.{eqb};
+ghost use Rattle.point.specs.Reading.{pointOf, readPoint};
+ghost use Rattle.schedule.specs.Settings.{settingsOf};
+ghost use Rattle.schedule.specs.Schedule.{readSchedule, scheduleOf};
+ghost use Rattle.reasons.specs.Verdict.{verdictOf};
+ghost use Rattle.verifier.specs.Verify.{scheduled, verify};
+ghost use Rattle.verifier.specs.Found.{verifiedOf, bufferWith};
+ghost use Rattle.check_ill_formed.specs.WaveChecked.{waveChecked};
+ghost use Rattle.judge.specs.Judge.{ofError, beforeWith, before, beforeOf};
+
+// Document 01's number in place of a verdict, or the verdict.
+pub enum JudgeAnswer {
+    Number(u8),
+    Verdict(Verdict),
+}
+
+// An answer, or that the list is needed, regular points required or not.
+pub enum Before {
+    Answered(JudgeAnswer),
+    Needed(bool),
+}
+
+fn of_error(error: VerifyError) -> Verdict
+    ensures { λ r. ⌜ verdictOf r ≡ ofError error ⌝ }
+{
+    match error {
+        VerifyError::Fail(u) => Verdict::Fail(u),
+        VerifyError::IllFormed(reason) => Verdict::IllFormed(reason),
+    }
+}
+
+// The verdict on a point whose verification didn't pass.
+fn of_verified(verified: Verified) -> Verdict
+    ensures { λ r. ⌜ ((e : VerifyError) → verifiedOf verified ≡ some e → verdictOf r ≡ ofError e) ⌝ }
+{
+    match verified {
+        Verified::Passed => Verdict::Valid,
+        Verified::Failed(error) => of_error(error),
+    }
+}
+
+// What is known of a verified point: genesis is Valid, else check_ill_formed tells.
+fn before_verified(
+    conf: Settings,
+    spans: Schedule,
+    rec: &[u8],
+    info: PointInfo,
+    is_leader: bool,
+) -> Before
+    requires { ⌜ readPoint (now rec) ≡ some (pointOf (now rec) info) ⌝ }
+    ensures { λ r. ⌜ ((s : List ℕ) → beforeOf r ≡ beforeWith none (eqb (info .id .round) (settingsOf conf .genesisRound)) (waveChecked (scheduleOf s spans) «is_leader» (pointOf (now (rec .entry)) info))) ⌝ }
+{
+    let id = info.id;
+    if id.round == conf.genesis_round {
+        return Before::Answered(JudgeAnswer::Verdict(Verdict::Valid));
+    }
+    let wave = check_ill_formed::check_ill_formed(spans, rec, info, is_leader);
+    match wave {
+        WaveChecked::Horizon => Before::Answered(JudgeAnswer::Number(6)),
+        WaveChecked::IllFormed(reason) => {
+            Before::Answered(JudgeAnswer::Verdict(Verdict::IllFormed(reason)))
+        }
+        WaveChecked::Sound(required) => Before::Needed(required),
+    }
+}
+
+// A verification that didn't pass ends the judgement. Unknown peers go into the buffer.
+pub fn before_list(
+    conf: Settings,
+    schedule: &[u8],
+    spans: Schedule,
+    rec: &[u8],
+    info: PointInfo,
+    is_leader: bool,
+    peers: &mut [u8],
+) -> Before
+    requires { ⌜ readSchedule (now schedule) ≡ some (scheduleOf (now schedule) spans) ⌝ }
+    requires { ⌜ readPoint (now rec) ≡ some (pointOf (now rec) info) ⌝ }
+    requires { ⌜ 8160 ≤ length (now peers) ⌝ }
+    ensures { λ r. ⌜ beforeOf r ≡ before (settingsOf conf) (scheduleOf (now (schedule .entry)) spans) «is_leader» (pointOf (now (rec .entry)) info) ⌝ }
+    ensures { λ r. ⌜ now (peers .exit) ≡ bufferWith (scheduled (settingsOf conf) (scheduleOf (now (schedule .entry)) spans) (pointOf (now (rec .entry)) info)) (pointOf (now (rec .entry)) info) (verify (settingsOf conf) (scheduleOf (now (schedule .entry)) spans) (pointOf (now (rec .entry)) info)) (now (peers .entry)) ⌝ }
+{
+    let verified = verify::verify_point(conf, schedule, spans, rec, info, peers);
+    let Verified::Passed = verified else {
+        return Before::Answered(JudgeAnswer::Verdict(of_verified(verified)));
+    };
+    before_verified(conf, spans, rec, info, is_leader)
+}

@@ -1,0 +1,12 @@
+pub mod Numbers
+pub mod Fits
+pub mod Clear
+pub mod Named
+pub mod Roots
+pub mod Shape
+pub mod RoundTrip
+pub mod Canonical
+pub mod Bytes
+pub mod Offered
+pub mod Lift
+pub mod Refused

@@ -1,0 +1,52 @@
+-- An offer that gets a number changes no lent byte: neither the book's nor the peer buffer's.
+use Prim.Native.Nat.{ℕ}
+use native.Mathlib.Omega.{arith}
+use mathlib.Core.Path.{_≡_, refl, ap, sym, _∙_}
+use mathlib.Core.Bool.{Bool, true, false}
+use mathlib.Core.Option.{Option, none, some}
+use mathlib.Core.List.{List, []}
+use lib.ListN.{length}
+use Rattle.parts.specs.Bytes.{putAt}
+use Rattle.point.specs.Point.{PointInfo}
+use Rattle.schedule.specs.Settings.{Settings}
+use Rattle.reasons.specs.declared.ill_formed.VerifyError.{VerifyError}
+use Rattle.unknown.specs.Unknown.{peerBytes}
+use Rattle.verifier.specs.Verify.{verify}
+use Rattle.verify.specs.Call.{Input, Tested, refused, taken, verifyBuffer}
+use Rattle.check_ill_formed.specs.declared.WaveChecked.{WaveChecked}
+use Rattle.judge.specs.Judge.{JudgeAnswer, Number, Given, ofError, beforeWith, before}
+use Rattle.plain_book.specs.Kept.{Book}
+use Rattle.plain_book.specs.Offer.{Bytes, Offer, offerTested, answerWith, beforeIn, answerIn, markedIn, offerWith, offer}
+use Rattle.plain_book.specs.Layout.{bookBytes, Opened, readBook}
+use Rattle.plain_book.specs.Calls.{Result, offerTo, offerBytes}
+use Rattle.plain_book.proofs.Offered.{kept-by-number}
+use Rattle.plain_book.proofs.Canonical.{book-again}
+
+-- a number comes only of a point that passed verification
+passed : (c : Settings) (p : PointInfo) (b : Book) (v : Option VerifyError) (g : Bool) (w : WaveChecked) (n : ℕ) →
+    answerWith c p b (beforeWith v g w) ≡ Number n → v ≡ none
+passed c p b none g w n h = refl
+passed c p b (some e) g w n h = let z : _≡_ {A = ℕ} 0 1 = cc in absurd (omega arith)
+
+-- then no peer is unknown
+unwritten : (i : Input) (v : Option VerifyError) (buffer : List ℕ) → v ≡ verify (i .settings) (i .schedule) (i .point) → v ≡ none →
+    verifyBuffer (taken i) buffer ≡ buffer
+unfolding putAt peerBytes
+unwritten i v buffer e f = rw (sym e ∙ f)
+
+buffer-kept : (b : Book) (o : Offer) (t : Tested) (n : ℕ) → offerWith b o t .answer ≡ Number n → offerWith b o t .peers ≡ o .peers
+unfolding offerWith answerIn beforeIn before
+buffer-kept b o (refused m) n h = refl
+buffer-kept b o (taken i) n h = unwritten i _ (o .peers) refl (passed _ _ _ (verify (i .settings) (i .schedule) (i .point)) _ _ n h)
+
+module _ (o : Offer) (n : ℕ) where
+  pub unchanged : (s : List ℕ) → Bytes s → offerBytes s o .answer ≡ Number n → (offerBytes s o .bytes ≡ s) × (offerBytes s o .peers ≡ o .peers)
+  unfolding offerBytes
+  unchanged s w h = go (readBook s) refl h
+    where
+      go : (z : Option Opened) → readBook s ≡ z → offerTo s o z .answer ≡ Number n → (offerTo s o z .bytes ≡ s) × (offerTo s o z .peers ≡ o .peers)
+      go none e h = (refl, refl)
+      go (some z) e h = (
+        ap (bookBytes (z .bytes) (length s)) (kept-by-number (z .settings) (length s) (z .book) o (book-again s z w e .shape) n h) ∙ sym (book-again s z w e .bytes),
+        unfold offer in buffer-kept (z .book) o (offerTested (z .settings) (length s) (z .book) o) n h,
+      )

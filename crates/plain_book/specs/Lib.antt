@@ -1,0 +1,5 @@
+pub mod Kept
+pub mod Lists
+pub mod Offer
+pub mod Layout
+pub mod Calls

@@ -1,0 +1,76 @@
+-- What the index of a book's entries finds is what the plain book has.
+use Prim.Native.Nat.{ℕ, zero, suc, _<_}
+use native.Mathlib.Omega.{arith}
+use mathlib.Core.Path.{_≡_, refl, ap, sym, _∙_}
+use mathlib.Core.Bool.{Bool, true, false}
+use mathlib.Core.Option.{Option, none, some}
+use mathlib.Core.List.{List, [], _∷_, _++_}
+use lib.ListN.{length, take, drop, take-append-drop}
+use lib.Seq.{drop-nil}
+use Rattle.base.specs.Base.{pick}
+use Rattle.point.specs.Point.{PointId, sameId}
+use Rattle.plain_book.specs.Kept.{Kept, Book, find}
+use Rattle.plain_book.proofs.Bytes.{once-around}
+use Rattle.index.specs.Index.{FoundAt}
+use Rattle.index.specs.declared.Place.the-variants.{At, Absent}
+use Rattle.read_book.specs.ReadBook.{Holds}
+
+-- entry j of a book, with the rest behind it, is the one of an id
+pub record KeptAt (b : Book) (i : PointId) (j : ℕ) : Type 0 where
+  pub kept : Kept
+  pub rest : Book
+  pub there : drop j b ≡ kept ∷ rest
+  pub found : find b i ≡ some kept
+
+standing : (b : Book) (j : ℕ) → j < length b → (k : Kept) × (rest : Book) × (drop j b ≡ k ∷ rest)
+standing [] j lt = absurd (omega arith)
+standing (k ∷ b) zero lt = (k, b, refl)
+standing (k ∷ b) (suc j) lt = standing b j (omega arith)
+
+-- a place where an entry stands lies within the book
+pub inside : (b : Book) (j : ℕ) (k : Kept) (rest : Book) → drop j b ≡ k ∷ rest → j < length b
+inside [] j k rest e = let z : _≡_ {A = ℕ} 0 1 = cc (drop-nil {A = Kept} j) in absurd (omega arith)
+inside (x ∷ b) zero k rest e = omega arith
+inside (x ∷ b) (suc j) k rest e = omega (arith, inside b j k rest e)
+
+-- where a choice gives nothing its test fails
+passed : (t : Bool) (x : Kept) (o p q : Option Kept) → (o ≡ none → p ≡ q) → pick t (some x) o ≡ none → pick t (some x) p ≡ q
+passed true x o p q f h = let z : _≡_ {A = ℕ} 0 1 = cc in absurd (omega arith)
+passed false x o p q f h = f h
+
+-- an id that the first entries don't have is looked for behind them
+pub find-behind : (front back : Book) (i : PointId) → find front i ≡ none → find (front ++ back) i ≡ find back i
+unfolding find
+find-behind [] back i h = refl
+find-behind (x ∷ front) back i h = passed (sameId (x .point .id) i) x (find front i) _ _ (find-behind front back i) h
+
+not-found : (b : Book) (i : PointId) → ((j : ℕ) (k : Kept) (rest : Book) → drop j b ≡ k ∷ rest → sameId (k .point .id) i ≡ false) → find b i ≡ none
+unfolding find
+not-found [] i h = refl
+not-found (k ∷ b) i h = rw (h 0 k b refl) (not-found b i (λ j. h (suc j)))
+
+module _ {s : List ℕ} {b : Book} {n : ℕ} {at : List ℕ} (h : Holds s b n at) (i : PointId) where
+  -- the entry that the index finds is the book's entry of the id
+  pub found-kept : (j : ℕ) → FoundAt s n at i (At j) → KeptAt b i j
+  unfolding find
+  found-kept j f =
+      let x = standing b j (omega (arith, h .count, f .0)) in
+      let k = x .0 in
+      let rest = x .1 in
+      let e : sameId (k .point .id) i ≡ true = rw (h .ids j k rest (x .2)) at (f .1) in
+      let parts : b ≡ take j b ++ k ∷ rest = sym (take-append-drop j b) ∙ ap (_++_ (take j b)) (x .2) in
+      let o = once-around i k rest e (take j b) (rw parts at (h .once)) in
+      record {
+        kept = k;
+        rest = rest;
+        there = x .2;
+        found = ap (λ (l : Book). find l i) parts ∙ (find-behind (take j b) (k ∷ rest) i (o .0) ∙ rw e);
+      }
+
+  module _ (f : FoundAt s n at i Absent) where
+    pub others : (j : ℕ) (k : Kept) (rest : Book) → drop j b ≡ k ∷ rest → sameId (k .point .id) i ≡ false
+    others j k rest e = rw (h .ids j k rest e) at (f j (omega (arith, h .count, inside b j k rest e)))
+
+    -- an id that the index doesn't find has no entry
+    pub absent-kept : find b i ≡ none
+    absent-kept = not-found b i others

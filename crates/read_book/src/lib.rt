@@ -1,0 +1,110 @@
+// Reads a book: its settings, its entries and the zeros behind them, and makes an index of the entries.
+use index::Place;
+use layout::ReadKept;
+use schedule::ReadSettings;
+use schedule::Settings;
+ghost use mathlib.Core.Path.{_≡_};
+ghost use mathlib.Core.Bool.{true, not};
+ghost use Prim.Native.Nat.{_≤_};
+ghost use lib.ListN.{length, getD, replicate};
+ghost use lib.Dec.{eqb};
+ghost use Rattle.read_book.specs.ReadBook.{Reading, EntryRead, EntriesRead, BookRead};
+
+// What a book says: its settings, how many entries it has, and where they end.
+pub enum ReadBook {
+    Book(Settings, usize, usize),
+    Unreadable,
+}
+
+enum Entries {
+    Entries(usize, usize),
+    Unreadable,
+}
+
+// Where an entry ends.
+enum ReadEntry {
+    Ends(usize),
+    Unreadable,
+}
+
+const SETTINGS: usize = 47;
+
+const LONGEST: usize = 16777216;
+
+// Whether an entry begins at a place: a 0 or the book's end ends the entries.
+fn is_entry_at(book: &[u8], place: usize) -> bool
+    ensures { λ r. ⌜ r ≡ not (eqb (getD (now (book .entry)) place 0) 0) ⌝ }
+{
+    if book.len() <= place {
+        return false;
+    }
+    book[place] != 0
+}
+
+// Reads the entry at a place, as the n-th, and adds it to the index, unless there are too many or one of the same id.
+fn read_entry(
+    book: &[u8],
+    n: usize,
+    place: usize,
+    at: &mut [u32],
+    next: &mut [u16],
+    heads: &mut [u16],
+) -> ReadEntry
+    requires { ⌜ Reading (now book) n place (now at) (now next) (now heads) ⌝ }
+    requires { ⌜ (length (now book) ≤ 16777216) × (not (eqb (getD (now book) place 0) 0) ≡ true) ⌝ }
+    ensures { λ r. ⌜ EntryRead (now (book .entry)) n (now (at .exit)) (now (next .exit)) (now (heads .exit)) r ⌝ }
+{
+    if n == index::MOST {
+        return ReadEntry::Unreadable;
+    }
+    let ReadKept::Kept(k) = layout::read_kept(&book[place..]) else {
+        return ReadEntry::Unreadable;
+    };
+    let info = k.info;
+    let id = info.id;
+    let Place::Absent = index::find(book, n, at, next, heads, id) else {
+        return ReadEntry::Unreadable;
+    };
+    index::insert(book, n, place, at, next, heads);
+    let end = place + k.place + 108;
+    ReadEntry::Ends(end)
+}
+
+fn read_entries(book: &[u8], at: &mut [u32], next: &mut [u16], heads: &mut [u16]) -> Entries
+    requires { ⌜ (47 ≤ length (now book)) × (length (now book) ≤ 16777216) ⌝ }
+    requires { ⌜ (length (now at) ≡ 4096) × ((length (now next) ≡ 4096) × (now heads ≡ replicate 4096 0)) ⌝ }
+    ensures { λ r. ⌜ EntriesRead (now (book .entry)) (now (at .exit)) (now (next .exit)) (now (heads .exit)) r ⌝ }
+{
+    let mut n = 0;
+    let mut end = SETTINGS;
+    while is_entry_at(book, end) {
+        let ReadEntry::Ends(behind) = read_entry(book, n, end, at, next, heads) else {
+            return Entries::Unreadable;
+        };
+        end = behind;
+        n += 1;
+    }
+    Entries::Entries(n, end)
+}
+
+pub fn read_book(book: &[u8], at: &mut [u32], next: &mut [u16], heads: &mut [u16]) -> ReadBook
+    requires { ⌜ (length (now at) ≡ 4096) × ((length (now next) ≡ 4096) × (now heads ≡ replicate 4096 0)) ⌝ }
+    ensures { λ r. ⌜ BookRead (now (book .entry)) (now (at .exit)) (now (next .exit)) (now (heads .exit)) r ⌝ }
+{
+    if book.len() < SETTINGS {
+        return ReadBook::Unreadable;
+    }
+    if LONGEST < book.len() {
+        return ReadBook::Unreadable;
+    }
+    let ReadSettings::Settings(conf) = schedule::read_settings(&book[0..47]) else {
+        return ReadBook::Unreadable;
+    };
+    let Entries::Entries(n, end) = read_entries(book, at, next, heads) else {
+        return ReadBook::Unreadable;
+    };
+    if !layout::is_zeros(book, end) {
+        return ReadBook::Unreadable;
+    }
+    ReadBook::Book(conf, n, end)
+}

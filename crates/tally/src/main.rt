@@ -1,0 +1,90 @@
+// Reads settings, a schedule and points from standard input, keeps the points in a book, and prints a line for each.
+mod print;
+mod window;
+
+use feed::Front;
+use feed::Next;
+use window::Window;
+ghost use mathlib.Core.Path.{_≡_};
+ghost use Prim.Native.Nat.{_≤_};
+ghost use lib.ListN.{length};
+
+const BOOK: usize = 65536;
+
+const PEERS: usize = 8160;
+
+// The longest schedule: four spans of 255 peers, and the last known round.
+const SCHEDULE: usize = 32675;
+
+// Prints the lines of the points in the window and behind it. A proved loop has to end, and nothing says that an input does:
+// so it ends where a line could not be counted.
+fn print_points(book: &mut [u8], schedule: &[u8], peers: &mut [u8], buf: &mut [u8], first: Window)
+    requires { ⌜ (first .start ≤ first .end) × (first .end ≤ length (now buf)) ⌝ }
+{
+    let mut w = first;
+    let mut lines = 0;
+    while lines < u64::MAX {
+        w = window::refill(buf, w);
+        let start = w.start;
+        let end = w.end;
+        let next = feed::next_point(book, schedule, lines, &buf[start..end], peers);
+        match next {
+            Next::Over => return,
+            Next::Last(line) => {
+                print::line(line);
+                return;
+            }
+            Next::Point(line, size) => {
+                print::line(line);
+                lines = line.place;
+                w = window::after(w, size);
+            }
+        }
+    }
+}
+
+// Prints the lines of the points that begin at a place of the first window, behind settings and a schedule. The schedule's
+// bytes are kept, since the buffer will hold others.
+fn print_behind(
+    book: &mut [u8],
+    schedule: &mut [u8],
+    peers: &mut [u8],
+    buf: &mut [u8],
+    w: Window,
+    start: usize,
+)
+    requires { ⌜ (47 ≤ start) × (start ≤ 32722) × (32675 ≤ length (now schedule)) ⌝ }
+    requires { ⌜ (w .start ≡ 0) × (start ≤ w .end) × (w .end ≤ length (now buf)) ⌝ }
+{
+    let n = start - 47;
+    write::put_slice(schedule, 0, &buf[47..start]);
+    print_points(book, &schedule[0..n], peers, buf, window::after(w, start));
+}
+
+// Prints a line for each point, or the one line of settings or a schedule that can't be read.
+fn print_lines(book: &mut [u8], schedule: &mut [u8], peers: &mut [u8], buf: &mut [u8])
+    requires { ⌜ 32675 ≤ length (now schedule) ⌝ }
+{
+    let w = window::first(buf);
+    let end = w.end;
+    let front = feed::begin(book, &buf[0..end]);
+    match front {
+        Front::Number(n) => print::line(feed::refused(0, 0, n)),
+        Front::Points(start) => print_behind(book, schedule, peers, buf, w, start),
+    }
+}
+
+fn tally(book: &mut [u8], schedule: &mut [u8], peers: &mut [u8], buf: &mut [u8])
+    requires { ⌜ 32675 ≤ length (now schedule) ⌝ }
+{
+    print_lines(book, schedule, peers, buf);
+    print::end(feed::kept(book) as u64);
+}
+
+fn main() {
+    let mut book = [0u8; BOOK];
+    let mut schedule = [0u8; SCHEDULE];
+    let mut peers = [0u8; PEERS];
+    let mut buf = [0u8; window::ROOM];
+    tally(&mut book, &mut schedule, &mut peers, &mut buf);
+}

@@ -1,0 +1,86 @@
+//! The cases of a file that have a book: kinds 3 to 7 of vectors/README.md.
+
+use oracle::file::Blobs;
+
+use crate::Offer;
+
+const OPEN: u8 = 3;
+const BEGIN: u8 = 4;
+const OFFER: u8 = 5;
+const OFFER_TO: u8 = 6;
+const TALLY: u8 = 7;
+
+/// A case with its answer.
+pub enum Case {
+    Open {
+        settings: Vec<u8>,
+        length: usize,
+        number: u8,
+    },
+    /// The offers that follow go to this book.
+    Begin {
+        settings: Vec<u8>,
+        length: usize,
+        number: u8,
+    },
+    Offer {
+        offer: Offer,
+        after: After,
+    },
+    OfferTo {
+        book: Vec<u8>,
+        offer: Offer,
+        after: After,
+    },
+    Tally {
+        input: Vec<u8>,
+        output: Vec<u8>,
+    },
+}
+
+/// What an offer leaves behind.
+pub struct After {
+    pub sha256: Vec<u8>,
+    pub answer: Vec<u8>,
+}
+
+/// The cases of these kinds; others are passed over. `None` if one of them isn't laid out so.
+pub fn read(blobs: Vec<Blobs<'_>>) -> Option<Vec<Case>> {
+    let booked = blobs.into_iter().filter(|(kind, _)| (OPEN..=TALLY).contains(kind));
+    booked.map(|(kind, blobs)| case(kind, &blobs)).collect()
+}
+
+fn case(kind: u8, blobs: &[&[u8]]) -> Option<Case> {
+    Some(match (kind, blobs) {
+        (OPEN, [settings, length, answer]) => {
+            let (length, number) = opened(length, answer)?;
+            Case::Open { settings: settings.to_vec(), length, number }
+        }
+        (BEGIN, [settings, length, answer]) => {
+            let (length, number) = opened(length, answer)?;
+            Case::Begin { settings: settings.to_vec(), length, number }
+        }
+        (OFFER, [inputs @ .., sha256, answer]) => Case::Offer { offer: offer(inputs)?, after: after(sha256, answer) },
+        (OFFER_TO, [book, inputs @ .., sha256, answer]) => {
+            Case::OfferTo { book: book.to_vec(), offer: offer(inputs)?, after: after(sha256, answer) }
+        }
+        (TALLY, [input, output]) => Case::Tally { input: input.to_vec(), output: output.to_vec() },
+        _ => return None,
+    })
+}
+
+fn opened(length: &[u8], answer: &[u8]) -> Option<(usize, u8)> {
+    let [number] = answer.try_into().ok()?;
+    Some((u32::from_le_bytes(length.try_into().ok()?) as usize, number))
+}
+
+fn offer(inputs: &[&[u8]]) -> Option<Offer> {
+    let [schedule, leader, record, buffer] = *inputs else { return None };
+    let [leader] = leader.try_into().ok()?;
+    let peer_buffer = u32::from_le_bytes(buffer.try_into().ok()?);
+    Some(Offer { schedule: schedule.to_vec(), leader, record: record.to_vec(), peer_buffer })
+}
+
+fn after(sha256: &[u8], answer: &[u8]) -> After {
+    After { sha256: sha256.to_vec(), answer: answer.to_vec() }
+}
