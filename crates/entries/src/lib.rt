@@ -162,7 +162,7 @@ fn read_record(s: &[u8]) -> ReadRecord
         return ReadRecord::Unreadable;
     };
     let rec = &s[0..n];
-    let ReadPoint::Point(info) = point::read_point(rec) else {
+    let ReadPoint::Point(info) = point::read_shaped(rec) else {
         return ReadRecord::Unreadable;
     };
     if !is_listable(rec, info) {

@@ -189,7 +189,7 @@ pub fn read_kept(s: &[u8]) -> ReadKept
         return ReadKept::Unreadable;
     };
     let rec = &s[0..n];
-    let ReadPoint::Point(info) = point::read_point(rec) else {
+    let ReadPoint::Point(info) = point::read_shaped(rec) else {
         return ReadKept::Unreadable;
     };
     if !record::field_ok(s, n, TAG) {

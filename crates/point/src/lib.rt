@@ -29,3 +29,4 @@ pub use link::Through;
 pub use read::ReadPoint;
 pub use read::point_id_at;
 pub use read::read_point;
+pub use read::read_shaped;

@@ -7,9 +7,10 @@ use crate::link::IndirectLink;
 use crate::link::Through;
 use record::Places;
 ghost use mathlib.Core.Path.{_≡_};
+ghost use mathlib.Core.Bool.{true};
 ghost use Prim.Native.Nat.{_+_, _≤_};
 ghost use lib.ListN.{length};
-ghost use Rattle.record.specs.Record.{startOf};
+ghost use Rattle.record.specs.Record.{startOf, wellShaped};
 ghost use Rattle.point.specs.Reading.{pointIdAt, readThrough, readLink, readRole, mapsOk, readPoint, pointIdOf, readThroughOf, readLinkOf, readRoleOf, readPointOf};
 
 pub enum ReadThrough {
@@ -109,43 +110,46 @@ fn read_role(s: &[u8]) -> ReadRole
 
 // Whether includes, witness and evidence are whole rows that rise.
 fn are_maps_ok(rec: &[u8], at: Places) -> bool
-    requires { ⌜ (at .includes ≡ startOf (now rec) 2) × (at .witness ≡ startOf (now rec) 3) × (at .evidence ≡ startOf (now rec) 4) ⌝ }
+    requires { ⌜ wellShaped (now rec) ≡ true ⌝ }
+    requires { ⌜ (at .includes ≡ startOf (now rec) 2) × (at .witness ≡ startOf (now rec) 3) ⌝ }
+    requires { ⌜ (at .evidence ≡ startOf (now rec) 4) × (at .«anchor_proof» ≡ startOf (now rec) 5) ⌝ }
     ensures { λ r. ⌜ r ≡ mapsOk (now (rec .entry)) ⌝ }
 {
-    if !map::is_well_rowed(record::content_from(rec, at.includes, 2), 64) {
+    if !map::is_well_rowed(record::content_from(rec, at.includes, at.witness, 2), 64) {
         return false;
     }
-    if !map::is_well_rowed(record::content_from(rec, at.witness, 3), 64) {
+    if !map::is_well_rowed(record::content_from(rec, at.witness, at.evidence, 3), 64) {
         return false;
     }
-    map::is_well_rowed(record::content_from(rec, at.evidence, 4), 32)
+    map::is_well_rowed(
+        record::content_from(rec, at.evidence, at.anchor_proof, 4),
+        32,
+    )
 }
 
-// What a slice that holds one point record says.
-pub fn read_point(rec: &[u8]) -> ReadPoint
+// What a record of the right shape says.
+pub fn read_shaped(rec: &[u8]) -> ReadPoint
+    requires { ⌜ wellShaped (now rec) ≡ true ⌝ }
     ensures { λ r. ⌜ readPointOf (now (rec .entry)) r ≡ readPoint (now (rec .entry)) ⌝ }
 {
-    if !record::is_well_shaped(rec) {
-        return ReadPoint::Unreadable;
-    }
     let at = record::find_places(rec);
     if !are_maps_ok(rec, at) {
         return ReadPoint::Unreadable;
     }
-    let ReadLink::Link(anchor_proof) = read_link(record::content_from(rec, at.anchor_proof, 5))
-    else {
+    let proof = record::content_from(rec, at.anchor_proof, at.anchor_trigger, 5);
+    let ReadLink::Link(anchor_proof) = read_link(proof) else {
         return ReadPoint::Unreadable;
     };
-    let ReadLink::Link(anchor_trigger) = read_link(record::content_from(rec, at.anchor_trigger, 6))
-    else {
+    let trigger = record::content_from(rec, at.anchor_trigger, at.role, 6);
+    let ReadLink::Link(anchor_trigger) = read_link(trigger) else {
         return ReadPoint::Unreadable;
     };
-    let ReadRole::Role(role) = read_role(record::content_from(rec, at.role, 7)) else {
+    let ReadRole::Role(role) = read_role(record::content_from(rec, at.role, at.times, 7)) else {
         return ReadPoint::Unreadable;
     };
-    let id = point_id_at(record::content(rec, 0), 0);
-    let payload = record::content_from(rec, at.payload, 1);
-    let times = record::content_from(rec, at.times, 8);
+    let id = point_id_at(record::content_from(rec, 0, at.payload, 0), 0);
+    let payload = record::content_from(rec, at.payload, at.includes, 1);
+    let times = record::content_from(rec, at.times, rec.len(), 8);
     ReadPoint::Point(PointInfo {
         id,
         payload_len: parts::u32_at(payload, 0),
@@ -156,4 +160,14 @@ pub fn read_point(rec: &[u8]) -> ReadPoint
         time: parts::u64_at(times, 0),
         anchor_time: parts::u64_at(times, 8),
     })
+}
+
+// What a slice that holds one point record says.
+pub fn read_point(rec: &[u8]) -> ReadPoint
+    ensures { λ r. ⌜ readPointOf (now (rec .entry)) r ≡ readPoint (now (rec .entry)) ⌝ }
+{
+    if !record::is_well_shaped(rec) {
+        return ReadPoint::Unreadable;
+    }
+    read_shaped(rec)
 }

@@ -154,6 +154,9 @@ module _ (s : List ℕ) (w : wellShaped s ≡ true) (k : ℕ) (h : k < 9) where
   pub field : Fitting (rowOf k) s (startOf s k)
   field = front-field s (length s) (shaped-end s w) k h
 
+  pub field-within : (at : ℕ) → at ≡ startOf s k → at + 3 + lengthAt s at ≤ length s
+  field-within at e = rw e (field .end)
+
   pub content-least : rowOf k .least ≤ length (contentOf s k)
   unfolding contentOf
   content-least = omega (arith, field .least, field .content)

@@ -1,8 +1,9 @@
 // Fields of a tag, a length and content, and the table of the nine fields of a point record.
 ghost use mathlib.Core.Path.{_≡_};
-ghost use Prim.Native.Nat.{_<_, _≤_};
+ghost use mathlib.Core.Bool.{true};
+ghost use Prim.Native.Nat.{_+_, _<_, _≤_};
 ghost use lib.ListN.{length};
-ghost use Rattle.record.specs.Record.{fieldOk, nextAt, contentAt, startOf, contentOf, recordEnd, endOf, wellShaped};
+ghost use Rattle.record.specs.Record.{lengthAt, fieldOk, nextAt, contentAt, startOf, contentOf, recordEnd, endOf, wellShaped};
 
 // A row of the table of fields: the tag, and the least and the greatest length of the content.
 pub struct Row {
@@ -93,6 +94,15 @@ pub fn next(s: &[u8], at: usize) -> usize
     start + n
 }
 
+// The same, of a field that lies whole in the slice: nothing is left to test.
+fn behind(s: &[u8], at: usize) -> usize
+    requires { ⌜ at + 3 + lengthAt (now s) at ≤ length (now s) ⌝ }
+    ensures { λ r. ⌜ r ≡ nextAt (now (s .entry)) at ⌝ }
+{
+    let n = parts::u16_at(s, at + 1) as usize;
+    at + 3 + n
+}
+
 // The content of the field at a place, as a part of the slice.
 pub fn content_at(s: &[u8], at: usize) -> &[u8]
     requires { ⌜ at ≤ length (now s) ⌝ }
@@ -139,7 +149,7 @@ pub fn record_end(s: &[u8]) -> End
         if !field_ok(s, at, row) {
             return End::Unreadable;
         }
-        at = next(s, at);
+        at = behind(s, at);
         k += 1;
     }
     End::At(at)
@@ -176,29 +186,31 @@ pub fn content(rec: &[u8], k: usize) -> &[u8]
     content_at(rec, start(rec, k))
 }
 
-// The same, of a field whose start is known.
-pub fn content_from(rec: &[u8], at: usize, k: usize) -> &[u8]
-    requires { ⌜ at ≡ startOf (now rec) k ⌝ }
+// The same, of a field of a whole record whose start and end are known.
+pub fn content_from(rec: &[u8], at: usize, end: usize, k: usize) -> &[u8]
+    requires { ⌜ (wellShaped (now rec) ≡ true) × (k < 9) ⌝ }
+    requires { ⌜ (at ≡ startOf (now rec) k) × (end ≡ startOf (now rec) (k + 1)) ⌝ }
     ensures { λ r. ⌜ now r ≡ contentOf (now (rec .entry)) k ⌝ }
 {
-    content_at(rec, at)
+    &rec[at + 3..end]
 }
 
-// Where the fields start, found in one walk.
+// Where the fields of a whole record start, found in one walk.
 pub fn find_places(rec: &[u8]) -> Places
+    requires { ⌜ wellShaped (now rec) ≡ true ⌝ }
     ensures { λ r. ⌜ (r .payload ≡ startOf (now (rec .entry)) 1) × (r .includes ≡ startOf (now (rec .entry)) 2) ⌝ }
     ensures { λ r. ⌜ (r .witness ≡ startOf (now (rec .entry)) 3) × (r .evidence ≡ startOf (now (rec .entry)) 4) ⌝ }
     ensures { λ r. ⌜ (r .«anchor_proof» ≡ startOf (now (rec .entry)) 5) × (r .«anchor_trigger» ≡ startOf (now (rec .entry)) 6) ⌝ }
     ensures { λ r. ⌜ (r .role ≡ startOf (now (rec .entry)) 7) × (r .times ≡ startOf (now (rec .entry)) 8) ⌝ }
 {
-    let payload = next(rec, 0);
-    let includes = next(rec, payload);
-    let witness = next(rec, includes);
-    let evidence = next(rec, witness);
-    let anchor_proof = next(rec, evidence);
-    let anchor_trigger = next(rec, anchor_proof);
-    let role = next(rec, anchor_trigger);
-    let times = next(rec, role);
+    let payload = behind(rec, 0);
+    let includes = behind(rec, payload);
+    let witness = behind(rec, includes);
+    let evidence = behind(rec, witness);
+    let anchor_proof = behind(rec, evidence);
+    let anchor_trigger = behind(rec, anchor_proof);
+    let role = behind(rec, anchor_trigger);
+    let times = behind(rec, role);
     Places {
         payload,
         includes,

@@ -43,9 +43,9 @@ pub fn verify_point(
         return new;
     };
     let at = record::find_places(rec);
-    let includes = record::content_from(rec, at.includes, 2);
-    let witness = record::content_from(rec, at.witness, 3);
-    let evidence = record::content_from(rec, at.evidence, 4);
+    let includes = record::content_from(rec, at.includes, at.witness, 2);
+    let witness = record::content_from(rec, at.witness, at.evidence, 3);
+    let evidence = record::content_from(rec, at.evidence, at.anchor_proof, 4);
     let well_formed = check_well_formed::check_well_formed(
         conf,
         includes,

@@ -10,7 +10,7 @@ use borrow.Author.Needs.{needs}
 use borrow.Author.Tests.{not-true, not-false}
 use Rattle.base.specs.Base.{pick}
 use Rattle.record.specs.Record.{rows, rowOf, nextAt, endFrom, recordEnd}
-use Rattle.record.proofs.Laws.{next-within, end-start, end-step, end-last}
+use Rattle.record.proofs.Laws.{next-within, fitting, end-start, end-step, end-last}
 use Rattle.record.proofs.record_end.Statement.{statement}
 use Rattle.record.proofs.record_end.Tie as tie
 
@@ -46,8 +46,11 @@ field-ok-requires c κs = search needs
 returns : tie.Need-returns Inv-loop μ-loop
 returns c = sym (turn (c .before) ∙ rw (not-true (c .before .field-ok .result) (c .if1 .taken)))
 
-next-requires : tie.Need-next-requires Inv-loop μ-loop
-next-requires c κs = search needs
+behind-requires : tie.Need-behind-requires Inv-loop μ-loop
+behind-requires c κs =
+    let f = c .before in
+    let l = f .before .before .before in
+    fitting _ (now (l .before .before .args .s)) (l .loop .at) (sym (f .field-ok .ensures) ∙ not-false _ (c .if1 .left)) .end
 
 add-k : tie.Need-add-k Inv-loop μ-loop
 add-k c = search needs
@@ -60,7 +63,7 @@ loop-again c =
     let f = c .before .before in
     let l = f .before .before .before in
     let s = now (l .before .before .args .s) in
-    (search needs, omega (arith, next-within s (l .loop .at), c .next .ensures), turn f ∙ rw (not-false (f .field-ok .result) (c .before .if1 .left), c .next .ensures))
+    (search needs, omega (arith, next-within s (l .loop .at), c .behind .ensures), turn f ∙ rw (not-false (f .field-ok .result) (c .before .if1 .left), c .behind .ensures))
 
 returns-2 : tie.Need-returns-2 Inv-loop μ-loop
 returns-2 c =
@@ -79,7 +82,7 @@ record-end-spec =
     array-copy-out-row
     field-ok-requires
     returns
-    next-requires
+    behind-requires
     add-k
     loop-less
     loop-again

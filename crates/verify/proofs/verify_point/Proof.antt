@@ -1,10 +1,14 @@
 -- `verify_point` meets its contract: a lemma for each call says what it told, and each `return` joins those on its way.
+use native.Mathlib.Omega.{arith}
 use mathlib.Core.Path.{_≡_, ap}
+use mathlib.Core.Bool.{true}
 use mathlib.Core.Option.{none}
 use denote.Ref.{now}
 use Rattle.map.specs.Rows.{peersOf, pairsOf}
+use Rattle.record.specs.Record.{wellShaped}
 use Rattle.point.specs.Point.{PointInfo}
 use Rattle.point.specs.Reading.{pointOf}
+use Rattle.point.proofs.Laws.{readable}
 use Rattle.schedule.specs.Settings.{Settings, settingsOf}
 use Rattle.schedule.specs.Schedule.{Schedule, scheduleOf}
 use Rattle.verifier.specs.Verify.{Scheduled, scheduled, newRows, wellFormedRows, peerRows, faults, verify}
@@ -68,17 +72,30 @@ returns c =
     told-first (sets b) (point b) (newRows (settings b) (schedule b) (point b)) (wellFormedRows (settings b) (point b)) (peerRows (settings b) (sets b) (point b))
     _ (c .enum-told2 .given .0 .0) _ _ (ap verifiedOf (c .enum-told2 .given .1)) (new n)
 
+-- the record has the right shape, and its fields were found
+shaped : (b : tie.Start) → wellShaped (now (b .args .rec)) ≡ true
+shaped b = readable _ _ (b .pre .1 .0) .shaped
+
+abbrev found : tie.After-find-places → tie.Start
+found c = c .before .before .before .before .before .before .before
+
 find-places-requires : tie.Need-find-places-requires
-find-places-requires c κs = search needs
+find-places-requires c κs = shaped (c .before .before .before .before .before .before)
 
 content-from-requires : tie.Need-content-from-requires
-content-from-requires c κs = c .find-places .ensures .0 .1
+content-from-requires c κs =
+    let f = c .find-places .ensures in
+    ((shaped (found c), omega arith), (f .0 .1, f .1 .0 .0))
 
 content-from-requires-2 : tie.Need-content-from-requires-2
-content-from-requires-2 c κs = c .before .find-places .ensures .1 .0 .0
+content-from-requires-2 c κs =
+    let f = c .before .find-places .ensures in
+    ((shaped (found (c .before)), omega arith), f .1 .0)
 
 content-from-requires-3 : tie.Need-content-from-requires-3
-content-from-requires-3 c κs = c .before .before .find-places .ensures .1 .0 .1
+content-from-requires-3 c κs =
+    let f = c .before .before .find-places .ensures in
+    ((shaped (found (c .before .before)), omega arith), (f .1 .0 .1, f .1 .1 .0 .0))
 
 -- the maps that were looked up are the point's
 abbrev handed : tie.After-content-from3 → tie.Start
