@@ -94,6 +94,14 @@ module _ (a b : ℕ) (rest : Order) where
   unfolding orderThen
   then-same h = let g : b ≤ a = omega arith in let f : a ≤ b = omega arith in simp (le-ltb a b g, le-ltb b a f)
 
+-- where numbers differ, what follows does not matter
+pub then-any : (a b : ℕ) (rest other : Order) → (a ≡ b → ⊥) → orderThen a b rest ≡ orderThen a b other
+then-any a b rest other n = elim (three a b) [
+  | below h ↦ then-less a b rest h ∙ sym (then-less a b other h)
+  | equal h ↦ absurd (n h)
+  | above h ↦ then-more a b rest h ∙ sym (then-more a b other h)
+]
+
 -- what an order says of the numbers
 abbrev Ordered : Order → ℕ → ℕ → Type 0
 Ordered Less m n = m < n
@@ -255,7 +263,7 @@ place-order s at y b w h = rw (big-words s at h) (number-order (idOf s at) y (wo
 -- ---- bytes in the other order
 
 -- the bytes of a number that was read from bytes are these
-little-bytes : (l : List ℕ) → Bytes l → littleBytes (length l) (little l) ≡ l
+pub little-bytes : (l : List ℕ) → Bytes l → littleBytes (length l) (little l) ≡ l
 unfolding little littleBytes
 little-bytes [] b = refl
 little-bytes (x ∷ l) b =

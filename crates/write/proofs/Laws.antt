@@ -1,6 +1,6 @@
 -- Laws of bytes that are written into a list: the bytes of a number, and where they stand.
 use Prim.Native.Nat.{ℕ, zero, suc, _+_, _*_, _/_, _%_, _^_, _≤_, _<_}
-use native.Mathlib.Nat.{add-zero, zero-add, add-suc, suc-add, pow-succ', one-le-pow, mul-assoc, mul-comm, mul-add-div-right, mul-add-mod-self-right, div-div-eq-div-mul, mod-eq-of-lt, mod-one}
+use native.Mathlib.Nat.{add-zero, zero-add, add-suc, suc-add, pow-succ', one-le-pow, mul-assoc, mul-comm, mul-add-div-right, mul-add-mod-self-right, div-div-eq-div-mul, mod-eq-of-lt, mod-one, div-one}
 use native.Mathlib.Omega.{arith}
 use mathlib.Core.Path.{_≡_, refl, ap, sym, _∙_}
 use mathlib.Core.List.{List, [], _∷_, _++_, append-assoc}
@@ -8,10 +8,10 @@ use lib.Arith.{digits-lt, digits-div, mod-mul}
 use lib.Pow.{pow-add}
 use lib.ListN.{length, take, drop, length-append}
 use lib.Seq.{sets, sets-eq, length-sets, take-at, drop-at, drop-append-add, length-take-le}
-use Rattle.parts.specs.Bytes.{big, bytesAt, bigAt, bigBytes, putAt}
+use Rattle.parts.specs.Bytes.{little, big, littleBytes, bytesAt, bigAt, bigBytes, putAt}
 use Rattle.parts.specs.Parts.{number}
 use Rattle.parts.specs.declared.Id.{Id}
-use Rattle.parts.proofs.Laws.{Words}
+use Rattle.parts.proofs.Laws.{Bytes, Words, little-bytes}
 
 -- ---- the bytes of a number
 
@@ -49,6 +49,29 @@ bytes-split (suc m) n x y h =
     let e : (x * 256 ^ n + y) / 256 ^ (m + n) ≡ x / 256 ^ m =
     rw (pow-add 256 m n, mul-comm (256 ^ m) (256 ^ n), ← div-div-eq-div-mul (x * 256 ^ n + y) (256 ^ n) (256 ^ m), digits-div x h) in
     rw (suc-add m n, e, bytes-split m n x y h)
+
+bytes-below : (n x : ℕ) → Bytes (bigBytes n x)
+unfolding bigBytes
+bytes-below zero x k = omega arith
+bytes-below (suc n) x zero = omega arith
+bytes-below (suc n) x (suc k) = bytes-below n x k
+
+mirror : (a b c d e f g h : ℕ) → big (a ∷ b ∷ c ∷ d ∷ e ∷ f ∷ g ∷ h ∷ []) ≡ little (h ∷ g ∷ f ∷ e ∷ d ∷ c ∷ b ∷ a ∷ [])
+unfolding little big
+mirror a b c d e f g h = omega arith
+
+-- the bytes of a number in the other order, the first lowest, are its bytes with the first highest
+pub swapped-bytes : (x : ℕ) → littleBytes 8 (big (littleBytes 8 x)) ≡ bigBytes 8 x
+unfolding littleBytes bigBytes
+swapped-bytes x =
+    let c : x / 256 / 256 ≡ x / 65536 = omega arith in
+    let d : x / 65536 / 256 ≡ x / 16777216 = omega arith in
+    let e : x / 16777216 / 256 ≡ x / 4294967296 = omega arith in
+    let f : x / 4294967296 / 256 ≡ x / 1099511627776 = omega arith in
+    let g : x / 1099511627776 / 256 ≡ x / 281474976710656 = omega arith in
+    let h : x / 281474976710656 / 256 ≡ x / 72057594037927936 = omega arith in
+    let same : big (littleBytes 8 x) ≡ little (bigBytes 8 x) = rw (c, d, e, f, g, h, div-one x) (mirror _ _ _ _ _ _ _ _) in
+    ap (littleBytes 8) same ∙ little-bytes (bigBytes 8 x) (bytes-below 8 x)
 
 -- ---- a run of elements in a list
 

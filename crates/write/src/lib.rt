@@ -6,19 +6,27 @@ ghost use lib.ListN.{length};
 ghost use Rattle.parts.specs.Bytes.{littleBytes, bigBytes, putAt};
 ghost use Rattle.parts.specs.Parts.{number};
 
-// Writes the eight bytes of a number at a place, the first highest.
+// Writes the eight bytes of a number at a place, the first lowest. The compiler makes one store of them.
+fn put_u64(out: &mut [u8], at: usize, x: u64)
+    requires { ⌜ at + 8 ≤ length (now out) ⌝ }
+    ensures { λ r. ⌜ now (out .exit) ≡ putAt (now (out .entry)) at (littleBytes 8 x) ⌝ }
+{
+    out[at] = (x % 256) as u8;
+    out[at + 1] = (x / 256 % 256) as u8;
+    out[at + 2] = (x / 256 / 256 % 256) as u8;
+    out[at + 3] = (x / 256 / 256 / 256 % 256) as u8;
+    out[at + 4] = (x / 256 / 256 / 256 / 256 % 256) as u8;
+    out[at + 5] = (x / 256 / 256 / 256 / 256 / 256 % 256) as u8;
+    out[at + 6] = (x / 256 / 256 / 256 / 256 / 256 / 256 % 256) as u8;
+    out[at + 7] = (x / 256 / 256 / 256 / 256 / 256 / 256 / 256 % 256) as u8;
+}
+
+// The same, the first highest.
 fn put_word(out: &mut [u8], at: usize, x: u64)
     requires { ⌜ at + 8 ≤ length (now out) ⌝ }
     ensures { λ r. ⌜ now (out .exit) ≡ putAt (now (out .entry)) at (bigBytes 8 x) ⌝ }
 {
-    out[at] = (x / 72057594037927936 % 256) as u8;
-    out[at + 1] = (x / 281474976710656 % 256) as u8;
-    out[at + 2] = (x / 1099511627776 % 256) as u8;
-    out[at + 3] = (x / 4294967296 % 256) as u8;
-    out[at + 4] = (x / 16777216 % 256) as u8;
-    out[at + 5] = (x / 65536 % 256) as u8;
-    out[at + 6] = (x / 256 % 256) as u8;
-    out[at + 7] = (x % 256) as u8;
+    put_u64(out, at, parts::swapped(x));
 }
 
 // Writes the 32 bytes of an id at a place.

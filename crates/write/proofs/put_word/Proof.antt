@@ -1,117 +1,26 @@
--- `write::put_word` meets its contract: the eight stores are one run (`sets`).
-use native.Mathlib.Numerals.{add-one, add-two, add-three, add-four, add-five, add-six, add-seven}
-use native.Mathlib.Nat.{div-one}
-use native.Mathlib.Omega.{arith}
-use lib.ListN.{length-set}
+-- `write::put_word` meets its contract.
+use mathlib.Core.Path.{ap, _∙_}
 use denote.Ref.{now}
-use Rattle.parts.specs.Bytes.{bigBytes}
-use Rattle.write.proofs.Laws.{put-is}
+use Rattle.parts.specs.Bytes.{littleBytes, putAt}
+use Rattle.write.proofs.Laws.{swapped-bytes}
 use borrow.Author.Needs.{needs}
 use Rattle.write.proofs.put_word.Statement.{statement}
 use Rattle.write.proofs.put_word.Tie as tie
 
-cast-out : tie.Need-cast-out
-cast-out c = search needs
+swapped-requires : tie.Need-swapped-requires
+swapped-requires c κs = search needs
 
-slice-write-out : tie.Need-slice-write-out
-slice-write-out c = search needs
-
-cast-out-2 : tie.Need-cast-out-2
-cast-out-2 c = search needs
-
-add-out : tie.Need-add-out
-add-out c = search needs
-
-slice-write-out-2 : tie.Need-slice-write-out-2
-slice-write-out-2 c = simp length-set (omega arith)
-
-cast-out-3 : tie.Need-cast-out-3
-cast-out-3 c = search needs
-
-add-out-2 : tie.Need-add-out-2
-add-out-2 c = search needs
-
-slice-write-out-3 : tie.Need-slice-write-out-3
-slice-write-out-3 c = simp length-set (omega arith)
-
-cast-out-4 : tie.Need-cast-out-4
-cast-out-4 c = search needs
-
-add-out-3 : tie.Need-add-out-3
-add-out-3 c = search needs
-
-slice-write-out-4 : tie.Need-slice-write-out-4
-slice-write-out-4 c = simp length-set (omega arith)
-
-cast-out-5 : tie.Need-cast-out-5
-cast-out-5 c = search needs
-
-add-out-4 : tie.Need-add-out-4
-add-out-4 c = search needs
-
-slice-write-out-5 : tie.Need-slice-write-out-5
-slice-write-out-5 c = simp length-set (omega arith)
-
-cast-out-6 : tie.Need-cast-out-6
-cast-out-6 c = search needs
-
-add-out-5 : tie.Need-add-out-5
-add-out-5 c = search needs
-
-slice-write-out-6 : tie.Need-slice-write-out-6
-slice-write-out-6 c = simp length-set (omega arith)
-
-cast-out-7 : tie.Need-cast-out-7
-cast-out-7 c = search needs
-
-add-out-6 : tie.Need-add-out-6
-add-out-6 c = search needs
-
-slice-write-out-7 : tie.Need-slice-write-out-7
-slice-write-out-7 c = simp length-set (omega arith)
-
-cast-out-8 : tie.Need-cast-out-8
-cast-out-8 c = search needs
-
-add-out-7 : tie.Need-add-out-7
-add-out-7 c = search needs
-
-slice-write-out-8 : tie.Need-slice-write-out-8
-slice-write-out-8 c = simp length-set (omega arith)
+put-u64-requires : tie.Need-put-u64-requires
+put-u64-requires c κs = search needs
 
 same-length : tie.Need-same-length
-same-length c = simp length-set
+same-length c = search needs
 
 returns : tie.Need-returns
-unfolding bigBytes
-returns c = simp (add-one, add-two, add-three, add-four, add-five, add-six, add-seven, div-one) (simp div-one at (put-is (now (c .args .out)) (c .args .at) (bigBytes 8 (c .args .x)) (c .pre)))
+returns c =
+    let p = c .before .before in
+    let a = p .before .before .before .before .args in
+    p .put-u64 .ensures ∙ ap (putAt (now (a .out)) (a .at)) (ap (littleBytes 8) (p .before .swapped .ensures) ∙ swapped-bytes (a .x))
 
 pub put-word-spec : {M : Type 1} → statement M
-put-word-spec =
-    tie.close
-    (tie.spec
-    cast-out
-    slice-write-out
-    cast-out-2
-    add-out
-    slice-write-out-2
-    cast-out-3
-    add-out-2
-    slice-write-out-3
-    cast-out-4
-    add-out-3
-    slice-write-out-4
-    cast-out-5
-    add-out-4
-    slice-write-out-5
-    cast-out-6
-    add-out-5
-    slice-write-out-6
-    cast-out-7
-    add-out-6
-    slice-write-out-7
-    cast-out-8
-    add-out-7
-    slice-write-out-8
-    same-length
-    returns)
+put-word-spec = tie.close (tie.spec swapped-requires put-u64-requires same-length returns)
