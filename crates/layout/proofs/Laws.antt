@@ -4,13 +4,14 @@ use native.Mathlib.Omega.{arith}
 use native.Mathlib.Numerals.{add-one, add-two}
 use mathlib.Core.Path.{_≡_, refl, ap, sym, _∙_}
 use mathlib.Core.Bool.{Bool, true, false, _&&_}
-use mathlib.Core.Option.{none, some}
+use mathlib.Core.Option.{Option, none, some}
 use mathlib.Core.List.{List, [], _∷_, _++_, append-assoc}
 use lib.ListN.{length, getD, set, take, drop, take-append-drop, drop-of-length-le, length-take, length-drop}
 use lib.Seq.{drop-cons, drop-drop, length-take-le}
 use lib.Dec.{leb, eqb}
 use borrow.Author.Tests.{le-leb, lt-leb, eq-eqb, ne-eqb}
-use Rattle.base.specs.Base.{isSome}
+use Rattle.base.specs.Base.{pick, isSome}
+use Rattle.base.proofs.Laws.{picked}
 use Rattle.parts.specs.Bytes.{little, littleAt, bigAt, littleBytes, bigBytes, putAt}
 use Rattle.write.proofs.Laws.{put-is}
 use Rattle.record.specs.Record.{fieldRow, fieldOk, recordEnd}
@@ -21,8 +22,8 @@ use Rattle.point.specs.declared.info.PointInfo as code-info
 use Rattle.reasons.specs.Invalid.{dagRound}
 use Rattle.answer.proofs.Laws.{put-three}
 use Rattle.plain_book.specs.Kept.{Status, Valid, TransInvalid, Invalid, IllFormed, Kept}
-use Rattle.plain_book.specs.Layout.{idBytes, throughBytes, statusBytes, isZeros, throughAt, isRootOk, readStatus, isKeepable, readKept, keptFront, sized}
-use Rattle.layout.specs.Values.{entryOf, EntryFrom, readKeptOf, KeptPlaced}
+use Rattle.plain_book.specs.Layout.{idBytes, throughBytes, statusBytes, isZeros, throughAt, isRootOk, readStatus, isKeepable, keptWith, readKept, keptFront, sized}
+use Rattle.layout.specs.Values.{entryOf, EntryFrom, readKeptOf, KeptPlaced, EntryTo}
 use Rattle.layout.specs.declared.read.ReadKept as code-read-kept
 use Rattle.layout.specs.declared.read.ReadKept.the-variants as case-read-kept
 
@@ -171,6 +172,10 @@ module _ (t : List ℕ) where
 
 -- ---- the entry of a record and tag 33
 
+some-picked : (b : Bool) (k : Kept) → isSome (pick b (some k) none) ≡ b
+some-picked true k = refl
+some-picked false k = refl
+
 module _ (bytes : List ℕ) (q : PointInfo) (t : List ℕ) where
   pub entry-unflagged : 1 < getD t 1 0 → readKept bytes q t ≡ none
   unfolding readKept
@@ -190,6 +195,20 @@ module _ (bytes : List ℕ) (q : PointInfo) (t : List ℕ) where
           readKept bytes q t ≡ some (record { bytes = bytes; point = q; status = s; certified = eqb (getD t 1 0) 1 })
       unfolding readKept
       entry-kept k = rw (le-leb (getD t 1 0) 1 h, e, k)
+
+    -- with a status, an entry is up to whether it may be kept
+    pub entry-some : (s : Status) → readStatus t ≡ some s → isSome (readKept bytes q t) ≡ isKeepable q s
+    unfolding readKept
+    entry-some s e = rw (le-leb (getD t 1 0) 1 h, e) (some-picked (isKeepable q s) _)
+
+  -- an entry has its record and its point
+  pub entry-whose : (k : Kept) → readKept bytes q t ≡ some k → (k .bytes ≡ bytes) × (k .point ≡ q)
+  unfolding readKept
+  entry-whose k h = whose (eqb (getD t 1 0) 1) (readStatus t) (picked (leb (getD t 1 0) 1) _ k h .1)
+    where
+      whose : (c : Bool) (o : Option Status) → keptWith bytes q c o ≡ some k → (k .bytes ≡ bytes) × (k .point ≡ q)
+      whose c none g = let z : _≡_ {A = ℕ} 0 1 = cc in absurd (omega arith)
+      whose c (some x) g = let e = picked (isKeepable q x) _ k g .1 in (cc, cc)
 
 -- ---- the entry at the front of a slice
 
@@ -223,6 +242,27 @@ module _ (s part : List ℕ) (n : ℕ) (e : recordEnd s ≡ some n) (p : part �
     front-tagged : fieldOk (fieldRow 33 105 105) s n ≡ true → keptFront s ≡ sized (n + 108) (readKept part q (take 105 (drop (n + 3) s)))
     unfolding keptFront
     front-tagged f = rw (e, ← p, h, f, ← p)
+
+    -- what is read of tag 33 decides
+    module _ (f : fieldOk (fieldRow 33 105 105) s n ≡ true) (tag : List ℕ) (g : tag ≡ take 105 (drop (n + 3) s)) where
+      front-read : keptFront s ≡ sized (n + 108) (readKept part q tag)
+      front-read = front-tagged f ∙ rw g
+
+      pub front-no-entry : isSome (readKept part q tag) ≡ false → keptFront s ≡ none
+      front-no-entry d = front-read ∙ go (readKept part q tag) d
+        where
+          go : (o : Option Kept) → isSome o ≡ false → sized (n + 108) o ≡ none
+          go none d = refl
+          go (some k) d = let z : _≡_ {A = ℕ} 0 1 = cc in absurd (omega arith)
+
+      pub front-entry-to : isSome (readKept part q tag) ≡ true → EntryTo s n
+      front-entry-to d = go (readKept part q tag) refl d
+        where
+          go : (o : Option Kept) → readKept part q tag ≡ o → isSome o ≡ true → EntryTo s n
+          go none e d = let z : _≡_ {A = ℕ} 0 1 = cc in absurd (omega arith)
+          go (some k) e d =
+              let w = entry-whose part q tag k e in
+              record { kept = k; front = front-read ∙ rw e; bytes = w .0 ∙ p; read = rw (← p, w .1) h; inside = tag-inside n s f }
 
   part-length : length part ≡ n
   part-length = rw p (length-take-le n s (end-within s n e))

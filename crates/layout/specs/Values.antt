@@ -4,13 +4,15 @@ use mathlib.Core.Path.{_≡_}
 use mathlib.Core.Option.{Option, none, some}
 use mathlib.Core.List.{List, [], _∷_}
 use lib.ListN.{length, take}
+use Rattle.record.specs.declared.End.{End}
+use Rattle.record.specs.declared.End.the-variants.{At, Unreadable}
 use Rattle.point.specs.Point.{PointInfo}
 use Rattle.point.specs.Reading.{readPoint, pointOf}
 use Rattle.point.specs.declared.info.PointInfo as code-info
 use Rattle.reasons.specs.Invalid.{dependencyOf}
 use Rattle.plain_book.specs.Kept.{Status, Valid, TransInvalid, Invalid, IllFormed, Kept}
 use Rattle.plain_book.specs.Offer.{keptAs}
-use Rattle.plain_book.specs.Layout.{KeptFront}
+use Rattle.plain_book.specs.Layout.{KeptFront, keptFront}
 use Rattle.layout.specs.declared.status.Status as code-status
 use Rattle.layout.specs.declared.status.Status.the-variants as case-status
 use Rattle.layout.specs.declared.status.Left as code-left
@@ -68,3 +70,15 @@ pub record Placed (s : List ℕ) (k : code-kept.Kept) : Type 0 where
 abbrev pub KeptPlaced : List ℕ → code-read-kept.ReadKept → Type 0
 KeptPlaced s (case-read-kept.Kept k) = Placed s k
 KeptPlaced s case-read-kept.Unreadable = Unit
+
+-- the entry at the front of a slice, whose record takes n bytes
+pub record EntryTo (s : List ℕ) (n : ℕ) : Type 0 where
+  pub kept : Kept
+  pub front : keptFront s ≡ some (record { kept = kept; size = n + 108 })
+  pub bytes : kept .bytes ≡ take n s
+  pub read : readPoint (take n s) ≡ some (kept .point)
+  pub inside : n + 108 ≤ length s
+
+abbrev pub KeptEnd : List ℕ → End → Type 0
+KeptEnd s (At n) = EntryTo s n
+KeptEnd s Unreadable = keptFront s ≡ none

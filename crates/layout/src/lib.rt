@@ -7,6 +7,7 @@ mod zeros;
 pub use put::put_kept;
 pub use read::Kept;
 pub use read::ReadKept;
+pub use read::kept_end;
 pub use read::read_kept;
 pub use status::Left;
 pub use status::Status;

@@ -11,9 +11,10 @@ ghost use mathlib.Core.Path.{_≡_};
 ghost use mathlib.Core.Option.{some};
 ghost use Prim.Native.Nat.{_+_, _≤_};
 ghost use lib.ListN.{length, getD};
+ghost use Rattle.base.specs.Base.{isSome};
 ghost use Rattle.point.specs.Reading.{throughOf, pointOf, readPoint};
 ghost use Rattle.plain_book.specs.Layout.{throughAt, isRootOk, readStatus, isKeepable, readKept, keptFront};
-ghost use Rattle.layout.specs.Values.{statusOf, readStatusOf, entryOf, EntryFrom, readKeptOf, KeptPlaced};
+ghost use Rattle.layout.specs.Values.{statusOf, readStatusOf, entryOf, EntryFrom, readKeptOf, KeptPlaced, KeptEnd};
 
 pub enum ReadStatus {
     Status(Status),
@@ -178,6 +179,42 @@ fn entry_of(rec: &[u8], info: PointInfo, t: &[u8]) -> ReadKept
         certified: certified == 1,
         place: rec.len(),
     })
+}
+
+// Whether a record and the 105 bytes of tag 33 are an entry.
+fn is_entry(rec: &[u8], info: PointInfo, t: &[u8]) -> bool
+    requires { ⌜ readPoint (now rec) ≡ some (pointOf (now rec) info) ⌝ }
+    requires { ⌜ 105 ≤ length (now t) ⌝ }
+    ensures { λ r. ⌜ r ≡ isSome (readKept (now (rec .entry)) (pointOf (now (rec .entry)) info) (now (t .entry))) ⌝ }
+{
+    if 1 < t[1] {
+        return false;
+    }
+    let ReadStatus::Status(status) = read_status(t) else {
+        return false;
+    };
+    is_keepable(rec, info, status)
+}
+
+// Where the record of the entry at the front of a slice ends. What a walk over many entries asks, without the entry by
+// value: copying it costs more than the tests.
+pub fn kept_end(s: &[u8]) -> End
+    ensures { λ r. ⌜ KeptEnd (now (s .entry)) r ⌝ }
+{
+    let End::At(n) = record::record_end(s) else {
+        return End::Unreadable;
+    };
+    let rec = &s[0..n];
+    let ReadPoint::Point(info) = point::read_shaped(rec) else {
+        return End::Unreadable;
+    };
+    if !record::field_ok(s, n, TAG) {
+        return End::Unreadable;
+    }
+    if !is_entry(rec, info, &s[n + 3..n + 108]) {
+        return End::Unreadable;
+    }
+    End::At(n)
 }
 
 // The entry at the front of a slice.

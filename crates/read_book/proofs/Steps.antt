@@ -26,9 +26,7 @@ use Rattle.plain_book.specs.Layout.{isZeros, KeptFront, keptFront, bookThen, en
 use Rattle.plain_book.proofs.Bytes.{used-append, once-around}
 use Rattle.index.specs.Index.{idOf, Index, FoundAt}
 use Rattle.index.specs.declared.Place.the-variants.{At, Absent}
-use Rattle.layout.specs.Values.{keptOf, readKeptOf, Placed}
-use Rattle.layout.specs.declared.read.Kept as code-kept
-use Rattle.layout.specs.declared.read.ReadKept.the-variants as case-kept
+use Rattle.layout.specs.Values.{EntryTo}
 use Rattle.read_book.specs.ReadBook.{Holds, before, Reading, NoBook, IsRead}
 use Rattle.read_book.proofs.Laws.{inside, find-behind, found-kept, others}
 
@@ -114,26 +112,27 @@ module _ (s : List ℕ) (p : PointInfo) (h : readPoint s ≡ some p) where
 
 -- ---- the entry at a place
 
--- what the code's entry at a place is
-pub record EntryAt (s : List ℕ) (place : ℕ) (c : code-kept.Kept) (k : Kept) : Type 0 where
+-- what the entry at a place is, whose record takes n bytes
+pub record EntryAt (s : List ℕ) (place n : ℕ) (k : Kept) : Type 0 where
   pub front : keptFront (drop place s) ≡ some (record { kept = k; size = length (k .bytes) + 108 })
-  pub size : length (k .bytes) ≡ c .place
+  pub size : length (k .bytes) ≡ n
   pub room : place + 71 ≤ length s
-  pub within : place + c .place + 108 ≤ length s
+  pub within : place + n + 108 ≤ length s
   pub id : pointIdAt s (place + 3) ≡ k .point .id
 
-module _ (s : List ℕ) (place : ℕ) (t : List ℕ) (e : t ≡ drop place s) (c : code-kept.Kept) where
-  pub entry-at : readKeptOf t (case-kept.Kept c) ≡ keptFront t → Placed t c → place ≤ length s → EntryAt s place c (keptOf (take (c .place) t) c)
-  entry-at f p w =
-      let l : length (take (c .place) t) ≡ c .place = length-take-le (c .place) t (omega (arith, p .inside)) in
-      let r = record-id (take (c .place) t) _ (p .read) in
+module _ (s : List ℕ) (place : ℕ) (t : List ℕ) (e : t ≡ drop place s) (n : ℕ) where
+  pub entry-at : (x : EntryTo t n) → place ≤ length s → EntryAt s place n (x .kept)
+  entry-at x w =
+      let l : length (x .kept .bytes) ≡ n = ap length (x .bytes) ∙ length-take-le n t (omega (arith, x .inside)) in
+      let r = record-id (take n t) _ (x .read) in
       let d : length t ≡ length s - place = ap length e ∙ length-drop place s in
+      let m = length-take-le n t (omega (arith, x .inside)) in
       record {
-        front = ap keptFront (sym e) ∙ (sym f ∙ rw l);
+        front = ap keptFront (sym e) ∙ (x .front ∙ rw l);
         size = l;
-        room = omega (arith, r .0, p .inside);
-        within = omega (arith, p .inside);
-        id = sym (r .1 ∙ (id-front (c .place) 3 t (omega (arith, r .0)) ∙ rw e (id-shift place 3 s)));
+        room = omega (arith, r .0, x .inside);
+        within = omega (arith, x .inside);
+        id = sym (r .1 ∙ (id-front n 3 t (omega (arith, r .0)) ∙ rw e (id-shift place 3 s)));
       }
 
 -- ---- entries behind those that are read
@@ -212,19 +211,19 @@ module _ {s : List ℕ} {n end : ℕ} {at next heads : List ℕ} (r : Reading s 
       pub no-entry : keptFront (drop end s) ≡ none → NoBook s
       no-entry f = unread (one-left none f)
 
-      module _ (c : code-kept.Kept) (k : Kept) (x : EntryAt s end c k) where
+      module _ (c : ℕ) (k : Kept) (x : EntryAt s end c k) where
         -- what is left to read behind the entry
-        behind : entriesFrom 4096 (drop 47 s) ≡ before (r .book ++ (k ∷ [])) (entriesFrom (4096 - (n + 1)) (drop (end + c .place + 108) s))
+        behind : entriesFrom 4096 (drop 47 s) ≡ before (r .book ++ (k ∷ [])) (entriesFrom (4096 - (n + 1)) (drop (end + c + 108) s))
         behind =
-            let z : end + (length (k .bytes) + 108) ≡ end + c .place + 108 = omega (arith, x .size) in
-            let e : drop (length (k .bytes) + 108) (drop end s) ≡ drop (end + c .place + 108) s = drop-drop (length (k .bytes) + 108) end s ∙ rw z in
+            let z : end + (length (k .bytes) + 108) ≡ end + c + 108 = omega (arith, x .size) in
+            let e : drop (length (k .bytes) + 108) (drop end s) ≡ drop (end + c + 108) s = drop-drop (length (k .bytes) + 108) end s ∙ rw z in
             r .left
             ∙ (ap (before (r .book)) (one-left _ (x .front))
             ∙ (before-more (r .book) k _
             ∙ ap (λ (t : List ℕ). before (r .book ++ (k ∷ [])) (entriesFrom (4096 - (n + 1)) t)) e))
 
         pub id-twice : (j : ℕ) → FoundAt s n at (k .point .id) (At j) → NoBook s
-        id-twice j f = λ c'. ap (openedWith (take 47 s) c') behind ∙ go c' (entriesFrom (4096 - (n + 1)) (drop (end + c .place + 108) s))
+        id-twice j f = λ c'. ap (openedWith (take 47 s) c') behind ∙ go c' (entriesFrom (4096 - (n + 1)) (drop (end + c + 108) s))
           where
             go : (c' : Option Settings) (o : Option Book) → openedWith (take 47 s) c' (before (r .book ++ (k ∷ [])) o) ≡ none
             go c' none = ap (openedWith (take 47 s) c') (before-none (r .book ++ (k ∷ []))) ∙ unopened (take 47 s) c'
@@ -274,7 +273,7 @@ module _ {s : List ℕ} {n end : ℕ} {at next heads : List ℕ} (r : Reading s 
                 ids = λ j y rest e. stands j y rest e .id;
               }
 
-          pub entry-added : {to after tops : List ℕ} → Index s (n + 1) to after tops → to ≡ set at n end → Reading s (n + 1) (end + c .place + 108) to after tops
+          pub entry-added : {to after tops : List ℕ} → Index s (n + 1) to after tops → to ≡ set at n end → Reading s (n + 1) (end + c + 108) to after tops
           unfolding used
           entry-added i e =
               record {

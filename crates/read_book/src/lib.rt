@@ -1,6 +1,6 @@
 // Reads a book: its settings, its entries and the zeros behind them, and makes an index of the entries.
 use index::Place;
-use layout::ReadKept;
+use record::End;
 use schedule::ReadSettings;
 use schedule::Settings;
 ghost use mathlib.Core.Path.{_≡_};
@@ -57,16 +57,15 @@ fn read_entry(
     if n == index::MOST {
         return ReadEntry::Unreadable;
     }
-    let ReadKept::Kept(k) = layout::read_kept(&book[place..]) else {
+    let End::At(size) = layout::kept_end(&book[place..]) else {
         return ReadEntry::Unreadable;
     };
-    let info = k.info;
-    let id = info.id;
+    let id = point::point_id_at(book, place + 3);
     let Place::Absent = index::find(book, n, at, next, heads, id) else {
         return ReadEntry::Unreadable;
     };
     index::insert(book, n, place, at, next, heads);
-    let end = place + k.place + 108;
+    let end = place + size + 108;
     ReadEntry::Ends(end)
 }
 

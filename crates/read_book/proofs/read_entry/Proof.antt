@@ -3,18 +3,18 @@ use Prim.Native.Nat.{ℕ, _-_, _<_}
 use native.Mathlib.Omega.{arith}
 use mathlib.Core.Path.{_≡_, ap, sym, subst, _∙_}
 use mathlib.Core.Bool.{false}
+use mathlib.Core.Option.{none}
 use mathlib.Core.List.{List}
 use lib.ListN.{length, getD, take, drop}
 use lib.Dec.{eqb}
 use denote.Ref.{now}
 use borrow.Author.Tests.{not-true}
+use Rattle.point.specs.Point.{PointId}
 use Rattle.entries.proofs.Laws.{rest}
-use Rattle.plain_book.specs.Kept.{Kept}
 use Rattle.plain_book.specs.Layout.{keptFront}
 use Rattle.index.specs.Index.{FoundAt}
 use Rattle.index.specs.declared.Place.{Place}
-use Rattle.layout.specs.Values.{keptOf, readKeptOf}
-use Rattle.layout.specs.declared.read.Kept as code-kept
+use Rattle.layout.specs.Values.{EntryTo}
 use Rattle.read_book.proofs.Steps.{EntryAt, entry-at, too-many, no-entry, id-twice, entry-added}
 use borrow.Author.Needs.{needs}
 use Rattle.read_book.proofs.read_entry.Statement.{statement}
@@ -37,43 +37,41 @@ room c = omega (arith, c .if1 .left, start c .pre .0 .index .room)
 abbrev begun : tie.After-known-told → tie.Else1
 begun c = c .before .before .before .before .before
 
-abbrev code : tie.After-known-told → code-kept.Kept
-code c = c .before .k .given .0 .0
+abbrev size : tie.After-known-told → ℕ
+size c = c .before .size .given .0 .0
 
 abbrev slice : tie.Else1 → List ℕ
 slice c = take (length (book c) - start c .args .place) (drop (start c .args .place) (book c))
 
-abbrev entry : tie.After-known-told → Kept
-entry c = keptOf (take (code c .place) (slice (begun c))) (code c)
+to : (c : tie.After-known-told) → EntryTo (slice (begun c)) (size c)
+to c = rw (c .before .size .given .1) at (c .before .before .before .kept-end .ensures)
 
-kept : (c : tie.After-known-told) → let e = begun c in EntryAt (book e) (start e .args .place) (code c) (entry c)
+kept : (c : tie.After-known-told) → let e = begun c in EntryAt (book e) (start e .args .place) (size c) (to c .kept)
 kept c =
     let e = begun c in
-    let k = c .before .before .before .read-kept .ensures in
-    entry-at (book e) (start e .args .place) (slice e) (rest (start e .args .place) (book e)) (code c)
-    (rw (c .before .k .given .1) at (k .0))
-    (rw (c .before .k .given .1) at (k .1))
-    (start e .pre .0 .within)
+    entry-at (book e) (start e .args .place) (slice e) (rest (start e .args .place) (book e)) (size c) (to c) (start e .pre .0 .within)
 
 -- no other has its id
 abbrev looked : tie.After-find → tie.After-known-told
-looked c = c .before .before .before .before .before .before
+looked c = c .before .before .before .before .before
 
 found : (c : tie.After-find) (r : Place) → c .find .result ≡ r → let w = looked c in
     let st = start (begun w) in
-    FoundAt (now (st .args .book)) (st .args .n) (now (st .args .at)) (entry w .point .id) r
+    FoundAt (now (st .args .book)) (st .args .n) (now (st .args .at)) (to w .kept .point .id) r
 found c r e =
     let w = looked c in
     let st = start (begun w) in
-    subst (FoundAt (now (st .args .book)) (st .args .n) (now (st .args .at)) (entry w .point .id)) e (c .find .ensures)
+    let i = c .before .before .before .before .point-id-at .ensures ∙ kept w .id in
+    subst (λ (x : PointId). FoundAt (now (st .args .book)) (st .args .n) (now (st .args .at)) x r) i
+    (subst (FoundAt (now (st .args .book)) (st .args .n) (now (st .args .at)) _) e (c .find .ensures))
 
-abbrev inserted : tie.After-struct-known → tie.After-insert
-inserted c = c .before .before .before .before .before .before .before
+abbrev inserted : tie.After-slice-known6 → tie.After-insert
+inserted c = c .before .before .before .before .before .before
 
 abbrev new : tie.After-insert → tie.After-enum-told2
 new c = c .before .before .before .before
 
-abbrev added : tie.After-struct-known → tie.After-known-told
+abbrev added : tie.After-slice-known6 → tie.After-known-told
 added c = looked (new (inserted c) .before .before)
 
 returns : tie.Need-returns
@@ -81,20 +79,20 @@ returns c =
     let st = c .before .before .before .before .before in
     too-many (st .pre .0) (not-true _ (st .pre .1 .1)) (c .if1 .taken)
 
-sub-read-kept : tie.Need-sub-read-kept
-sub-read-kept c = search needs
+sub-kept-end : tie.Need-sub-kept-end
+sub-kept-end c = search needs
 
-part-read-kept-start : tie.Need-part-read-kept-start
-part-read-kept-start c = search needs
+part-kept-end-start : tie.Need-part-kept-end-start
+part-kept-end-start c = search needs
 
-part-read-kept-end : tie.Need-part-read-kept-end
-part-read-kept-end c = search needs
+part-kept-end-end : tie.Need-part-kept-end-end
+part-kept-end-end c = search needs
 
-read-kept-requires : tie.Need-read-kept-requires
-read-kept-requires c κs = search needs
+kept-end-requires : tie.Need-kept-end-requires
+kept-end-requires c κs = search needs
 
-enum-known-k : tie.Need-enum-known-k
-enum-known-k c = search needs
+enum-known-size : tie.Need-enum-known-size
+enum-known-size c = search needs
 
 enum-told : tie.Need-enum-told
 enum-told c = search needs
@@ -102,9 +100,14 @@ enum-told c = search needs
 returns-2 : tie.Need-returns-2
 returns-2 c =
     let e = c .before .before .before .before in
-    let k = c .before .before .read-kept .ensures .0 in
-    no-entry (start e .pre .0) (begins e) (room e)
-    (ap keptFront (sym (rest (start e .args .place) (book e))) ∙ (sym k ∙ ap (readKeptOf (slice e)) (c .enum-told .given .1)))
+    let k : keptFront (slice e) ≡ none = rw (c .enum-told .given .1) at (c .before .before .kept-end .ensures) in
+    no-entry (start e .pre .0) (begins e) (room e) (ap keptFront (sym (rest (start e .args .place) (book e))) ∙ k)
+
+add-point-id-at : tie.Need-add-point-id-at
+add-point-id-at c = search needs
+
+point-id-at-requires : tie.Need-point-id-at-requires
+point-id-at-requires c κs = omega (arith, kept c .room)
 
 find-requires : tie.Need-find-requires
 find-requires c κs = search needs
@@ -129,7 +132,7 @@ returns-3 c =
     let f = c .before .before in
     let w = looked f in
     let e = begun w in
-    id-twice (start e .pre .0) (begins e) (room e) (code w) (entry w) (kept w) (c .enum-told3 .given .0 .0)
+    id-twice (start e .pre .0) (begins e) (room e) (size w) (to w .kept) (kept w) (c .enum-told3 .given .0 .0)
     (found f _ (c .enum-told3 .given .1))
 
 insert-requires : tie.Need-insert-requires
@@ -164,7 +167,7 @@ returns-4 c =
     let e = begun w in
     let i = inserted c .insert .ensures in
     let f = new (inserted c) in
-    entry-added (start e .pre .0) (begins e) (room e) (code w) (entry w) (kept w)
+    entry-added (start e .pre .0) (begins e) (room e) (size w) (to w .kept) (kept w)
     (found (f .before .before) _ (f .enum-told2 .given .1)) (i .0) (i .1)
 
 pub read-entry-spec : {M : Type 1} → statement M
@@ -172,13 +175,15 @@ read-entry-spec =
     tie.close
     (tie.spec
     returns
-    sub-read-kept
-    part-read-kept-start
-    part-read-kept-end
-    read-kept-requires
-    enum-known-k
+    sub-kept-end
+    part-kept-end-start
+    part-kept-end-end
+    kept-end-requires
+    enum-known-size
     enum-told
     returns-2
+    add-point-id-at
+    point-id-at-requires
     find-requires
     enum-told-2
     enum-told-3
