@@ -2,9 +2,9 @@
 use Prim.Native.Nat.{ℕ}
 use mathlib.Core.Path.{_≡_}
 use mathlib.Core.Bool.{true, false}
-use mathlib.Core.Option.{Option, none, some}
+use mathlib.Core.Option.{none, some}
 use mathlib.Core.List.{List, [], _∷_}
-use Rattle.base.specs.Base.{concat, firstOf, lastOf}
+use Rattle.base.specs.Base.{concat, firstOf}
 use Rattle.map.specs.Rows.{Pair}
 use Rattle.point.specs.Point.{PointId, Includes, Direct, Indirect, PointInfo, isWaveFarEnough, isAnchorProof, isAnchorTrigger, stickyAnchors}
 use Rattle.point.specs.declared.data.PointRole.{PointRole}
@@ -15,9 +15,9 @@ use Rattle.reasons.specs.declared.ill_formed.StructureIssue.the-variants.{Autho
 use Rattle.reasons.specs.declared.ill_formed.IllFormedReason.the-variants.{TooManyStickyAnchors, BadLastStickyFlag}
 use Rattle.reasons.specs.declared.ill_formed.VerifyError.the-variants.{IllFormed}
 use Rattle.verifier.specs.Verify.{structureRows, genesisStructureRows, stickyFault}
-use Rattle.reasons.specs.Invalid.{InvalidReason, invalidNumber, InvalidDependency}
-use Rattle.verifier.specs.DagPoint.{DagPoint, Valid, TransInvalid, NotFound, Dropped, Entry, pointView}
-use Rattle.verifier.specs.Validate.{directTrail, recordOf, join}
+use Rattle.reasons.specs.Invalid.{invalidNumber, InvalidDependency}
+use Rattle.verifier.specs.DagPoint.{DagPoint, Valid, TransInvalid, NotFound, Dropped, Entry}
+use Rattle.verifier.specs.Validate.{ValidateResult, isInvalid, isTransInvalid, isValid, overLists}
 
 -- settings with sticky_anchors 3, a clock skew of 500 and a history of 21
 unfoldable pub conf : Settings
@@ -55,11 +55,11 @@ own = record { peer = 1; digest = 0 } ∷ []
 abbrev pub targetAt : ℕ → PointId
 targetAt round = record { round = round; digest = 4; author = 2 }
 
--- a point of a round whose two links go through a peer's point to one target at round 16
-abbrev pub linkedAt : PointId → List Pair → List ℕ → ℕ → ℕ → PointInfo
-linkedAt i included evidenced peer time =
+-- a point whose two links go through a peer's point to one target at round 16
+abbrev pub linkedAt : ℕ → ℕ → List Pair → List ℕ → ℕ → ℕ → PointInfo
+linkedAt author round included evidenced peer time =
     record {
-      id = i;
+      id = record { round = round; digest = 7; author = author };
       payloadLen = 0;
       payloadBytes = 0;
       includes = included;
@@ -72,41 +72,45 @@ linkedAt i included evidenced peer time =
       anchorTime = 10;
     }
 
--- the judged point of P8 to P10: round 22, time 1,000, without a previous point; it includes points of authors 2 and 3
-abbrev pub judged : PointInfo
-judged =
-    linkedAt (record { round = 22; digest = 5; author = 1 })
-    (record { peer = 2; digest = 4 } ∷ record { peer = 3; digest = 3 } ∷ []) [] 2 1000
+-- the judged point of P6 to P10: time 1,000, without a previous point; it includes points of authors 2 and 3
+abbrev pub judgedAt : ℕ → PointInfo
+judgedAt round = linkedAt 1 round (record { peer = 2; digest = 7 } ∷ record { peer = 3; digest = 7 } ∷ []) [] 2 1000
+
+-- a point that it includes
+abbrev pub includedAt : ℕ → ℕ → ℕ → PointInfo
+includedAt author round time = linkedAt author round (record { peer = author; digest = 6 } ∷ []) (1 ∷ []) author time
 
 abbrev pub entryWith : DagPoint → Entry
 entryWith state = record { state = state; certified = false; firstValid = false }
 
--- its dependencies: of author 2 at this time; of author 3, sound or not found; and one that was dropped with its round
+-- entries of a point of round 111: of author 2 at this time; of author 3, sound or not found; and one that was dropped with its round
 abbrev pub ofTwo : ℕ → Entry
-ofTwo time =
-    entryWith (Valid (linkedAt (record { round = 21; digest = 4; author = 2 }) (record { peer = 2; digest = 7 } ∷ []) (3 ∷ []) 2 time))
+ofTwo time = entryWith (Valid (includedAt 2 110 time))
 
 abbrev pub ofThree : Entry
-ofThree =
-    entryWith (Valid (linkedAt (record { round = 21; digest = 3; author = 3 }) (record { peer = 3; digest = 7 } ∷ []) (2 ∷ []) 3 900))
+ofThree = entryWith (Valid (includedAt 3 110 900))
 
 abbrev pub notFound : Entry
-notFound = entryWith (NotFound (record { round = 21; digest = 3; author = 3 }))
+notFound = entryWith (NotFound (record { round = 110; digest = 7; author = 3 }))
 
 abbrev pub dropped : Entry
 dropped = entryWith Dropped
 
--- the number of the reason that a direct list gives, 0 if none
-abbrev pub numberOf : Option InvalidReason → ℕ
-numberOf none = 0
-numberOf (some reason) = invalidNumber reason
+-- a trans-invalid entry whose root cause is at round 90 with this reason, and what is recorded of it
+abbrev pub rooted : ℕ → ℕ → ℕ → Entry
+rooted author round n = entryWith (TransInvalid (includedAt author round 900) (targetAt 90) n)
 
-abbrev pub given : List Entry → ℕ
-given l = numberOf (lastOf (directTrail conf false (pointView judged) false l))
+abbrev pub rootOf : ℕ → ℕ → InvalidDependency
+rootOf author n = record { to = targetAt 90; reason = n; through = Includes author }
 
--- a root cause at round 90 with this reason
-abbrev pub rootAt90 : ℕ → InvalidDependency
-rootAt90 n = record { to = targetAt 90; reason = n; through = Includes 2 }
+-- the verdict over direct entries alone, and the number of its reason, 0 if none
+abbrev pub over : ℕ → List Entry → ValidateResult
+over round es = overLists conf false (judgedAt round) es []
+
+abbrev pub numberOf : ValidateResult → ℕ
+numberOf (isInvalid reason) = invalidNumber reason
+numberOf (isTransInvalid root) = 0
+numberOf isValid = 0
 
 pub record Edges : Type 0 where
   -- P1 Indirect link 3 rounds back: near; 4: far; direct: near
@@ -131,17 +135,17 @@ pub record Edges : Type 0 where
   pub lastTooSoon : firstOf (stickyFault conf (stickyAnchors (AnchorProof 2 true))) ≡ some (IllFormed BadLastStickyFlag)
   pub lastInTime : firstOf (stickyFault conf (stickyAnchors (AnchorProof 3 true))) ≡ none
   -- P6 Root 90, history 21: recorded at r−1 = 110, not at 111
-  pub inWindow : recordOf conf 111 false (Includes 2) (TransInvalid judged (targetAt 90) 6) ≡ some (rootAt90 6)
-  pub pastWindow : recordOf conf 112 false (Includes 2) (TransInvalid judged (targetAt 90) 6) ≡ none
+  pub inWindow : over 111 (rooted 2 110 6 ∷ []) ≡ isTransInvalid (rootOf 2 6)
+  pub pastWindow : over 112 (rooted 2 111 6 ∷ []) ≡ isValid
   -- P7 Equal rounds: reason 2 then 6 records 6; 6 then 2 keeps 6
-  pub dagRoundLater : join (some (rootAt90 2)) (some (rootAt90 6)) ≡ some (rootAt90 6)
-  pub dagRoundFirst : join (some (rootAt90 6)) (some (rootAt90 2)) ≡ some (rootAt90 6)
+  pub dagRoundLater : over 111 (rooted 2 110 2 ∷ rooted 3 110 6 ∷ []) ≡ isTransInvalid (rootOf 3 6)
+  pub dagRoundFirst : over 111 (rooted 2 110 6 ∷ rooted 3 110 2 ∷ []) ≡ isTransInvalid (rootOf 2 6)
   -- P8 Entries giving 11 then 19: 19
-  pub lastReason : given (ofTwo 1501 ∷ notFound ∷ []) ≡ 19
-  pub lastReasonReversed : given (notFound ∷ ofTwo 1501 ∷ []) ≡ 11
+  pub lastReason : numberOf (over 111 (ofTwo 1501 ∷ notFound ∷ [])) ≡ 19
+  pub lastReasonReversed : numberOf (over 111 (notFound ∷ ofTwo 1501 ∷ [])) ≡ 11
   -- P9 11 then dropped: 11; dropped first: 3
-  pub droppedLater : given (ofTwo 1501 ∷ dropped ∷ []) ≡ 11
-  pub droppedFirst : given (dropped ∷ ofTwo 1501 ∷ []) ≡ 3
+  pub droppedLater : numberOf (over 111 (ofTwo 1501 ∷ dropped ∷ [])) ≡ 11
+  pub droppedFirst : numberOf (over 111 (dropped ∷ ofTwo 1501 ∷ [])) ≡ 3
   -- P10 Time 1,000, skew 500, an entry that isn't the previous point: 1,500 passes, 1,501 gives 11
-  pub inSkew : given (ofTwo 1500 ∷ ofThree ∷ []) ≡ 0
-  pub pastSkew : given (ofTwo 1501 ∷ ofThree ∷ []) ≡ 11
+  pub inSkew : over 111 (ofTwo 1500 ∷ ofThree ∷ []) ≡ isValid
+  pub pastSkew : numberOf (over 111 (ofTwo 1501 ∷ ofThree ∷ [])) ≡ 11
