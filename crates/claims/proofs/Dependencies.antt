@@ -1,7 +1,7 @@
 -- What it says of a point's dependencies that no check gave a reason: each is kept, not ill-formed, and passed every rule.
 use Prim.Native.Nat.{ℕ, _-_, _≤_}
 use native.Mathlib.Omega.{arith}
-use mathlib.Core.Path.{_≡_, refl, sym, ap, _∙_}
+use mathlib.Core.Path.{_≡_, refl, sym, ap, _∙_, subst}
 use mathlib.Core.Logic.{_⊎_, inl, inr}
 use mathlib.Core.Bool.{Bool, true, false, not, _&&_}
 use mathlib.Core.Option.{Option, none, some}
@@ -15,8 +15,9 @@ use Rattle.point.specs.declared.data.AnchorStageRole.{AnchorStageRole}
 use Rattle.point.specs.declared.data.AnchorStageRole.the-variants.{Proof, Trigger}
 use Rattle.schedule.specs.Settings.{Settings}
 use Rattle.verifier.specs.DagPoint.{Entry, entryId, isDropped, linkIds, pointView, linksIn, depView, topIn}
-use Rattle.verifier.specs.Validate.{newerRow, anchorTimeRow, carriedRow, sourceRow, anchorRows, pointRows, Taken, asDependency, asPrevPoint, taken, dependencyTrail, entryTrailAs, entryTrail}
-use Rattle.validate.proofs.Laws.{RowsNone, rows-none}
+use Rattle.verifier.specs.Validate.{newerRow, anchorTimeRow, carriedRow, sourceRow, anchorRows, pointRows, Taken, asDependency, asPrevPoint, taken}
+use Rattle.validate.specs.Passed.{RowsNone, EntryRowsNone}
+use Rattle.validate.proofs.Laws.{by-position}
 use Rattle.mismatch.specs.Mismatch.{pairId}
 use Rattle.plain_book.specs.Kept.{Status, Valid, TransInvalid, Invalid, IllFormed, Kept, Book, find}
 use Rattle.plain_book.specs.Lists.{dagPoint, keptEntry, entryWith, lookup, lookups, directList}
@@ -104,26 +105,23 @@ module _ (c : Settings) (b : Book) (p : PointInfo) (required : Bool) where
   clean-state isPrevPoint i h = go (find b i) refl h
     where
       of : (k : Kept) → find b i ≡ some k → (s : Status) → k .status ≡ s → RowsNone c required isPrevPoint (pointView p) (dagPoint (k .point) s) → Clean c b p required i
-      of k f Valid e r = record { entry = k; kept = f; formed = rw e tt; isPrevPoint = isPrevPoint; rows = r }
-      of k f (TransInvalid d) e r = record { entry = k; kept = f; formed = rw e tt; isPrevPoint = isPrevPoint; rows = r }
-      of k f (Invalid n) e r = record { entry = k; kept = f; formed = rw e tt; isPrevPoint = isPrevPoint; rows = r }
+      of k f Valid e r = record { entry = k; kept = f; formed = rw e tt; isPrevPoint = isPrevPoint; rows = by-position _ r }
+      of k f (TransInvalid d) e r = record { entry = k; kept = f; formed = rw e tt; isPrevPoint = isPrevPoint; rows = by-position _ r }
+      of k f (Invalid n) e r = record { entry = k; kept = f; formed = rw e tt; isPrevPoint = isPrevPoint; rows = by-position _ r }
       of k f (IllFormed n) e r = absurd r
 
       go : (o : Option Kept) → find b i ≡ o → RowsNone c required isPrevPoint (pointView p) (entryWith b p i o .state) → Clean c b p required i
       go none f r = absurd r
       go (some k) f r = of k f (k .status) refl r
 
-  taken-trail : (isPrevPoint : Bool) (e : Entry) → entryTrailAs c required (pointView p) (takenAs isPrevPoint) e ≡ dependencyTrail c required isPrevPoint (pointView p) (e .state)
-  taken-trail true e = refl
-  taken-trail false e = refl
+  taken-rows : (isPrevPoint : Bool) (e : Entry) → EntryRowsNone c required (pointView p) (takenAs isPrevPoint) e → RowsNone c required isPrevPoint (pointView p) (e .state)
+  taken-rows true e h = h
+  taken-rows false e h = h
 
-  clean : (i : PointId) → IsTaken p i → entryTrail c required (pointView p) (lookup b p i) ≡ [] → Clean c b p required i
-  unfolding entryTrail
+  clean : (i : PointId) → IsTaken p i → EntryRowsNone c required (pointView p) (taken (pointView p) (entryId (lookup b p i .state))) (lookup b p i) → Clean c b p required i
   clean i w h =
       let e : taken (pointView p) (entryId (lookup b p i .state)) ≡ takenAs (w .0) = ap (taken (pointView p)) (lookup-id b p i) ∙ w .1 in
-      clean-state (w .0) i
-      (rows-none c required (w .0) (pointView p) (lookup b p i .state)
-      (sym (taken-trail (w .0) (lookup b p i)) ∙ (ap (λ (t : Taken). entryTrailAs c required (pointView p) t (lookup b p i)) (sym e) ∙ h)))
+      clean-state (w .0) i (taken-rows (w .0) (lookup b p i) (subst (λ (t : Taken). EntryRowsNone c required (pointView p) t (lookup b p i)) e h))
 
 -- ---- what its rules say
 
@@ -204,7 +202,7 @@ module _ (c : Settings) (b : Book) (p : PointInfo) (required : Bool) (i : PointI
 -- ---- of a point whose direct list gave no reason
 
 module _ (c : Settings) (b : Book) (p : PointInfo) (required : Bool) (rise : rising (peers (p .includes)) ≡ true) (second : 2 ≤ p .id .round)
-    (passed : (e : Entry) → List·Memᴰ e (directList b p) → (isDropped (e .state) ≡ false) × (entryTrail c required (pointView p) e ≡ [])) where
+    (passed : (e : Entry) → List·Memᴰ e (directList b p) → (isDropped (e .state) ≡ false) × EntryRowsNone c required (pointView p) (taken (pointView p) (entryId (e .state))) e) where
   includes-clean : (q : Pair) → List·Memᴰ q (p .includes) → Clean c b p required (pairId (p .id .round - 1) q)
   includes-clean q m =
       clean c b p required (pairId (p .id .round - 1) q) (includes-taken p q rise m) (passed _ (includes-listed b p q m) .1)

@@ -26,7 +26,8 @@ use Rattle.verify.specs.Call.{Input, Tested, refused, taken, testedWith}
 use Rattle.check_ill_formed.specs.declared.WaveChecked.{WaveChecked}
 use Rattle.check_ill_formed.specs.declared.WaveChecked.the-variants as case-wave
 use Rattle.check_ill_formed.specs.WaveChecked.{waveChecked}
-use Rattle.validate.proofs.Laws.{hasReason, Passed, validate-all}
+use Rattle.validate.specs.Passed.{hasReason, Passed}
+use Rattle.validate.proofs.Laws.{validate-all}
 use Rattle.mismatch.specs.Mismatch.{mismatch, uncovered, entriesIn}
 use Rattle.judge.specs.Judge.{Number, Given, ofError, Before, answered, needed, beforeWith, before}
 use Rattle.plain_book.specs.Kept.{Status, Valid, TransInvalid, Invalid, IllFormed, Kept, Book, find, markOne, mark, markPrev}

@@ -12,8 +12,8 @@ use Rattle.schedule.specs.Settings.{Settings}
 use Rattle.verifier.specs.DagPoint.{Entry, pointView}
 use Rattle.verifier.specs.Validate.{ofResult, overLists}
 use Rattle.entries.specs.Entries.{Listed, readList, directThen, directs, indirectThen, indirects}
-use Rattle.validate.specs.Validated.{Judging, listedStep, listedFold, resultOf}
-use Rattle.validate.proofs.Laws.{listed-over-lists}
+use Rattle.validate.specs.Validated.{Judging, resultOf}
+use Rattle.validate.proofs.Laws.{listedStep, listedFold, listed-over-lists}
 use Rattle.mismatch.specs.Mismatch.{uncovers, anyUncovers, entriesIn, uncovered}
 use Rattle.judge_list.specs.Walk.{Walk, Viewed, viewed, stepAs, prevIn, walkStep, walkFold, walkWith, walkStart}
 use Rattle.judge_list.specs.JudgedList.{Judged, judgedWith}

@@ -6,19 +6,20 @@ use mathlib.Core.Path.{_≡_, refl, sym, ap, _∙_, subst}
 use mathlib.Core.Logic.{_⊎_, inl, inr}
 use mathlib.Core.Bool.{Bool, true, false, not, _&&_, _||_}
 use mathlib.Core.Option.{Option, none, some}
-use mathlib.Core.List.{List, [], _∷_, _++_, List·Memᴰ, List·Memᴰ·not-nil, List·Memᴰ·cases-cons}
+use mathlib.Core.List.{List, [], _∷_, _++_, List·Memᴰ, List·Memᴰ·head, List·Memᴰ·tail, List·Memᴰ·not-nil, List·Memᴰ·cases-cons}
 use lib.ListN.{length, drop}
 use lib.Dec.{eqb}
-use Rattle.base.specs.Base.{pick, iff, lastOf, isSome, isEmpty}
-use Rattle.base.proofs.Laws.{and-right, picked, append-none, AllNone, all-none, last-none}
+use Rattle.base.specs.Base.{pick, iff, concat, lastOf, isSome, isEmpty}
+use Rattle.base.proofs.Laws.{and-right, picked, append-none, AllNone, last-none}
 use Rattle.point.specs.Point.{PointInfo}
 use Rattle.point.specs.declared.data.AnchorStageRole.{AnchorStageRole}
 use Rattle.schedule.specs.Settings.{Settings}
 use Rattle.reasons.specs.Invalid.{InvalidReason, DependencyRoundDropped, InvalidDependency}
-use Rattle.verifier.specs.DagPoint.{DagPoint, Valid, TransInvalid, Invalid, IllFormed, NotFound, Dropped, depView, Entry, IndirectEntry, isDropped, PointView, pointView}
-use Rattle.verifier.specs.Validate.{pointRows, dependencyTrail, entryTrail, directTrail, indirectPointRows, indirectEntryTrail, indirectTrail, entryRecord, join, directRecord, indirectRecord, ValidateResult, isInvalid, isTransInvalid, isValid, resultWith, overLists, presenceReason, validateWith, validate}
+use Rattle.verifier.specs.DagPoint.{DagPoint, Valid, TransInvalid, Invalid, IllFormed, NotFound, Dropped, depView, Entry, IndirectEntry, entryId, isDropped, PointView, pointView}
+use Rattle.verifier.specs.Validate.{pointRows, Taken, asDependency, asPrevPoint, asVersion, aside, taken, dependencyTrail, entryTrailAs, entryTrail, directTrail, indirectPointRows, indirectEntryTrail, indirectTrail, entryRecord, join, directRecord, indirectRecord, resultWith, overLists, presenceReason, validateWith, validate}
 use Rattle.entries.specs.Entries.{Listed, readEntry, isInOrder, listThen, listWith, listFrom, directThen, directs, indirectThen, indirects}
-use Rattle.validate.specs.Validated.{Judging, laterOf, orDropped, start, directStep, indirectStep, directFold, targetStep, indirectFold, listedStep, listedFold, resultOf}
+use Rattle.validate.specs.Validated.{Judging, laterOf, orDropped, start, directStep, indirectStep, directFold, targetStep, indirectFold, resultOf}
+use Rattle.validate.specs.Passed.{hasReason, AllEmpty, RowsNone, EntryRowsNone, TargetRowsNone, Passed}
 
 -- ---- the last reason
 
@@ -175,6 +176,17 @@ module _ (c : Settings) (required : Bool) (p : PointInfo) where
 
 -- ---- a list as it stands
 
+-- an entry is judged by what it is for
+abbrev pub listedStep : Option AnchorStageRole → Settings → Bool → PointInfo → Judging → Entry → Judging
+listedStep none c required p j e = directStep c required (pointView p) j e
+listedStep (some g) c required p j e = targetStep c p g j e
+
+-- over a list as it stands, direct and indirect entries mixed
+unfoldable pub listedFold : Settings → Bool → PointInfo → Judging → List Listed → Judging
+unfolding directStep indirectStep pointView
+listedFold c required p j [] = j
+listedFold c required p j (x ∷ l) = listedFold c required p (listedStep (x .aim) c required p j (x .entry)) l
+
 -- no direct entry stands behind an indirect one
 unfoldable inOrder : Bool → List Listed → Bool
 inOrder behind [] = true
@@ -262,10 +274,20 @@ module _ (c : Settings) (required : Bool) (p : PointInfo) where
 
 -- ---- a point that is not invalid: no check of any entry gave a reason
 
-abbrev pub hasReason : ValidateResult → Bool
-hasReason (isInvalid r) = true
-hasReason (isTransInvalid d) = false
-hasReason isValid = false
+-- each row of a table that gives no reason
+all-empty : (rows : List (List InvalidReason)) → concat rows ≡ [] → AllEmpty rows
+unfolding concat
+all-empty [] h row m = absurd (List·Memᴰ·not-nil m)
+all-empty (r ∷ l) h row m = go (append-none r (concat l) h) (all-empty l) (List·Memᴰ·cases-cons m)
+  where
+    go : (r ≡ []) × (concat l ≡ []) → (concat l ≡ [] → AllEmpty l) → (row ≡ r) ⊎ List·Memᴰ row l → row ≡ []
+    go n f (inl q) = q ∙ n .0
+    go n f (inr m′) = f (n .1) row m′
+
+-- the same by position
+pub by-position : (rows : List (List InvalidReason)) → AllEmpty rows → AllNone rows
+by-position [] f = tt
+by-position (r ∷ l) f = (f r (List·Memᴰ·head refl), by-position l (λ row m. f row (List·Memᴰ·tail m)))
 
 module _ (c : Settings) (required : Bool) (p : PointView) where
   -- each direct entry
@@ -303,47 +325,29 @@ module _ (c : Settings) (p : PointView) where
       go n f (inl q) = ap (λ (y : IndirectEntry). indirectEntryTrail c (y .role) p (y .entry .state)) q ∙ n .0
       go n f (inr m′) = f (n .1) a m′
 
--- each row of a dependency's table is empty; a dependency that has no point gives its reason
-abbrev pub RowsNone : Settings → Bool → Bool → PointView → DagPoint → Type 0
-RowsNone c required isPrevPoint p (Valid q) = AllNone (pointRows c required isPrevPoint p (depView q))
-RowsNone c required isPrevPoint p (TransInvalid q root n) = AllNone (pointRows c required isPrevPoint p (depView q))
-RowsNone c required isPrevPoint p (Invalid q n) = AllNone (pointRows c required isPrevPoint p (depView q))
-RowsNone c required isPrevPoint p (IllFormed i n) = ⊥
-RowsNone c required isPrevPoint p (NotFound i) = ⊥
-RowsNone c required isPrevPoint p Dropped = Unit
-
-pub rows-none : (c : Settings) (required isPrevPoint : Bool) (p : PointView) (d : DagPoint) → dependencyTrail c required isPrevPoint p d ≡ [] → RowsNone c required isPrevPoint p d
+rows-none : (c : Settings) (required isPrevPoint : Bool) (p : PointView) (d : DagPoint) → dependencyTrail c required isPrevPoint p d ≡ [] → RowsNone c required isPrevPoint p d
 unfolding dependencyTrail
-rows-none c required isPrevPoint p (Valid q) h = all-none (pointRows c required isPrevPoint p (depView q)) h
-rows-none c required isPrevPoint p (TransInvalid q root n) h = all-none (pointRows c required isPrevPoint p (depView q)) h
-rows-none c required isPrevPoint p (Invalid q n) h = all-none (pointRows c required isPrevPoint p (depView q)) h
+rows-none c required isPrevPoint p (Valid q) h = all-empty (pointRows c required isPrevPoint p (depView q)) h
+rows-none c required isPrevPoint p (TransInvalid q root n) h = all-empty (pointRows c required isPrevPoint p (depView q)) h
+rows-none c required isPrevPoint p (Invalid q n) h = all-empty (pointRows c required isPrevPoint p (depView q)) h
 rows-none c required isPrevPoint p (IllFormed i n) h = let z : _≡_ {A = ℕ} 0 1 = cc in absurd (omega arith)
 rows-none c required isPrevPoint p (NotFound i) h = let z : _≡_ {A = ℕ} 0 1 = cc in absurd (omega arith)
 rows-none c required isPrevPoint p Dropped h = tt
 
-abbrev pub TargetRowsNone : Settings → AnchorStageRole → PointView → DagPoint → Type 0
-TargetRowsNone c g p (Valid q) = AllNone (indirectPointRows c g p (depView q))
-TargetRowsNone c g p (TransInvalid q root n) = AllNone (indirectPointRows c g p (depView q))
-TargetRowsNone c g p (Invalid q n) = AllNone (indirectPointRows c g p (depView q))
-TargetRowsNone c g p (IllFormed i n) = ⊥
-TargetRowsNone c g p (NotFound i) = ⊥
-TargetRowsNone c g p Dropped = Unit
-
-pub target-rows-none : (c : Settings) (g : AnchorStageRole) (p : PointView) (d : DagPoint) → indirectEntryTrail c g p d ≡ [] → TargetRowsNone c g p d
+target-rows-none : (c : Settings) (g : AnchorStageRole) (p : PointView) (d : DagPoint) → indirectEntryTrail c g p d ≡ [] → TargetRowsNone c g p d
 unfolding indirectEntryTrail
-target-rows-none c g p (Valid q) h = all-none (indirectPointRows c g p (depView q)) h
-target-rows-none c g p (TransInvalid q root n) h = all-none (indirectPointRows c g p (depView q)) h
-target-rows-none c g p (Invalid q n) h = all-none (indirectPointRows c g p (depView q)) h
+target-rows-none c g p (Valid q) h = all-empty (indirectPointRows c g p (depView q)) h
+target-rows-none c g p (TransInvalid q root n) h = all-empty (indirectPointRows c g p (depView q)) h
+target-rows-none c g p (Invalid q n) h = all-empty (indirectPointRows c g p (depView q)) h
 target-rows-none c g p (IllFormed i n) h = let z : _≡_ {A = ℕ} 0 1 = cc in absurd (omega arith)
 target-rows-none c g p (NotFound i) h = let z : _≡_ {A = ℕ} 0 1 = cc in absurd (omega arith)
 target-rows-none c g p Dropped h = tt
 
--- what it means that no reason is given
-pub record Passed (c : Settings) (required : Bool) (p : PointView) (es : List Entry) (ts : List IndirectEntry) : Type 0 where
-  pub direct : directTrail c required p false es ≡ []
-  pub indirect : indirectTrail c p ts ≡ []
-  pub entries : (e : Entry) → List·Memᴰ e es → (isDropped (e .state) ≡ false) × (entryTrail c required p e ≡ [])
-  pub targets : (a : IndirectEntry) → List·Memᴰ a ts → indirectEntryTrail c (a .role) p (a .entry .state) ≡ []
+entry-rows-none : (c : Settings) (required : Bool) (p : PointView) (how : Taken) (e : Entry) → entryTrailAs c required p how e ≡ [] → EntryRowsNone c required p how e
+entry-rows-none c required p asDependency e h = rows-none c required false p (e .state) h
+entry-rows-none c required p asPrevPoint e h = rows-none c required true p (e .state) h
+entry-rows-none c required p asVersion e h = h
+entry-rows-none c required p aside e h = tt
 
 no-reason : (o : Option InvalidReason) (w : Option InvalidDependency) → hasReason (resultWith o w) ≡ false → o ≡ none
 no-reason none w h = refl
@@ -356,14 +360,15 @@ both-none (x ∷ a) b h = let z : _≡_ {A = ℕ} 0 1 = cc in absurd (omega arit
 module _ (c : Settings) (required : Bool) (p : PointInfo) (es : List Entry) (ts : List IndirectEntry) where
   -- Valid or TransInvalid: every check passed for every entry
   pub trail-all : hasReason (overLists c required p es ts) ≡ false → Passed c required (pointView p) es ts
-  unfolding overLists
+  unfolding overLists entryTrail
   trail-all h =
       let n = both-none (directTrail c required (pointView p) false es) (indirectTrail c (pointView p) ts) (last-none _ (no-reason _ _ h)) in
       record {
-        direct = n .0;
-        indirect = n .1;
-        entries = entry-all c required (pointView p) es (n .0);
-        targets = target-all c (pointView p) ts (n .1);
+        entries =
+            λ e m.
+            (let k = entry-all c required (pointView p) es (n .0) e m in
+            (k .0, entry-rows-none c required (pointView p) (taken (pointView p) (entryId (e .state))) e (k .1)));
+        targets = λ a m. target-rows-none c (a .role) (pointView p) (a .entry .state) (target-all c (pointView p) ts (n .1) a m);
       }
 
   pub validate-all : (presence : ℕ) → hasReason (validate c required presence p es ts) ≡ false →

@@ -10,7 +10,6 @@ use Rattle.schedule.specs.Settings.{Settings}
 use Rattle.reasons.specs.Invalid.{InvalidReason, DependencyRoundDropped, InvalidDependency}
 use Rattle.verifier.specs.DagPoint.{Entry, IndirectEntry, isDropped, PointView, pointView}
 use Rattle.verifier.specs.Validate.{entryTrail, indirectEntryTrail, entryRecord, recordOf, join, ValidateResult, resultWith}
-use Rattle.entries.specs.Entries.{Listed}
 use Rattle.check_valid.specs.Views.{optionOf}
 use Rattle.dependency.specs.Recorded.{recordedOf}
 use Rattle.validate.specs.declared.step.Judging as code-judging
@@ -84,17 +83,6 @@ unfoldable pub indirectFold : Settings → PointInfo → Judging → List Indire
 unfolding indirectStep pointView
 indirectFold c p j [] = j
 indirectFold c p j (a ∷ l) = indirectFold c p (targetStep c p (a .role) j (a .entry)) l
-
--- an entry is judged by what it is for
-abbrev pub listedStep : Option AnchorStageRole → Settings → Bool → PointInfo → Judging → Entry → Judging
-listedStep none c required p j e = directStep c required (pointView p) j e
-listedStep (some g) c required p j e = targetStep c p g j e
-
--- over a list as it stands, direct and indirect entries mixed
-unfoldable pub listedFold : Settings → Bool → PointInfo → Judging → List Listed → Judging
-unfolding directStep indirectStep pointView
-listedFold c required p j [] = j
-listedFold c required p j (x ∷ l) = listedFold c required p (listedStep (x .aim) c required p j (x .entry)) l
 
 -- what judging has found, once both lists are done: "Indirect entries are judged only if the direct ones gave no reason"
 abbrev pub resultOf : Judging → ValidateResult
