@@ -32,7 +32,7 @@ pub fn direct_through(round: u32, id: PointId) -> Through
     Through::Witness(author)
 }
 
-// Whether a root cause lies commit_history_rounds back from the round before.
+// Whether a root cause lies commit_history_rounds or more back from the round before.
 fn is_out_of_window(conf: Settings, round: u32, root: u32) -> bool
     ensures { λ r. ⌜ r ≡ leb (root + settingsOf conf .commitHistoryRounds) (round - 1) ⌝ }
 {

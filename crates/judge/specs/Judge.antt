@@ -35,7 +35,7 @@ abbrev pub ofError : VerifyError → Verdict
 ofError (case-error.Fail u) = Fail u
 ofError (case-error.IllFormed r) = IllFormed r
 
--- ---- before any list is read: an answer, or that the list is needed, regular points required or not
+-- ---- before any list is read: an answer, or that the list is needed if presence is 2 or 3, regular points required or not
 
 pub data Before : Type 0 where
   answered : JudgeAnswer → Before

@@ -27,7 +27,7 @@ pub enum JudgeAnswer {
     Verdict(Verdict),
 }
 
-// An answer, or that the list is needed, regular points required or not.
+// An answer, or that the list is needed if presence is 2 or 3, regular points required or not.
 pub enum Before {
     Answered(JudgeAnswer),
     Needed(bool),

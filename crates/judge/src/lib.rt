@@ -79,7 +79,7 @@ fn judge_over_list(
     JudgeAnswer::Verdict(verdict)
 }
 
-// Judges a point whose list is needed, by how many of its rounds are in the DAG.
+// Judges a point that has no answer yet by how many of its rounds are in the DAG: with two or three its list is needed.
 fn judge_needed(
     conf: Settings,
     required: bool,

@@ -88,11 +88,12 @@ sameRole Proof Trigger = false
 sameRole Trigger Proof = false
 sameRole Trigger Trigger = true
 
--- every entry is its link's target, and no role stands twice; the flags say that one of the role stood before
+-- whether one of the role stood before, by the two flags
 abbrev pub stoodBefore : AnchorStageRole → Bool → Bool → Bool
 stoodBefore Proof proof trigger = proof
 stoodBefore Trigger proof trigger = trigger
 
+-- every entry is its link's target, and no role stands twice; the flags say which roles stood before
 unfoldable pub allTargets : PointInfo → Bool → Bool → List IndirectEntry → Bool
 unfolding sameId
 allTargets p proof trigger [] = true

@@ -1,4 +1,4 @@
--- The verdict on a point: "whether a point is ill-formed, invalid, trans-invalid or valid", or that verification failed.
+-- The verdict on a point: that it is ill-formed, invalid, trans-invalid or valid, or that verification failed.
 use Rattle.reasons.specs.Invalid.{InvalidReason, InvalidDependency, reasonOf, dependencyOf}
 use Rattle.reasons.specs.declared.ill_formed.UninitVset.{UninitVset}
 use Rattle.reasons.specs.declared.ill_formed.IllFormedReason.{IllFormedReason}

@@ -19,10 +19,12 @@ use Rattle.reasons.specs.Verdict as verdict
 
 -- ---- is_proof_ok: of the previous point q, the first reason alone
 
+-- "Some((_, false)) = proven.sticky_anchors()": a proof that is not its sequence's last
 abbrev pub isOpen : Option Sticky → Bool
 isOpen none = false
 isOpen (some k) = not (k .isLast)
 
+-- is_proof_ok returns at its first reason
 abbrev pub firstOnly : List InvalidReason → List InvalidReason
 firstOnly [] = []
 firstOnly (x ∷ l) = x ∷ []
@@ -60,6 +62,7 @@ triggerProofRow p q isTarget =
 unfoldable pub timeRow : Settings → PointView → DepView → List InvalidReason
 timeRow c p q = iff (ltb (p .time + c .clockSkewMillis) (q .time)) (DependencyTimeTooFarInFuture (q .id))
 
+-- the dependency's top has a greater round than the link's target
 unfoldable pub newerRow : AnchorStageRole → PointView → DepView → List InvalidReason
 newerRow g p q = iff (ltb (linksIn g p .target .round) (topIn g q .round)) (NewerAnchorInDependency g (q .id))
 
@@ -67,10 +70,12 @@ abbrev pub seqNo : Option Sticky → Option ℕ
 seqNo none = none
 seqNo (some k) = some (k .seqNo)
 
+-- "seq_no.checked_add(1)" is n: of 255 that is None, and here it is 256, which no seq_no n is
 abbrev pub follows : Option ℕ → ℕ → Bool
 follows none n = false
 follows (some m) n = eqb (m + 1) n
 
+-- is_sticky_sequence_ok, of a proof with a sequence number above 0: it is within the limit and follows the target's
 unfoldable pub stickyRow : Settings → DepView → Option Sticky → List InvalidReason
 stickyRow c q none = []
 stickyRow c q (some k) =
@@ -83,6 +88,7 @@ unfolding stickyRow triggerProofRow
 reachedRow c Proof p q = stickyRow c q (stickyAnchors (p .role))
 reachedRow c Trigger p q = triggerProofRow p q true
 
+-- of a link's target: it must have the link's role (is_anchor_stage)
 unfoldable pub targetRow : Settings → AnchorStageRole → PointView → DepView → List InvalidReason
 unfolding sameId reachedRow
 targetRow c g p q =
@@ -90,6 +96,7 @@ targetRow c g p q =
     (pick (isAnchorStage g (q .role)) (reachedRow c g p q) (AnchorLink g (q .id) ∷ []))
     []
 
+-- "exclusion: anchor proof inherits time from candidate": any other point has the anchor time of what its proof link leads to
 unfoldable pub anchorTimeRow : PointView → DepView → List InvalidReason
 anchorTimeRow p q =
     iff (not (isAnchorProof (p .role)) && not (eqb (q .anchorTime) (p .anchorTime))) (AnchorTimeNotInheritedFromProof (q .id))
@@ -100,6 +107,7 @@ unfolding anchorTimeRow sameId triggerProofRow
 carriedRow Proof p q = anchorTimeRow p q
 carriedRow Trigger p q = pick (sameId (q .id) (linksIn Trigger p .target)) [] (triggerProofRow p q false)
 
+-- of a link's source: its top is the link's target
 unfoldable pub sourceRow : AnchorStageRole → PointView → DepView → List InvalidReason
 unfolding sameId carriedRow
 sourceRow g p q =
@@ -155,8 +163,8 @@ dependencyTrail c required isPrevPoint p (IllFormed i n) = DepIllFormed i n ∷ 
 dependencyTrail c required isPrevPoint p (NotFound i) = DepNotFound i ∷ []
 dependencyTrail c required isPrevPoint p Dropped = []
 
--- a version that is first valid, or not found but certified, had to be referenced; any other bad one had to be skipped. Versions
--- give 9 or 10 and nothing else
+-- a version that is first valid, or not found but certified, had to be referenced; a trans-invalid, invalid or ill-formed one had
+-- to be skipped; any other gives nothing. Versions give 9 or 10 and nothing else
 abbrev pub versionTrail : Entry → DagPoint → List InvalidReason
 versionTrail e (Valid q) = iff (e .firstValid) (MustHaveReferencedPrevPoint (q .id))
 versionTrail e (TransInvalid q root n) = MustHaveSkippedRound (q .id) ∷ []
@@ -186,6 +194,7 @@ directTrail c required p set (e ∷ l) =
 
 -- ---- check_indirect_links
 
+-- of an indirect link's target that has the role: the anchor time of a proof, check_trigger_proof of a trigger
 abbrev pub indirectRow : AnchorStageRole → PointView → DepView → List InvalidReason
 indirectRow Proof p q = anchorTimeRow p q
 indirectRow Trigger p q = triggerProofRow p q true

@@ -32,7 +32,7 @@ badCount c round len =
     pick (ltb round (c .genesisRound)) false
     (pick (eqb round (c .genesisRound)) (not (eqb len 1)) (ltb len 3))
 
--- "unknown peers in anchor link target": of an indirect link alone
+-- "unknown peers in anchor {0:?} link target": of an indirect link alone
 unfoldable pub unknownTarget : Schedule → AnchorLink → Bool
 unfolding has peersFor
 unknownTarget s (Direct t) = false
