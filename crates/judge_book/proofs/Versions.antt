@@ -20,7 +20,13 @@ use Rattle.mismatch.proofs.Rows.{clash, or-left, or-right, same-sym, same-refl}
 use Rattle.plain_book.specs.Kept.{Status, Valid, TransInvalid, Invalid, IllFormed, Kept, Book, find, isTwice}
 use Rattle.plain_book.specs.Lists.{dagPoint, isValid, isOf, firstValid, keptEntry, versions}
 use Rattle.plain_book.proofs.Clear.{eq-same, differ}
-use Rattle.judge_book.specs.JudgeBook.{shown, isValidState, Versions, isFirst, versionStep, versionsFold}
+use Rattle.judge_book.specs.JudgeBook.{shown, isValidState, Versions, isFirst, versionStep}
+
+-- over the entries of a book
+unfoldable pub versionsFold : Settings → Bool → PointView → Versions → List Kept → Versions
+unfolding versionStep
+versionsFold c required p w [] = w
+versionsFold c required p w (k ∷ l) = versionsFold c required p (versionStep c required p w k) l
 
 -- ---- no id stands twice
 

@@ -2,7 +2,7 @@
 use Prim.Native.Nat.{ℕ, _-_}
 use mathlib.Core.Path.{_≡_}
 use mathlib.Core.Bool.{Bool, true, false, not, _&&_, _||_}
-use mathlib.Core.List.{List, [], _∷_, List·Memᴰ}
+use mathlib.Core.List.{List, List·Memᴰ}
 use Rattle.check_valid.specs.Views.{pointViewOf}
 use Rattle.base.specs.Base.{pick}
 use Rattle.map.specs.Rows.{Pair}
@@ -82,8 +82,3 @@ versionStep c required p w k =
       seen = w .seen || isFirst k (w .seen);
     })
     w
-
-unfoldable pub versionsFold : Settings → Bool → PointView → Versions → List Kept → Versions
-unfolding versionStep
-versionsFold c required p w [] = w
-versionsFold c required p w (k ∷ l) = versionsFold c required p (versionStep c required p w k) l

@@ -24,8 +24,8 @@ use Rattle.entries.specs.Entries.{Listed, readList, directs, indirects}
 use Rattle.mismatch.specs.Head.{Head, listed}
 use Rattle.mismatch.proofs.Heads.{Front, Reads, next-of, listed-is, directs-here, indirects-here, reads-start, reads-next, reads-end, directs-behind, directs-next, directs-last, indirects-same, indirects-next, listed-next}
 use Rattle.mismatch.specs.Mismatch.{isTargetOf, sameRole, stoodBefore, allTargets, mismatch, hasId, pairId, isAmong, isVersion, hasPlace, allPlaced, idsOf, droppedIn, lackingIn, lacking}
-use Rattle.mismatch.specs.Walk.{roundIn, pairsIn, mapsIn, amongTo, noPair, standsFor, isNewVersion, isTargetWith, Placed, Found, Marked, zerosIn, zeros}
-use Rattle.mismatch.proofs.Rows.{Maps, among-at, among-not, among-to-same, cases, clash, first-false, has-first, has-next, has-none, has-same, last-false, never, or-cases, or-left, or-right, or-swap, row-once, same-refl, same-sym, stood}
+use Rattle.mismatch.specs.Walk.{roundIn, pairsIn, mapsIn, noPair, standsFor, isNewVersion, isTargetWith, Placed, Found, Marked, zerosIn, zeros}
+use Rattle.mismatch.proofs.Rows.{amongTo, Maps, among-at, among-not, among-to-same, cases, clash, first-false, has-first, has-next, has-none, has-same, last-false, never, or-cases, or-left, or-right, or-swap, row-once, same-refl, same-sym, stood}
 
 -- ---- the marks while one entry's id goes through the maps
 

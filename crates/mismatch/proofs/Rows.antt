@@ -17,7 +17,12 @@ use Rattle.map.proofs.Laws.{peers-pairsOf, peers-length, peers-at, digests-at, 
 use Rattle.point.specs.Point.{PointId, PointInfo, prevDigest, sameId}
 use Rattle.point.proofs.Laws.{MapOf, Readable}
 use Rattle.mismatch.specs.Mismatch.{hasId, pairId, isAmong, isVersion}
-use Rattle.mismatch.specs.Walk.{roundIn, pairsIn, mapIn, mapsIn, amongTo, noPair, IsRow}
+use Rattle.mismatch.specs.Walk.{roundIn, pairsIn, mapIn, mapsIn, noPair, IsRow}
+
+-- whether an id is a dependency of the first maps
+unfoldable pub amongTo : ℕ → PointInfo → PointId → Bool
+amongTo zero p i = false
+amongTo (suc m) p i = isAmong (roundIn p m) (pairsIn p m) i || amongTo m p i
 
 -- ---- tests
 

@@ -34,11 +34,6 @@ mapIn s (suc m) = contentOf s 3
 abbrev pub mapsIn : ℕ → ℕ
 mapsIn presence = pick (eqb presence 3) 2 1
 
--- whether an id is a dependency of the first maps
-unfoldable pub amongTo : ℕ → PointInfo → PointId → Bool
-amongTo zero p i = false
-amongTo (suc m) p i = isAmong (roundIn p m) (pairsIn p m) i || amongTo m p i
-
 abbrev pub noPair : Pair
 noPair = record { peer = 0; digest = 0 }
 
