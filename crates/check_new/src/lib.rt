@@ -1,5 +1,7 @@
 // BasicVerifierInner::new: the peer sets of the point's rounds, its author, and the targets of its links.
 use parts::Id;
+use parts::PeerCount;
+use parts::PeerCountAnswer;
 use point::AnchorLink;
 use point::AnchorStageRole;
 use point::PointInfo;
@@ -21,7 +23,7 @@ ghost use Rattle.point.specs.Reading.{linkOf, pointOf};
 ghost use Rattle.verifier.specs.Verify.{badCount, unknownTarget, vsetRow, newRows};
 ghost use Rattle.verifier.specs.Found.{verifiedOf};
 
-// Whether a peer set is too small or, at genesis, not of one peer.
+// peer_count_genesis and peer_count: whether a peer set is too small or, at genesis, not of one peer.
 fn is_bad_count(conf: Settings, round: u32, len: u8) -> bool
     ensures { λ r. ⌜ r ≡ badCount (settingsOf conf) round len ⌝ }
 {
@@ -29,9 +31,12 @@ fn is_bad_count(conf: Settings, round: u32, len: u8) -> bool
         return false;
     }
     if round == conf.genesis_round {
-        return len != 1;
+        return len as usize != PeerCount::GENESIS.full();
     }
-    len < 3
+    match PeerCount::try_from(len) {
+        PeerCountAnswer::Count(_) => false,
+        PeerCountAnswer::NotEnough => true,
+    }
 }
 
 // The peer set of a round, asked for a map.
