@@ -9,6 +9,7 @@ use Rattle.reasons.specs.Invalid.{InvalidReason}
 use Rattle.verifier.specs.DagPoint.{DagPoint, Valid, TransInvalid, Invalid, IllFormed, NotFound, Dropped, depView, Entry, IndirectEntry, entryId, isDropped, PointView}
 use Rattle.verifier.specs.Validate.{pointRows, Taken, asDependency, asPrevPoint, asVersion, aside, taken, versionTrail, indirectPointRows, ValidateResult, isInvalid, isTransInvalid, isValid}
 
+-- Invalid, and not Valid or TransInvalid
 abbrev pub hasReason : ValidateResult → Bool
 hasReason (isInvalid r) = true
 hasReason (isTransInvalid d) = false
