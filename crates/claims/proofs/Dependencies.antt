@@ -21,7 +21,8 @@ use Rattle.validate.proofs.Laws.{by-position}
 use Rattle.mismatch.specs.Mismatch.{pairId}
 use Rattle.plain_book.specs.Kept.{Status, Valid, TransInvalid, Invalid, IllFormed, Kept, Book, find}
 use Rattle.plain_book.specs.Lists.{dagPoint, keptEntry, entryWith, lookup, lookups, directList}
-use Rattle.claims.specs.FoundBook.{isIllFormed, Held}
+use Rattle.claims.specs.Following.{isIllFormed}
+use Rattle.claims.specs.FoundBook.{Held}
 use Rattle.claims.proofs.Ids.{same-eq, eq-same, member-get, get-member}
 use Rattle.claims.proofs.Following.{Inherited, Linked, find-id}
 

@@ -14,8 +14,8 @@ use Rattle.point.specs.declared.data.AnchorStageRole.the-variants.{Proof, Trigg
 use Rattle.schedule.specs.Settings.{Settings}
 use Rattle.mismatch.specs.Mismatch.{pairId}
 use Rattle.plain_book.specs.Kept.{Status, Valid, TransInvalid, Invalid, IllFormed, Kept, Book, find}
-use Rattle.claims.specs.Following.{End, reached, stopped, astray, onward, arrive, stepTo, follow, hasArrived}
-use Rattle.claims.specs.FoundBook.{isUsable, isIllFormed, Held}
+use Rattle.claims.specs.Following.{isIllFormed, End, reached, stopped, astray, onward, arrive, stepTo, follow, hasArrived}
+use Rattle.claims.specs.FoundBook.{isUsable, Held}
 use Rattle.claims.proofs.Ids.{same-eq, eq-same}
 
 -- ---- what holds of an entry
@@ -87,14 +87,19 @@ and-second : (a b : Bool) → b ≡ false → (a && b) ≡ false
 and-second true b h = h
 and-second false b h = refl
 
+yes-is : (b : Bool) → T b → b ≡ true
+yes-is true h = refl
+yes-is false h = absurd h
+
 module _ (g : AnchorStageRole) (to : PointId) (k : Kept) (rest : End) where
-  arrive-own : isAnchorStage g (k .point .role) ≡ true → k .point .id ≡ to → arrive g to k rest ≡ reached k
+  arrive-own : T (not (isIllFormed (k .status))) → isAnchorStage g (k .point .role) ≡ true → k .point .id ≡ to →
+      arrive g to k rest ≡ reached k
   unfolding arrive
-  arrive-own s e = rw (eq-same (k .point .id) to e, s)
+  arrive-own f s e = rw (eq-same (k .point .id) to e, s, yes-is (not (isIllFormed (k .status))) f)
 
   arrive-past : isAnchorStage g (k .point .role) ≡ false → arrive g to k rest ≡ onward g to k rest (k .status)
   unfolding arrive
-  arrive-past s = rw (and-second (sameId (k .point .id) to) (isAnchorStage g (k .point .role)) s)
+  arrive-past s = rw (s, and-second (sameId (k .point .id) to) false refl)
 
   onward-arrives : (s : Status) → T (not (isIllFormed s)) → target g (k .point) ≡ to → (T (isUsable s) → T (hasArrived rest)) →
       T (hasArrived (onward g to k rest s))
@@ -110,7 +115,7 @@ module _ (g : AnchorStageRole) (to : PointId) (k : Kept) (rest : End) where
   arrive-arrives f e h = go (isAnchorStage g (k .point .role)) refl
     where
       go : (b : Bool) → isAnchorStage g (k .point .role) ≡ b → T (hasArrived (arrive g to k rest))
-      go true s = rw (arrive-own s (sym (top-own g (k .point) s) ∙ e)) tt
+      go true s = rw (arrive-own f s (sym (top-own g (k .point) s) ∙ e)) tt
       go false s =
           let l : target g (k .point) ≡ to = sym (top-linked g (k .point) s) ∙ e in
           rw (arrive-past s) (onward-arrives (k .status) f l (λ u. h u s l))
@@ -163,14 +168,14 @@ module _ (g : AnchorStageRole) (to : PointId) (k : Kept) (rest : End) (e : Kept)
   onward-reached (IllFormed n) h = absurd (unreached astray e refl h)
 
 -- a step towards a proof carries the anchor time, if the walk behind it does
-step-time : (to : PointId) (k : Kept) (rest : End) (e : Kept) (time : ℕ) → top Proof (k .point) ≡ to → k .point .anchorTime ≡ time →
+step-time : (to : PointId) (k : Kept) (rest : End) (e : Kept) (time : ℕ) → T (not (isIllFormed (k .status))) → top Proof (k .point) ≡ to → k .point .anchorTime ≡ time →
     (T (isUsable (k .status)) → isAnchorProof (k .point .role) ≡ false → target Proof (k .point) ≡ to → rest ≡ reached e → e .point .anchorTime ≡ time) →
     arrive Proof to k rest ≡ reached e → e .point .anchorTime ≡ time
-step-time to k rest e time l t f h = go (isAnchorProof (k .point .role)) refl
+step-time to k rest e time formed l t f h = go (isAnchorProof (k .point .role)) refl
   where
     go : (b : Bool) → isAnchorProof (k .point .role) ≡ b → e .point .anchorTime ≡ time
     go true s =
-        let x : reached k ≡ reached e = sym (arrive-own Proof to k rest s (sym (top-own Proof (k .point) s) ∙ l)) ∙ h in
+        let x : reached k ≡ reached e = sym (arrive-own Proof to k rest formed s (sym (top-own Proof (k .point) s) ∙ l)) ∙ h in
         let q : e ≡ k = cc in
         ap (λ (y : Kept). y .point .anchorTime) q ∙ t
     go false s =
@@ -188,6 +193,6 @@ module _ (c : Settings) (b : Book) (all : AllStand c b) where
       let k : Kept = x .entry in
       let m : List·Memᴰ k b = find-member b (source Proof p) k (x .kept) in
       let own : k .point .anchorTime ≡ p .anchorTime = x .inherited r in
-      step-time to k (follow Proof b to n (k .point)) e (p .anchorTime) (x .leads ∙ l) own
+      step-time to k (follow Proof b to n (k .point)) e (p .anchorTime) (x .formed) (x .leads ∙ l) own
       (λ v t d g. follow-time to n (k .point) (k .status) (all k m) v (above c b all Proof k m (x .formed) t) d t e g ∙ own)
       (subst (λ (o : Option Kept). stepTo Proof to o (λ q. follow Proof b to n q) ≡ reached e) (x .kept) h)

@@ -13,7 +13,8 @@ use Rattle.point.specs.declared.data.AnchorStageRole.{AnchorStageRole}
 use Rattle.schedule.specs.Settings.{Settings}
 use Rattle.mismatch.specs.Mismatch.{pairId}
 use Rattle.plain_book.specs.Kept.{Status, Kept, Book, find}
-use Rattle.claims.specs.FoundBook.{isIllFormed, Held, Judged, judgedOf}
+use Rattle.claims.specs.Following.{isIllFormed}
+use Rattle.claims.specs.FoundBook.{Held, Judged, judgedOf}
 use Rattle.claims.proofs.Following.{Inherited, Linked, Stands, AllStand}
 
 -- ---- what an id finds, it finds in the grown book

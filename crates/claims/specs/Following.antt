@@ -1,12 +1,18 @@
 -- Following an anchor link through a book (document 01: "A step goes there, the next along its link in that role, up to the target,
 -- which is its own Top, or an Invalid point").
 use Prim.Native.Nat.{ℕ, zero, suc}
-use mathlib.Core.Bool.{Bool, true, false, _&&_}
+use mathlib.Core.Bool.{Bool, true, false, not, _&&_}
 use mathlib.Core.Option.{Option, none, some}
 use Rattle.base.specs.Base.{pick}
 use Rattle.point.specs.Point.{PointId, PointInfo, isAnchorStage, source, target, sameId}
 use Rattle.point.specs.declared.data.AnchorStageRole.{AnchorStageRole}
 use Rattle.plain_book.specs.Kept.{Status, Valid, TransInvalid, Invalid, IllFormed, Kept, Book, find}
+
+abbrev pub isIllFormed : Status → Bool
+isIllFormed Valid = false
+isIllFormed (TransInvalid d) = false
+isIllFormed (Invalid n) = false
+isIllFormed (IllFormed n) = true
 
 -- where a walk ends: at the target in its role, at an Invalid point that links the same target, or at neither
 pub data End : Type 0 where
@@ -21,12 +27,12 @@ onward g to k rest (TransInvalid d) = rest
 onward g to k rest (Invalid n) = pick (sameId (target g (k .point)) to) (stopped k) astray
 onward g to k rest (IllFormed n) = astray
 
--- the target in its role counts as reached whatever its status; an ill-formed one can't be met there, since no dependency of a
--- Valid or TransInvalid point is ill-formed
+-- the target counts as reached in its role in any state but ill-formed
 unfoldable pub arrive : AnchorStageRole → PointId → Kept → End → End
 unfolding sameId target
 arrive g to k rest =
-    pick (sameId (k .point .id) to && isAnchorStage g (k .point .role)) (reached k) (onward g to k rest (k .status))
+    pick (sameId (k .point .id) to && (isAnchorStage g (k .point .role) && not (isIllFormed (k .status)))) (reached k)
+    (onward g to k rest (k .status))
 
 abbrev pub stepTo : AnchorStageRole → PointId → Option Kept → (PointInfo → End) → End
 stepTo g to none next = astray

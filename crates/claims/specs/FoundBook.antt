@@ -20,7 +20,7 @@ use Rattle.plain_book.specs.Kept.{Status, Valid, TransInvalid, Invalid, IllForm
 use Rattle.plain_book.specs.Offer.{Offer, AreBytes, offerTested, leftFrom, beforeIn, answerIn, offer, after, answers, buffers}
 use Rattle.plain_book.specs.Layout.{bookBytes}
 use Rattle.plain_book.specs.Calls.{openNumber, openBytes, bytesAfter, answersAfter, buffersAfter}
-use Rattle.claims.specs.Following.{End, reached, follow, hasArrived}
+use Rattle.claims.specs.Following.{isIllFormed, End, reached, follow, hasArrived}
 
 -- ---- kept points
 
@@ -30,12 +30,6 @@ isUsable Valid = true
 isUsable (TransInvalid d) = true
 isUsable (Invalid n) = false
 isUsable (IllFormed n) = false
-
-abbrev pub isIllFormed : Status → Bool
-isIllFormed Valid = false
-isIllFormed (TransInvalid d) = false
-isIllFormed (Invalid n) = false
-isIllFormed (IllFormed n) = true
 
 -- "every Valid or TransInvalid point above genesis"
 pub record Usable (c : Settings) (b : Book) (k : Kept) : Type 0 where
