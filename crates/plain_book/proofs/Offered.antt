@@ -37,6 +37,7 @@ use Rattle.judge.specs.Judge.{JudgeAnswer, Number, Given, Before, answered, nee
 use Rattle.plain_book.specs.Kept.{Status, Valid, TransInvalid, Invalid, IllFormed, Book, find, markPrev}
 use Rattle.plain_book.specs.Lists.{directList, indirectList}
 use Rattle.plain_book.specs.Offer.{AreBytes, Offer, used, isFull, testedRoom, offerTested, markedBy, answerWith, keptAs, leftFrom, beforeIn, markedIn, answerIn, offerWith, offer, after}
+use Rattle.plain_book.specs.Calls.{IsOfferNumber}
 use Rattle.plain_book.proofs.Fits.{point-fits}
 use Rattle.plain_book.proofs.Clear.{and-both, unfound}
 use Rattle.plain_book.proofs.Named.{listable}
@@ -102,22 +103,18 @@ module _ (c : Settings) (len : ℕ) (b : Book) (o : Offer) where
         room = ltb-false (len - 47 - used b) (length (o .bytes) + 108) (or-right (leb 4096 (length b)) _ (r .2));
       }
 
--- the numbers that an offer's tests and its judging give
-abbrev pub IsOfferNumber : ℕ → Type 0
-IsOfferNumber n = (2 ≤ n) × ((n ≤ 6) ⊎ ((11 ≤ n) × (n ≤ 12)))
-
 abbrev Refusal : Tested → Type 0
 Refusal (refused n) = IsOfferNumber n
 Refusal (taken i) = Unit
 
 with-refusal : (c : Settings) (s : Option Schedule) (p : Option PointInfo) (others : Bool) (size : ℕ) → Refusal (testedWith (some c) s p others size)
-with-refusal c none p others size = (omega arith, inl (omega arith))
-with-refusal c (some s) none others size = (omega arith, inl (omega arith))
+with-refusal c none p others size = inl (omega arith, omega arith)
+with-refusal c (some s) none others size = inl (omega arith, omega arith)
 with-refusal c (some s) (some p) others size = go (not (inDomain p && others)) (ltb size 8160)
   where
     go : (x y : Bool) → Refusal (pick x (refused 4) (pick y (refused 5) (taken (record { settings = c; schedule = s; point = p }))))
-    go true y = (omega arith, inl (omega arith))
-    go false true = (omega arith, inl (omega arith))
+    go true y = inl (omega arith, omega arith)
+    go false true = inl (omega arith, omega arith)
     go false false = tt
 
 room-refusal : (len : ℕ) (b : Book) (bytes : List ℕ) (t : Tested) → Refusal t → Refusal (testedRoom len b bytes t)
@@ -125,8 +122,8 @@ room-refusal len b bytes (refused n) h = h
 room-refusal len b bytes (taken i) h = go (isSome (find b (i .point .id))) (isFull len b bytes)
   where
     go : (x y : Bool) → Refusal (pick x (refused 11) (pick y (refused 12) (taken i)))
-    go true y = (omega arith, inr (omega arith, omega arith))
-    go false true = (omega arith, inr (omega arith, omega arith))
+    go true y = inr (omega arith, omega arith)
+    go false true = inr (omega arith, omega arith)
     go false false = tt
 
 tested-refusal : (c : Settings) (len : ℕ) (b : Book) (o : Offer) → Refusal (offerTested c len b o)
@@ -177,7 +174,7 @@ module _ (c : Settings) (len : ℕ) (b : Book) (o : Offer) (h : Shape b) where
           (let a = accepted c len b o i q in
           let w = number-with (i .settings) (o .bytes) (i .point) b h (a .read) (a .domain) (before (i .settings) (i .schedule) (eqb (o .leader) 1) (i .point))
           (before-six (i .settings) (i .schedule) (eqb (o .leader) 1) (i .point)) n k in
-          let six = w .0 in ((omega arith, inl (omega arith)), w .1))
+          let six = w .0 in (inl (omega arith, omega arith), w .1))
 
   pub numbers : (n : ℕ) → offer c len b o .answer ≡ Number n → IsOfferNumber n
   numbers n e = number-kept n e .0

@@ -1,7 +1,9 @@
--- An offer that gets a number changes no lent byte: neither the book's nor the peer buffer's.
+-- An offer to any bytes never gets the number 1 nor one of 7 to 9; and one that gets a number changes no lent byte, neither the book's
+-- nor the peer buffer's.
 use Prim.Native.Nat.{ℕ}
 use native.Mathlib.Omega.{arith}
 use mathlib.Core.Path.{_≡_, refl, ap, sym, _∙_}
+use mathlib.Core.Logic.{_⊎_, inl, inr}
 use mathlib.Core.Bool.{Bool, true, false}
 use mathlib.Core.Option.{Option, none, some}
 use mathlib.Core.List.{List, []}
@@ -18,8 +20,8 @@ use Rattle.judge.specs.Judge.{JudgeAnswer, Number, Given, ofError, beforeWith, 
 use Rattle.plain_book.specs.Kept.{Book}
 use Rattle.plain_book.specs.Offer.{Bytes, Offer, offerTested, answerWith, beforeIn, answerIn, markedIn, offerWith, offer}
 use Rattle.plain_book.specs.Layout.{bookBytes, Opened, readBook}
-use Rattle.plain_book.specs.Calls.{Result, offerTo, offerBytes}
-use Rattle.plain_book.proofs.Offered.{kept-by-number}
+use Rattle.plain_book.specs.Calls.{Result, offerTo, offerBytes, IsOfferNumber}
+use Rattle.plain_book.proofs.Offered.{numbers, kept-by-number}
 use Rattle.plain_book.proofs.Canonical.{book-again}
 
 -- a number comes only of a point that passed verification
@@ -39,7 +41,20 @@ unfolding offerWith answerIn beforeIn before
 buffer-kept b o (refused m) n h = refl
 buffer-kept b o (taken i) n h = unwritten i _ (o .peers) refl (passed _ _ _ (verify (i .settings) (i .schedule) (i .point)) _ _ n h)
 
+number-of : (n m : ℕ) → Number m ≡ Number n → n ≡ m
+number-of n m e = cc
+
 module _ (o : Offer) (n : ℕ) where
+  -- a number is 10, or one of 2 to 6, 11 and 12
+  pub offer-numbers : (s : List ℕ) → Bytes s → offerBytes s o .answer ≡ Number n → (n ≡ 10) ⊎ IsOfferNumber n
+  unfolding offerBytes
+  offer-numbers s w h = go (readBook s) refl h
+    where
+      go : (z : Option Opened) → readBook s ≡ z → offerTo s o z .answer ≡ Number n → (n ≡ 10) ⊎ IsOfferNumber n
+      go none e h = inl (number-of n 10 h)
+      go (some z) e h = inr (numbers (z .settings) (length s) (z .book) o (book-again s z w e .shape) n h)
+
+  -- a number leaves the bytes as they were, so that no mark was made
   pub unchanged : (s : List ℕ) → Bytes s → offerBytes s o .answer ≡ Number n → (offerBytes s o .bytes ≡ s) × (offerBytes s o .peers ≡ o .peers)
   unfolding offerBytes
   unchanged s w h = go (readBook s) refl h

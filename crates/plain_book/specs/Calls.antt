@@ -1,5 +1,6 @@
 -- The two calls, on bytes: opening and offering.
-use Prim.Native.Nat.{ℕ, zero, suc}
+use Prim.Native.Nat.{ℕ, zero, suc, _≤_}
+use mathlib.Core.Logic.{_⊎_}
 use mathlib.Core.Bool.{_||_}
 use mathlib.Core.Option.{Option, none, some}
 use mathlib.Core.List.{List, [], _∷_}
@@ -47,6 +48,10 @@ offerTo s o (some z) = resultOf (z .bytes) (length s) (offer (z .settings) (leng
 unfoldable pub offerBytes : List ℕ → Offer → Result
 unfolding readBook offer bookBytes
 offerBytes s o = offerTo s o (readBook s)
+
+-- the numbers that an offer to a book can get: 2 to 6, 11 and 12
+abbrev pub IsOfferNumber : ℕ → Type 0
+IsOfferNumber n = ((2 ≤ n) × (n ≤ 6)) ⊎ ((11 ≤ n) × (n ≤ 12))
 
 -- ---- a list of offers, each on the bytes that the last one left
 
