@@ -165,7 +165,7 @@ unfolding step
 step-record schedule book peers lines [] o h e = absurd (h refl)
 step-record schedule book peers lines (x ∷ s) o h e = ap (recordTo schedule book peers (suc lines) x s) e
 
-line-place : (place round : ℕ) (a : JudgeAnswer) → lineOf place round a .place ≡ place
+pub line-place : (place round : ℕ) (a : JudgeAnswer) → lineOf place round a .place ≡ place
 line-place place round (Number n) = refl
 line-place place round (Given (Fail u)) = refl
 line-place place round (Given (IllFormed r)) = refl

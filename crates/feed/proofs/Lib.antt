@@ -1,2 +1,3 @@
 pub mod Laws
 pub mod AtHand
+pub mod Printed

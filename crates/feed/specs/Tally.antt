@@ -131,7 +131,8 @@ abbrev pub tallyWith : List ℕ → List ℕ → List ℕ → code-front.Front �
 tallyWith book peers feed (case-front.Number n) = record { lines = refusedLine 0 0 n ∷ []; book = book }
 tallyWith book peers feed (case-front.Points n) = points (drop 47 (take n feed)) book peers 0 (drop n feed)
 
--- what the program is to print of its standard input. Proved of the code are the parts: `begin`, `step` and `keptIn`.
+-- what the program is to print of its standard input. Proved of the code are the parts: `begin`, `step` and `keptIn`; `printed-tally`
+-- says that these parts, one behind the other, give it.
 unfoldable pub tally : List ℕ → Tally
 unfolding begin points openBytes
 tally feed = tallyWith (openBytes (take 47 feed) (replicate 65536 0)) (replicate 8160 0) feed (begin 65536 feed)
