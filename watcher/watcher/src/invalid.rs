@@ -1,84 +1,173 @@
 //! What judging finds in a point's dependencies, under the names of the source's verifier.rs.
 
-use crate::reasons::{AnchorStageRole, Peer, PointMap};
+use crate::id::PointId;
+use crate::link::IndirectLink;
+use crate::reasons::{AnchorStageRole, PointMap};
 
-/// A point's digest.
-pub type Digest = [u8; 32];
-
-#[derive(Clone, Copy, PartialEq, Eq, Debug)]
-pub struct PointId {
-    pub round: u32,
-    pub digest: Digest,
-    pub author: Peer,
-}
-
-/// The source's AfterLoadFromDb is never given by a call: it has no case here.
+/// What makes a point invalid. Each case but the first two names the point by which the rule is broken. The source's
+/// AfterLoadFromDb is never given by a call: it has no case here. "Newest anchor" is the source's `AnchorView::top`:
+/// the point itself if it has the role, else its link's target.
 #[derive(Clone, Copy, PartialEq, Eq, Debug)]
 pub enum InvalidReason {
-    NoRoundInDag(PointMap),
+    /// 2: the round of a map is not in the DAG; evidence stands for the point's own round.
+    NoRoundInDag {
+        /// The map whose round is not in the DAG.
+        map: PointMap,
+    },
+    /// 3: a point that it is checked against was dropped with its round.
     DependencyRoundDropped,
-    NotTrigger(PointId),
-    TerminalTriggerBeforeLastProof(PointId),
-    TimeNotGreaterThanInPrevPoint(PointId),
-    AnchorProofDoesntInheritAnchorTime(PointId),
-    AnchorTimeNotInheritedFromProof(PointId),
-    MustHaveReferencedPrevPoint(PointId),
-    MustHaveSkippedRound(PointId),
-    DependencyTimeTooFarInFuture(PointId),
-    NewerAnchorInDependency(AnchorStageRole, PointId),
-    AnchorLink(AnchorStageRole, PointId),
-    AnchorLinkRole(AnchorStageRole, PointId),
-    AnchorLinkBadPath(AnchorStageRole, PointId),
-    /// The previous seq_no, and the point's own.
-    BadStickySequence(PointId, Option<u8>, u8),
-    /// Whether it is the link's target, not its source.
-    TriggerProofMismatch(PointId, bool),
-    /// The number of the dependency's [`IllFormedReason`](crate::IllFormedReason), 1 to 16.
-    DepIllFormed(PointId, u8),
-    DepNotFound(PointId),
+    /// 4: the previous point is a proof or genesis, and this one neither a trigger nor a proof with a seq_no over 0.
+    NotTrigger {
+        /// The previous point.
+        id: PointId,
+    },
+    /// 5: it is a trigger, and the previous point a proof that is not the last of its row.
+    TerminalTriggerBeforeLastProof {
+        /// The previous point.
+        id: PointId,
+    },
+    /// 6: its time is not later than that of the previous point.
+    TimeNotGreaterThanInPrevPoint {
+        /// The previous point.
+        id: PointId,
+    },
+    /// 7: it is a proof, and its anchor time is not the time of the previous point.
+    AnchorProofDoesntInheritAnchorTime {
+        /// The previous point.
+        id: PointId,
+    },
+    /// 8: it is no proof, and its anchor time is not that of its proof link's source or indirect target.
+    AnchorTimeNotInheritedFromProof {
+        /// The source or the target.
+        id: PointId,
+    },
+    /// 9: it includes no previous point, and this one is the first valid one there, or certified and not found.
+    MustHaveReferencedPrevPoint {
+        /// A point of its author, one round before.
+        id: PointId,
+    },
+    /// 10: it includes no previous point, and this one, in that place, is trans-invalid, invalid or ill-formed.
+    MustHaveSkippedRound {
+        /// A point of its author, one round before.
+        id: PointId,
+    },
+    /// 11: a point that it includes, witnesses or links to is later than it by over `clock_skew_millis`.
+    DependencyTimeTooFarInFuture {
+        /// The dependency, or the target of an indirect link.
+        id: PointId,
+    },
+    /// 12: a dependency has a newer anchor of a role than the point's own link leads to.
+    NewerAnchorInDependency {
+        /// The link's role.
+        role: AnchorStageRole,
+        /// The dependency.
+        id: PointId,
+    },
+    /// 13: a link leads to a dependency that is not of the link's role.
+    AnchorLink {
+        /// The link's role.
+        role: AnchorStageRole,
+        /// The dependency.
+        id: PointId,
+    },
+    /// 14: an indirect link leads to a point that is not of the link's role.
+    AnchorLinkRole {
+        /// The link's role.
+        role: AnchorStageRole,
+        /// The link's target.
+        id: PointId,
+    },
+    /// 15: a link goes through a dependency whose newest anchor of that role is not the link's target.
+    AnchorLinkBadPath {
+        /// The link's role.
+        role: AnchorStageRole,
+        /// The dependency.
+        id: PointId,
+    },
+    /// 16: its seq_no is not one more than that of the previous point.
+    BadStickySequence {
+        /// The previous point.
+        id: PointId,
+        /// The previous point's seq_no, if it has one.
+        prev_seq_no: Option<u8>,
+        /// The point's own.
+        seq_no: u8,
+    },
+    /// 17: the newest anchor proof of its trigger link's source or target is not its proof link's target, nor older.
+    TriggerProofMismatch {
+        /// The source or the target.
+        id: PointId,
+        /// Whether it is the target.
+        is_target: bool,
+    },
+    /// 18: a point that it includes, witnesses or links to is ill-formed.
+    DepIllFormed {
+        /// The dependency, or the target of an indirect link.
+        id: PointId,
+        /// The number of its [`IllFormedReason`](crate::IllFormedReason), 1 to 16.
+        reason: u8,
+    },
+    /// 19: a point that it includes, witnesses or links to was not found.
+    DepNotFound {
+        /// The dependency, or the target of an indirect link.
+        id: PointId,
+    },
 }
 
-/// A root cause, and the number of its [`InvalidReason`], 1 to 20.
+/// The root cause of a trans-invalid point.
 #[derive(Clone, Copy, PartialEq, Eq, Debug)]
 pub struct InvalidDependency {
+    /// The root cause, and the dependency that it came through.
     pub link: IndirectLink,
+    /// The number of its [`InvalidReason`], 1 to 20.
     pub reason: u8,
-}
-
-#[derive(Clone, Copy, PartialEq, Eq, Debug)]
-pub struct IndirectLink {
-    pub to: PointId,
-    pub through: Through,
-}
-
-#[derive(Clone, Copy, PartialEq, Eq, Debug)]
-pub enum Through {
-    Includes(Peer),
-    Witness(Peer),
 }
 
 impl InvalidReason {
     /// Document 01's number: the place of the variant as the source declares it.
     pub fn number(&self) -> u8 {
         match self {
-            Self::NoRoundInDag(_) => 2,
+            Self::NoRoundInDag { .. } => 2,
             Self::DependencyRoundDropped => 3,
-            Self::NotTrigger(_) => 4,
-            Self::TerminalTriggerBeforeLastProof(_) => 5,
-            Self::TimeNotGreaterThanInPrevPoint(_) => 6,
-            Self::AnchorProofDoesntInheritAnchorTime(_) => 7,
-            Self::AnchorTimeNotInheritedFromProof(_) => 8,
-            Self::MustHaveReferencedPrevPoint(_) => 9,
-            Self::MustHaveSkippedRound(_) => 10,
-            Self::DependencyTimeTooFarInFuture(_) => 11,
-            Self::NewerAnchorInDependency(..) => 12,
-            Self::AnchorLink(..) => 13,
-            Self::AnchorLinkRole(..) => 14,
-            Self::AnchorLinkBadPath(..) => 15,
-            Self::BadStickySequence(..) => 16,
-            Self::TriggerProofMismatch(..) => 17,
-            Self::DepIllFormed(..) => 18,
-            Self::DepNotFound(_) => 19,
+            Self::NotTrigger { .. } => 4,
+            Self::TerminalTriggerBeforeLastProof { .. } => 5,
+            Self::TimeNotGreaterThanInPrevPoint { .. } => 6,
+            Self::AnchorProofDoesntInheritAnchorTime { .. } => 7,
+            Self::AnchorTimeNotInheritedFromProof { .. } => 8,
+            Self::MustHaveReferencedPrevPoint { .. } => 9,
+            Self::MustHaveSkippedRound { .. } => 10,
+            Self::DependencyTimeTooFarInFuture { .. } => 11,
+            Self::NewerAnchorInDependency { .. } => 12,
+            Self::AnchorLink { .. } => 13,
+            Self::AnchorLinkRole { .. } => 14,
+            Self::AnchorLinkBadPath { .. } => 15,
+            Self::BadStickySequence { .. } => 16,
+            Self::TriggerProofMismatch { .. } => 17,
+            Self::DepIllFormed { .. } => 18,
+            Self::DepNotFound { .. } => 19,
+        }
+    }
+
+    /// The point that it names.
+    pub fn id(&self) -> Option<PointId> {
+        match self {
+            Self::NoRoundInDag { .. } | Self::DependencyRoundDropped => None,
+            Self::NotTrigger { id }
+            | Self::TerminalTriggerBeforeLastProof { id }
+            | Self::TimeNotGreaterThanInPrevPoint { id }
+            | Self::AnchorProofDoesntInheritAnchorTime { id }
+            | Self::AnchorTimeNotInheritedFromProof { id }
+            | Self::MustHaveReferencedPrevPoint { id }
+            | Self::MustHaveSkippedRound { id }
+            | Self::DependencyTimeTooFarInFuture { id }
+            | Self::NewerAnchorInDependency { id, .. }
+            | Self::AnchorLink { id, .. }
+            | Self::AnchorLinkRole { id, .. }
+            | Self::AnchorLinkBadPath { id, .. }
+            | Self::BadStickySequence { id, .. }
+            | Self::TriggerProofMismatch { id, .. }
+            | Self::DepIllFormed { id, .. }
+            | Self::DepNotFound { id } => Some(*id),
         }
     }
 }

@@ -1,122 +1,110 @@
-//! Wutherdish for Rust hosts: the proved calls on byte slices, with their answers as Rust enums.
+//! Wutherdish for Rust hosts: the proved calls, with their answers as Rust enums, and builders for what they take.
 //!
-//! What the bytes of settings, schedules, records, lists and books mean is laid down in document 01.
+//! What the bytes of settings, schedules, records, lists and books mean is laid down in document 01. A host that holds
+//! such bytes hands them over as they are; one that holds Rust values builds them with [`Settings`], [`Schedule`],
+//! [`Point`] and [`List`].
+//!
+//! | call | what it does |
+//! |---|---|
+//! | [`verify`] | tests a point by itself |
+//! | [`judge`] | gives the verdict on a point by a list of its dependencies, which the host keeps |
+//! | [`Book`] | keeps the points with their verdicts, and judges each new one by them |
+//! | [`lent`] | the same calls on buffers of the host, for answers as bytes |
+//!
+//! A call gives a verdict or a [`Refusal`]; a refused call has changed nothing. Answers, refusals and errors say in one
+//! line what is wrong (`Display`), with ids cut short, or whole in the alternate form `{:#}`. Nothing here panics,
+//! whatever the bytes.
+//!
+//! # Example
+//!
+//! A network of four peers above a genesis point: a book takes the genesis point, a point above it, and a third one
+//! that includes a point which the book does not have.
+//!
+//! ```
+//! use watcher::AnchorStageRole::{Proof, Trigger};
+//! use watcher::{AnchorLink, Book, Digest, InvalidReason, PeerId, Point, PointId, PointRole};
+//! use watcher::{Schedule, Settings, Through, Verdict};
+//!
+//! let [founder, ada, bea, cy, dan] = [1, 2, 3, 4, 5].map(|byte| PeerId([byte; 32]));
+//! let settings = Settings {
+//!     genesis_round: 11,
+//!     genesis_digest: Digest([9; 32]),
+//!     payload_batch_bytes: 768 * 1024,
+//!     sticky_anchors: 0,
+//!     clock_skew_millis: 5_000,
+//!     commit_history_rounds: 20,
+//! };
+//! let schedule = Schedule::new(1_000).span(11, [founder]).span(12, [ada, bea, cy, dan]).to_bytes()?;
+//!
+//! let id = PointId { round: 11, digest: settings.genesis_digest, author: founder };
+//! let genesis = Point::new(id, 70_000, 70_000).include(founder, Digest([0; 32])).role(PointRole::Genesis);
+//!
+//! let above = |author, digest, included| {
+//!     let link = AnchorLink::Direct(Through::Includes(founder));
+//!     let point = Point::new(PointId { round: 12, digest, author }, 70_001, genesis.anchor_time);
+//!     point.include(founder, included).link(Proof, link).link(Trigger, link)
+//! };
+//! let good = above(ada, Digest([10; 32]), genesis.id.digest);
+//! let lost = above(bea, Digest([11; 32]), Digest([0xab; 32]));
+//!
+//! let mut book = Book::open(vec![0; 65_536], &settings.to_bytes())?;
+//! let is_leader = false;
+//! assert_eq!(book.offer(&schedule, u8::from(is_leader), &genesis.to_bytes()?)?, Verdict::Valid);
+//! assert_eq!(book.offer(&schedule, u8::from(is_leader), &good.to_bytes()?)?, Verdict::Valid);
+//!
+//! let verdict = book.offer(&schedule, u8::from(is_leader), &lost.to_bytes()?)?;
+//! match &verdict {
+//!     Verdict::Valid => println!("the point counts"),
+//!     Verdict::TransInvalid(dependency) => println!("an ancestor is bad: {}", dependency.link.to),
+//!     Verdict::Invalid(InvalidReason::DepNotFound { id }) => assert_eq!(id.digest, Digest([0xab; 32])),
+//!     Verdict::Invalid(_) | Verdict::IllFormed(_) => println!("its author breaks the rules"),
+//!     Verdict::Fail(_) => println!("the schedule is not fit to verify it"),
+//! }
+//! assert_eq!(
+//!     verdict.to_string(),
+//!     "invalid: the point abababab.. of round 11 by 01010101.., which it includes, witnesses or links to, was not found"
+//! );
+//!
+//! let kept = book.kept()?;
+//! assert_eq!(kept.len(), 3);
+//! assert_eq!(kept[1].to_string(), "point 0a0a0a0a.. of round 12 by 02020202..: valid");
+//! # Ok::<(), Box<dyn std::error::Error>>(())
+//! ```
 
 mod answer;
 mod book;
+mod build_error;
+mod calls;
+mod field;
+mod id;
 mod invalid;
-pub mod raw;
+mod kept;
+pub mod lent;
+mod link;
+mod list;
+mod names;
+mod point;
 mod reasons;
+mod record;
+mod refusal;
+mod schedule;
+mod settings;
+mod words;
 
-pub use book::{Book, open_into};
-pub use invalid::{Digest, IndirectLink, InvalidDependency, InvalidReason, PointId, Through};
+pub use book::Book;
+pub use build_error::BuildError;
+pub use calls::{judge, verify};
+pub use field::Unreadable;
+pub use id::{Digest, PeerId, PointId};
+pub use invalid::{InvalidDependency, InvalidReason};
+pub use kept::{Kept, Status};
+pub use link::{AnchorLink, IndirectLink, Through};
+pub use list::{Dependency, List, State};
+pub use names::{IllFormedNumber, InvalidNumber};
+pub use point::{Point, PointRole};
 pub use reasons::{
-    AnchorStageRole, IllFormedReason, Peer, PeerCount, PointMap, Refusal, StructureIssue, UninitVset, Verdict,
-    Verified, VerifyError,
+    AnchorStageRole, IllFormedReason, PeerCount, PointMap, StructureIssue, UninitVset, Verdict, Verified, VerifyError,
 };
-
-/// Peer buffers of this length or more are enough: 255 peers of 32 bytes.
-pub const PEER_BUFFER: usize = 8_160;
-
-/// The length of an answer's bytes.
-pub const ANSWER: usize = 114;
-
-/// Verifies a point. Unknown peers are handed back as a part of the lent buffer; the rest of it keeps its bytes, and
-/// all of it where the call is refused.
-///
-/// ```
-/// use watcher::{PEER_BUFFER, Refusal, verify};
-///
-/// let mut peers = [0; PEER_BUFFER];
-/// assert_eq!(verify(&[], &[], &[], &mut peers), Err(Refusal::Settings));
-/// ```
-pub fn verify<'p>(
-    settings: &[u8],
-    schedule: &[u8],
-    record: &[u8],
-    peers: &'p mut [u8],
-) -> Result<Verified<'p>, Refusal> {
-    let mut bytes = [0; ANSWER];
-    match verify_into(settings, schedule, record, peers, &mut bytes) {
-        0 => Ok(answer::verified(&bytes, peers).expect("the call's contract: an answer of verifying")),
-        number => Err(answer::refusal(number).expect("the call's contract: a number from 1 to 5")),
-    }
-}
-
-/// The same with the answer's bytes, as include/wutherdish.h lays them out: gives document 01's number, or 0 where the
-/// answer is set.
-pub fn verify_into(settings: &[u8], schedule: &[u8], record: &[u8], peers: &mut [u8], answer: &mut [u8; ANSWER]) -> u8 {
-    // SAFETY: each length is that of the slice before it, and what is written is borrowed mutably, so that it overlaps
-    // nothing else.
-    unsafe {
-        raw::wutherdish_verify(
-            settings.as_ptr(),
-            settings.len(),
-            schedule.as_ptr(),
-            schedule.len(),
-            record.as_ptr(),
-            record.len(),
-            peers.as_mut_ptr(),
-            peers.len(),
-            answer,
-        )
-    }
-}
-
-/// Judges a point by the list of its dependencies, in the order of their arrival. `leader` is 1 if the point's author
-/// leads its round, else 0; `presence` says how many of the point's round and the two before it, counted in that order,
-/// are in the DAG. Unknown peers are handed back as [`verify`] does.
-///
-/// ```
-/// use watcher::{PEER_BUFFER, Refusal, judge};
-///
-/// let mut peers = [0; PEER_BUFFER];
-/// assert_eq!(judge(&[], &[], &[], 0, 3, &[], &mut peers), Err(Refusal::Settings));
-/// ```
-pub fn judge<'p>(
-    settings: &[u8],
-    schedule: &[u8],
-    record: &[u8],
-    leader: u8,
-    presence: u8,
-    list: &[u8],
-    peers: &'p mut [u8],
-) -> Result<Verdict<'p>, Refusal> {
-    let mut bytes = [0; ANSWER];
-    match judge_into(settings, schedule, record, leader, presence, list, peers, &mut bytes) {
-        0 => Ok(answer::verdict(&bytes, peers).expect("the call's contract: an answer of judging")),
-        number => Err(answer::refusal(number).expect("the call's contract: a number from 1 to 9")),
-    }
-}
-
-/// The same with the answer's bytes, as [`verify_into`].
-#[expect(clippy::too_many_arguments, reason = "those of the call")]
-pub fn judge_into(
-    settings: &[u8],
-    schedule: &[u8],
-    record: &[u8],
-    leader: u8,
-    presence: u8,
-    list: &[u8],
-    peers: &mut [u8],
-    answer: &mut [u8; ANSWER],
-) -> u8 {
-    // SAFETY: as in `verify_into`.
-    unsafe {
-        raw::wutherdish_judge(
-            settings.as_ptr(),
-            settings.len(),
-            schedule.as_ptr(),
-            schedule.len(),
-            record.as_ptr(),
-            record.len(),
-            leader,
-            presence,
-            list.as_ptr(),
-            list.len(),
-            peers.as_mut_ptr(),
-            peers.len(),
-            answer,
-        )
-    }
-}
+pub use refusal::Refusal;
+pub use schedule::{Schedule, Span};
+pub use settings::{SETTINGS, Settings};

@@ -1,152 +1,214 @@
 //! What the calls answer, under the names of the source's verifier.rs.
 
-use std::error::Error;
-use std::fmt::{self, Display, Formatter};
-
+use crate::id::PeerId;
 use crate::invalid::{InvalidDependency, InvalidReason};
 
-/// A peer's id.
-pub type Peer = [u8; 32];
-
-/// Document 01's number in place of a verdict.
-#[derive(Clone, Copy, PartialEq, Eq, Debug)]
-pub enum Refusal {
-    /// Settings are unreadable or outside their limits.
-    Settings = 1,
-    /// The schedule is unreadable.
-    Schedule = 2,
-    /// The point record is unreadable.
-    Record = 3,
-    /// The point's round or a time of it, the leader flag or the presence is outside the domain.
-    Domain = 4,
-    /// The peer buffer is under [`PEER_BUFFER`](crate::PEER_BUFFER) bytes, or the slice to open a book in is shorter
-    /// than its settings or longer than a book may be.
-    Short = 5,
-    /// The point's round or the fourth after it is in no span of the schedule.
-    Horizon = 6,
-    /// The list is unreadable or outside the domain.
-    Entries = 7,
-    /// The list's entries are not the point's dependencies.
-    Mismatch = 8,
-    /// The previous point's entry is not certified.
-    Uncovered = 9,
-    /// The bytes are no book.
-    Book = 10,
-    /// The point is in the book already.
-    Kept = 11,
-    /// The book has no room for the point.
-    Full = 12,
-}
-
 /// `Result<(), VerifyError>` of the source.
-#[derive(Clone, Copy, PartialEq, Eq, Debug)]
-pub enum Verified<'p> {
+#[derive(Clone, PartialEq, Eq, Debug)]
+pub enum Verified {
+    /// The point may be judged.
     Passed,
-    Failed(VerifyError<'p>),
+    /// The point may not be judged.
+    Failed(VerifyError),
 }
 
-#[derive(Clone, Copy, PartialEq, Eq, Debug)]
-pub enum VerifyError<'p> {
+/// Why a point did not pass verification.
+#[derive(Clone, PartialEq, Eq, Debug)]
+pub enum VerifyError {
+    /// It can't be verified.
     Fail(UninitVset),
-    IllFormed(IllFormedReason<'p>),
+    /// It is ill-formed.
+    IllFormed(IllFormedReason),
 }
 
 /// What judging answers: `VerifyError` or `ValidateResult` of the source.
-#[derive(Clone, Copy, PartialEq, Eq, Debug)]
-pub enum Verdict<'p> {
+#[derive(Clone, PartialEq, Eq, Debug)]
+pub enum Verdict {
+    /// The point can't be verified.
     Fail(UninitVset),
-    IllFormed(IllFormedReason<'p>),
+    /// The point breaks a rule by itself.
+    IllFormed(IllFormedReason),
+    /// The point breaks a rule on its dependencies.
     Invalid(InvalidReason),
+    /// Only an ancestor is bad.
     TransInvalid(InvalidDependency),
+    /// Nothing is wrong.
     Valid,
 }
 
-/// A peer set of a length that verification can't use, at a round, for a map.
+/// A peer set of a length that verification can't use.
 #[derive(Clone, Copy, PartialEq, Eq, Debug)]
 pub struct UninitVset {
+    /// How many peers the set has.
     pub len: u32,
+    /// The round whose set it is.
     pub round: u32,
+    /// The map that would be held to it.
     pub map: PointMap,
 }
 
-/// The source's AfterLoadFromDb and EvidenceSigError are never given by a call: they have no case here. NotRegular and
-/// BadWaveLink are given by judging alone.
-#[derive(Clone, Copy, PartialEq, Eq, Debug)]
-pub enum IllFormedReason<'p> {
+/// What makes a point ill-formed. The source's AfterLoadFromDb and EvidenceSigError are never given by a call: they
+/// have no case here. NotRegular and BadWaveLink are given by judging alone.
+#[derive(Clone, PartialEq, Eq, Debug)]
+pub enum IllFormedReason {
+    /// 3: its round is before genesis.
     BeforeGenesis,
+    /// 4: its author is not among the peers of its round.
     UnknownAuthor,
+    /// 5: it is of the genesis round with another digest than that of genesis.
     FalseGenesis,
-    /// The payload's bytes.
-    TooLargePayload(u32),
+    /// 6: its payload is over `payload_batch_bytes`, or it is genesis, which has none.
+    TooLargePayload {
+        /// The payload's bytes.
+        bytes: u32,
+    },
+    /// 7: its role, maps, links and times do not fit together.
     Structure(StructureIssue),
-    /// The seq_no.
-    TooManyStickyAnchors(u8),
+    /// 8: its seq_no is over `sticky_anchors`.
+    TooManyStickyAnchors {
+        /// The proof's seq_no.
+        seq_no: u8,
+    },
+    /// 9: its `is_last` is not set exactly at the seq_no `sticky_anchors`.
     BadLastStickyFlag,
+    /// 10: a link of it leads to a round before genesis.
     LinksAcrossGenesis,
-    MustBeEmpty(PointMap),
-    /// The unknown peers, rising, in the lent buffer.
-    UnknownPeers(&'p [Peer], PointMap),
-    UnknownPeerInAnchorLink(AnchorStageRole),
-    /// The map's length.
-    LackOfPeers(u32, PeerCount, PointMap),
+    /// 11: evidence at genesis, or a witness at genesis or one round later.
+    MustBeEmpty {
+        /// The map that is not empty.
+        map: PointMap,
+    },
+    /// 12: a map has peers outside the set by which it is checked.
+    UnknownPeers {
+        /// The unknown peers, rising.
+        peers: Vec<PeerId>,
+        /// The map that has them.
+        map: PointMap,
+    },
+    /// 13: the author of an indirect link's target is not among the peers of that round.
+    UnknownPeerInAnchorLink {
+        /// The link's role.
+        role: AnchorStageRole,
+    },
+    /// 14: a map has too few peers: evidence needs 2F, includes 2F+1.
+    LackOfPeers {
+        /// The map's length.
+        len: u32,
+        /// The set that it is held to.
+        peer_count: PeerCount,
+        /// The map that is too short.
+        map: PointMap,
+    },
+    /// 15: it must be regular, since its round and the fourth after it are in different spans.
     NotRegular,
-    /// Whether the author is the leader.
-    BadWaveLink(bool),
+    /// 16: a proof with seq_no 0 whose author doesn't lead the round or whose proof link is not far enough, or a
+    /// leader's regular point that should have been a proof.
+    BadWaveLink {
+        /// Whether the author is the leader.
+        is_leader: bool,
+    },
 }
 
+/// What is wrong with a point's structure.
 #[derive(Clone, Copy, PartialEq, Eq, Debug)]
 pub enum StructureIssue {
-    ExpectedGenesis(bool),
+    /// Only the genesis point has the genesis role.
+    ExpectedGenesis {
+        /// Whether the role should be genesis.
+        expected: bool,
+    },
+    /// A genesis point doesn't include its author with a digest of zeros, or its links are not both direct through
+    /// that.
     BadGenesisPrevPoint,
-    AuthorInMap(PointMap),
+    /// The author is in its evidence or witness; or, for includes, exactly one of the previous point and the evidence
+    /// is there.
+    AuthorInMap {
+        /// The map.
+        map: PointMap,
+    },
+    /// The proof link of a trigger, or of a proof with a seq_no over 0, is not a direct one to its author's previous
+    /// point.
     TriggerBadProofLink,
-    Link(AnchorStageRole, PointMap),
+    /// A link's peer is not in its map, or its target is not older than that map.
+    Link {
+        /// The link's role.
+        role: AnchorStageRole,
+        /// The map that it goes through.
+        map: PointMap,
+    },
+    /// The time is not after the anchor time, or at genesis not the same.
     AnchorTime,
+    /// A proof or a trigger has no previous point.
     NoPrevPoint,
 }
 
+/// A map of a point.
 #[derive(Clone, Copy, PartialEq, Eq, Debug)]
 pub enum PointMap {
+    /// Who signed the previous point.
     Evidence,
+    /// Points of the round before.
     Includes,
+    /// Points of the round before that one.
     Witness,
 }
 
+/// Which of a point's two anchor links.
 #[derive(Clone, Copy, PartialEq, Eq, Debug)]
 pub enum AnchorStageRole {
+    /// To the anchor proof.
     Proof,
+    /// To the anchor trigger.
     Trigger,
 }
 
-/// F of a peer set.
+/// F of a peer set of 3F+1.
 #[derive(Clone, Copy, PartialEq, Eq, Debug)]
-pub struct PeerCount(pub u8);
+pub struct PeerCount(
+    /// F.
+    pub u8,
+);
 
-impl Refusal {
-    /// Document 01's number.
-    pub fn number(self) -> u8 {
-        self as u8
-    }
-}
-
-impl IllFormedReason<'_> {
+impl IllFormedReason {
     /// Document 01's number: the place of the variant as the source declares it.
     pub fn number(&self) -> u8 {
         match self {
             Self::BeforeGenesis => 3,
             Self::UnknownAuthor => 4,
             Self::FalseGenesis => 5,
-            Self::TooLargePayload(_) => 6,
+            Self::TooLargePayload { .. } => 6,
             Self::Structure(_) => 7,
-            Self::TooManyStickyAnchors(_) => 8,
+            Self::TooManyStickyAnchors { .. } => 8,
             Self::BadLastStickyFlag => 9,
             Self::LinksAcrossGenesis => 10,
-            Self::MustBeEmpty(_) => 11,
-            Self::UnknownPeers(..) => 12,
-            Self::UnknownPeerInAnchorLink(_) => 13,
-            Self::LackOfPeers(..) => 14,
+            Self::MustBeEmpty { .. } => 11,
+            Self::UnknownPeers { .. } => 12,
+            Self::UnknownPeerInAnchorLink { .. } => 13,
+            Self::LackOfPeers { .. } => 14,
             Self::NotRegular => 15,
-            Self::BadWaveLink(_) => 16,
+            Self::BadWaveLink { .. } => 16,
+        }
+    }
+}
+
+impl Verdict {
+    /// The letter that `tally` prints: F fail, L ill-formed, I invalid, T trans-invalid, V valid.
+    pub fn letter(&self) -> char {
+        match self {
+            Self::Fail(_) => 'F',
+            Self::IllFormed(_) => 'L',
+            Self::Invalid(_) => 'I',
+            Self::TransInvalid(_) => 'T',
+            Self::Valid => 'V',
+        }
+    }
+
+    /// The number of its reason, 0 if there is none: a trans-invalid point's reason is its root's.
+    pub fn reason_number(&self) -> u8 {
+        match self {
+            Self::IllFormed(reason) => reason.number(),
+            Self::Invalid(reason) => reason.number(),
+            Self::Fail(_) | Self::TransInvalid(_) | Self::Valid => 0,
         }
     }
 }
@@ -167,25 +229,3 @@ impl PeerCount {
         usize::from(self.0) * 2
     }
 }
-
-impl Display for Refusal {
-    fn fmt(&self, f: &mut Formatter<'_>) -> fmt::Result {
-        let text = match self {
-            Self::Settings => "settings are unreadable or outside their limits",
-            Self::Schedule => "the schedule is unreadable",
-            Self::Record => "the point record is unreadable",
-            Self::Domain => "the point's round or a time of it, the leader flag or the presence is outside the domain",
-            Self::Short => "the peer buffer is too short, or the book's slice too short or too long",
-            Self::Horizon => "the point's round or the fourth after it is in no span of the schedule",
-            Self::Entries => "the list is unreadable or outside the domain",
-            Self::Mismatch => "the list's entries are not the point's dependencies",
-            Self::Uncovered => "the previous point's entry is not certified",
-            Self::Book => "the bytes are no book",
-            Self::Kept => "the point is in the book already",
-            Self::Full => "the book has no room for the point",
-        };
-        write!(f, "{}: {text}", self.number())
-    }
-}
-
-impl Error for Refusal {}

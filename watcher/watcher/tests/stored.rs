@@ -1,6 +1,7 @@
 //! The cases of oracle/stored/answers.bin, laid out as its README says: what the Rust answered.
 
-use watcher::{ANSWER, Verdict, Verified, VerifyError, judge, judge_into, verify, verify_into};
+use watcher::lent::{self, ANSWER};
+use watcher::{Point, Schedule, Settings, Verdict, Verified, VerifyError};
 
 const STORED: &str = concat!(env!("CARGO_MANIFEST_DIR"), "/../../oracle/stored/answers.bin");
 const FILL: u8 = 0xA5;
@@ -47,15 +48,17 @@ fn check_verify(blobs: &[&[u8]]) {
     let [settings, schedule, record, buffer, stored] = blobs[..] else { panic!("a verify case has five blobs") };
     let mut peers = vec![FILL; number(buffer)];
     let mut answer = [FILL; ANSWER];
-    let given = verify_into(settings, schedule, record, &mut peers, &mut answer);
+    let given = lent::verify(settings, schedule, record, &mut peers, &mut answer);
     check_bytes(stored, given, &answer, &peers);
-    let kind_and_reason = match verify(settings, schedule, record, &mut peers) {
-        Err(refusal) => return assert_eq!(refusal.number(), given),
-        Ok(Verified::Passed) => (5, 0),
-        Ok(Verified::Failed(VerifyError::Fail(_))) => (4, 0),
-        Ok(Verified::Failed(VerifyError::IllFormed(reason))) => (3, reason.number()),
-    };
-    assert_eq!((given, kind_and_reason), (0, (answer[0], answer[1])));
+    check_readers(given, settings, schedule, record);
+    if given == 0 {
+        let kind_and_reason = match Verified::read(&answer, &peers).expect("an answer") {
+            Verified::Passed => (5, 0),
+            Verified::Failed(VerifyError::Fail(_)) => (4, 0),
+            Verified::Failed(VerifyError::IllFormed(reason)) => (3, reason.number()),
+        };
+        assert_eq!(kind_and_reason, (answer[0], answer[1]));
+    }
 }
 
 fn check_judge(blobs: &[&[u8]]) {
@@ -64,17 +67,35 @@ fn check_judge(blobs: &[&[u8]]) {
     };
     let mut peers = vec![FILL; number(buffer)];
     let mut answer = [FILL; ANSWER];
-    let given = judge_into(settings, schedule, record, leader, presence, list, &mut peers, &mut answer);
+    let given = lent::judge(settings, schedule, record, leader, presence, list, &mut peers, &mut answer);
     check_bytes(stored, given, &answer, &peers);
-    let kind_and_reason = match judge(settings, schedule, record, leader, presence, list, &mut peers) {
-        Err(refusal) => return assert_eq!(refusal.number(), given),
-        Ok(Verdict::Fail(_)) => (4, 0),
-        Ok(Verdict::IllFormed(reason)) => (3, reason.number()),
-        Ok(Verdict::Invalid(reason)) => (2, reason.number()),
-        Ok(Verdict::TransInvalid(_)) => (1, 0),
-        Ok(Verdict::Valid) => (0, 0),
-    };
-    assert_eq!((given, kind_and_reason), (0, (answer[0], answer[1])));
+    check_readers(given, settings, schedule, record);
+    if given == 0 {
+        let verdict = Verdict::read(&answer, &peers).expect("an answer");
+        let kind = match verdict {
+            Verdict::Valid => 0,
+            Verdict::TransInvalid(_) => 1,
+            Verdict::Invalid(_) => 2,
+            Verdict::IllFormed(_) => 3,
+            Verdict::Fail(_) => 4,
+        };
+        assert_eq!((kind, verdict.reason_number()), (answer[0], answer[1]));
+    }
+}
+
+/// The crate's readers say the same of what can be read; the numbers are tested in their order.
+fn check_readers(given: u8, settings: &[u8], schedule: &[u8], record: &[u8]) {
+    if given != 1 {
+        assert!(Settings::try_from(settings).is_ok());
+        assert_eq!(Schedule::try_from(schedule).is_err(), given == 2);
+    }
+    if given != 1 && given != 2 {
+        let read = Point::try_from(record);
+        assert_eq!(read.is_err(), given == 3);
+        if let Ok(point) = read {
+            assert_eq!(point.to_bytes().as_deref(), Ok(record));
+        }
+    }
 }
 
 /// Number, answer and every byte of the peer buffer are as stored.

@@ -1,11 +1,11 @@
 //! The book: a genesis point is kept, offered again refused, and what is refused leaves every byte as it was.
 
-use watcher::{ANSWER, Book, PEER_BUFFER, PointMap, Refusal, UninitVset, Verdict};
+use watcher::lent::{self, ANSWER, PEER_BUFFER};
+use watcher::{Book, IllFormedReason, PointMap, Refusal, SETTINGS, UninitVset, Verdict};
 
-use crate::point::{AUTHOR, Call, FILL, ROUND, Record, genesis, schedule};
+use crate::point::{AUTHOR, Call, FILL, OTHER, ROUND, false_genesis, genesis, in_round, record, schedule};
 
-/// Settings with their tag and length; an entry's bytes beside its record.
-const SETTINGS: usize = 47;
+/// An entry's bytes beside its record.
 const BESIDE_RECORD: usize = 108;
 
 impl Call {
@@ -13,26 +13,29 @@ impl Call {
         Book::open(vec![FILL; length], &self.settings).expect("a slice of a good length")
     }
 
-    fn offer<B: AsRef<[u8]> + AsMut<[u8]>>(&mut self, book: &mut Book<B>) -> Result<Verdict<'_>, Refusal> {
-        book.offer(&self.schedule, 0, &self.record, &mut self.peers)
+    fn offer<B: AsRef<[u8]> + AsMut<[u8]>>(&self, book: &mut Book<B>) -> Result<Verdict, Refusal> {
+        book.offer(&self.schedule, 0, &self.record)
     }
 
     /// The number comes, and every lent byte is as it was.
     fn assert_not_kept(&mut self, book: &mut Book<Vec<u8>>, refusal: Refusal) {
-        let (before, peers) = (book.clone(), self.peers.clone());
-        let mut answer = [FILL; ANSWER];
-        let number = book.offer_into(&self.schedule, 0, &self.record, &mut self.peers, &mut answer);
-        assert_eq!(number, refusal.number());
-        assert_eq!(answer, [FILL; ANSWER]);
-        assert_eq!(self.offer(book), Err(refusal));
-        assert_eq!(*book, before);
-        assert_eq!(self.peers, peers);
+        let mut bytes = book.bytes().to_vec();
+        let Self { schedule, record, peers, answer, .. } = self;
+        let before = peers.clone();
+        assert_eq!(lent::offer(&mut bytes, schedule, 0, record, peers, answer), refusal.number());
+        assert_eq!(bytes, book.bytes());
+        assert_eq!(*peers, before);
+        assert_eq!(*answer, [FILL; ANSWER]);
+        if refusal != Refusal::Short {
+            assert_eq!(self.offer(book), Err(refusal));
+            assert_eq!(bytes, book.bytes());
+        }
     }
 }
 
 #[test]
 fn an_opened_book_is_settings_and_zeros() {
-    let call = genesis().call();
+    let call = Call::new(&genesis());
     let book = call.opened(1_000);
     let (front, rest) = book.bytes().split_at(SETTINGS);
     assert_eq!(front, call.settings);
@@ -41,7 +44,7 @@ fn an_opened_book_is_settings_and_zeros() {
 
 #[test]
 fn openings_are_refused() {
-    let mut call = genesis().call();
+    let mut call = Call::new(&genesis());
     let mut slice = [FILL; SETTINGS - 1];
     assert_eq!(Book::open(&mut slice[..], &call.settings), Err(Refusal::Short));
     assert_eq!(Book::open(vec![FILL; 16_777_217], &call.settings), Err(Refusal::Short));
@@ -52,19 +55,18 @@ fn openings_are_refused() {
 
 #[test]
 fn the_genesis_point_is_kept_once() {
-    let mut call = genesis().call();
+    let mut call = Call::new(&genesis());
     let mut book = call.opened(1_000);
     assert_eq!(call.offer(&mut book), Ok(Verdict::Valid));
-    let record = call.record.clone();
-    let (entry, rest) = book.bytes()[SETTINGS..].split_at(record.len() + BESIDE_RECORD);
-    assert_eq!(entry, [&record[..], &[33, 105, 0], &[0; 105]].concat());
+    let (entry, rest) = book.bytes()[SETTINGS..].split_at(call.record.len() + BESIDE_RECORD);
+    assert_eq!(entry, [&call.record[..], &[33, 105, 0], &[0; 105]].concat());
     assert!(rest.iter().all(|byte| *byte == 0));
     call.assert_not_kept(&mut book, Refusal::Kept);
 }
 
 #[test]
 fn an_exact_fit_is_kept() {
-    let mut call = genesis().call();
+    let mut call = Call::new(&genesis());
     let length = SETTINGS + call.record.len() + BESIDE_RECORD;
     let mut short = call.opened(length - 1);
     call.assert_not_kept(&mut short, Refusal::Full);
@@ -73,7 +75,7 @@ fn an_exact_fit_is_kept() {
 
 #[test]
 fn a_book_in_a_lent_slice_is_found_again() {
-    let mut call = genesis().call();
+    let call = Call::new(&genesis());
     let mut slice = [FILL; 1_000];
     let mut book = Book::open(&mut slice[..], &call.settings).expect("a slice of a good length");
     assert_eq!(call.offer(&mut book), Ok(Verdict::Valid));
@@ -84,22 +86,22 @@ fn a_book_in_a_lent_slice_is_found_again() {
 
 #[test]
 fn fail_keeps_nothing_and_ill_formed_is_kept() {
-    let mut call = genesis().call();
-    call.schedule = schedule(&[AUTHOR, [8; 32]]);
+    let mut call = Call::new(&genesis());
+    call.schedule = schedule(&[AUTHOR, OTHER]);
     let mut book = call.opened(1_000);
     let before = book.clone();
     let vset = UninitVset { len: 2, round: ROUND, map: PointMap::Evidence };
     assert_eq!(call.offer(&mut book), Ok(Verdict::Fail(vset)));
     assert_eq!(book, before);
-    let mut call = Record { digest: [8; 32], ..genesis() }.call();
-    assert!(matches!(call.offer(&mut book), Ok(Verdict::IllFormed(_))));
+    let call = Call::new(&false_genesis());
+    assert_eq!(call.offer(&mut book), Ok(Verdict::IllFormed(IllFormedReason::FalseGenesis)));
     let tail = SETTINGS + call.record.len() + 3;
     assert_eq!(book.bytes()[tail..tail + 3], [3, 0, 5]);
 }
 
 #[test]
 fn numbers_come_in_their_order() {
-    let mut call = Record { round: 3, ..genesis() }.call();
+    let mut call = Call::new(&in_round(3));
     let mut book = call.opened(SETTINGS);
     call.schedule.push(0);
     call.record.push(0);
@@ -111,7 +113,7 @@ fn numbers_come_in_their_order() {
     call.assert_not_kept(&mut book, Refusal::Record);
     call.record.pop();
     call.assert_not_kept(&mut book, Refusal::Domain);
-    call.record = genesis().bytes();
+    call.record = record(&genesis());
     call.assert_not_kept(&mut book, Refusal::Short);
     call.peers.push(FILL);
     call.assert_not_kept(&mut book, Refusal::Full);

@@ -1,4 +1,4 @@
-//! A genesis point made by hand, and faults put into it.
+//! A genesis point, and faults put into it.
 
 mod book;
 mod judge;

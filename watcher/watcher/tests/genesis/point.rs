@@ -1,11 +1,12 @@
-//! A genesis point made by hand.
+//! A genesis point, and what a call is given with it.
 
-use watcher::PEER_BUFFER;
+use watcher::lent::{ANSWER, PEER_BUFFER};
+use watcher::{Digest, PeerId, Point, PointId, PointRole, Schedule, Settings};
 
 pub const FILL: u8 = 0xA5;
 pub const ROUND: u32 = 10;
-pub const AUTHOR: [u8; 32] = [7; 32];
-const DIGEST: [u8; 32] = [9; 32];
+pub const AUTHOR: PeerId = PeerId([7; 32]);
+pub const OTHER: PeerId = PeerId([8; 32]);
 
 /// What a call is given.
 pub struct Call {
@@ -13,77 +14,54 @@ pub struct Call {
     pub schedule: Vec<u8>,
     pub record: Vec<u8>,
     pub peers: Vec<u8>,
+    pub answer: [u8; ANSWER],
 }
 
-/// A genesis point's record in its parts.
-pub struct Record {
-    pub round: u32,
-    pub digest: [u8; 32],
-    pub payload: [u32; 2],
-    pub includes: Vec<([u8; 32], [u8; 32])>,
-    pub role: u8,
-    pub times: [u64; 2],
-}
-
-fn field(tag: u8, content: &[u8]) -> Vec<u8> {
-    let length = u16::try_from(content.len()).expect("a field's length has 16 bits");
-    [&[tag], &length.to_le_bytes()[..], content].concat()
+impl Call {
+    pub fn new(point: &Point) -> Self {
+        Self {
+            settings: settings(ROUND),
+            schedule: schedule(&[AUTHOR]),
+            record: record(point),
+            peers: vec![FILL; PEER_BUFFER],
+            answer: [FILL; ANSWER],
+        }
+    }
 }
 
 pub fn settings(genesis_round: u32) -> Vec<u8> {
-    let (payload_batch_bytes, sticky_anchors, clock_skew_millis, commit_history_rounds) = (1_000_u32, 0, 500_u16, 1);
-    let content = [
-        &genesis_round.to_le_bytes()[..],
-        &DIGEST,
-        &payload_batch_bytes.to_le_bytes(),
-        &[sticky_anchors],
-        &clock_skew_millis.to_le_bytes(),
-        &[commit_history_rounds],
-    ];
-    field(32, &content.concat())
+    let settings = Settings {
+        genesis_round,
+        genesis_digest: Digest([9; 32]),
+        payload_batch_bytes: 1_000,
+        sticky_anchors: 0,
+        clock_skew_millis: 500,
+        commit_history_rounds: 1,
+    };
+    settings.to_bytes().to_vec()
 }
 
-pub fn schedule(peers: &[[u8; 32]]) -> Vec<u8> {
-    let span = [&ROUND.to_le_bytes()[..], peers.as_flattened()].concat();
-    [field(34, &span), field(35, &ROUND.to_le_bytes())].concat()
+pub fn schedule(peers: &[PeerId]) -> Vec<u8> {
+    Schedule::new(ROUND).span(ROUND, peers.iter().copied()).to_bytes().expect("one span")
 }
 
-pub fn genesis() -> Record {
-    Record {
-        round: ROUND,
-        digest: DIGEST,
-        payload: [0, 0],
-        includes: vec![(AUTHOR, [0; 32])],
-        role: 3,
-        times: [1_000, 1_000],
-    }
+pub fn record(point: &Point) -> Vec<u8> {
+    point.to_bytes().expect("short maps")
 }
 
-impl Record {
-    pub fn bytes(&self) -> Vec<u8> {
-        let id = [&self.round.to_le_bytes()[..], &self.digest, &AUTHOR].concat();
-        let includes: Vec<u8> = self.includes.iter().flat_map(|(peer, digest)| [*peer, *digest].concat()).collect();
-        let link = [&[0, 0], &AUTHOR[..]].concat();
-        let fields = [
-            field(1, &id),
-            field(2, self.payload.map(u32::to_le_bytes).as_flattened()),
-            field(3, &includes),
-            field(4, &[]),
-            field(5, &[]),
-            field(6, &link),
-            field(7, &link),
-            field(8, &[self.role]),
-            field(9, self.times.map(u64::to_le_bytes).as_flattened()),
-        ];
-        fields.concat()
-    }
+pub fn genesis() -> Point {
+    let id = PointId { round: ROUND, digest: Digest([9; 32]), author: AUTHOR };
+    Point::new(id, 1_000, 1_000).include(AUTHOR, Digest([0; 32])).role(PointRole::Genesis)
+}
 
-    pub fn call(&self) -> Call {
-        Call {
-            settings: settings(ROUND),
-            schedule: schedule(&[AUTHOR]),
-            record: self.bytes(),
-            peers: vec![FILL; PEER_BUFFER],
-        }
-    }
+/// In another round.
+pub fn in_round(round: u32) -> Point {
+    let point = genesis();
+    Point { id: PointId { round, ..point.id }, ..point }
+}
+
+/// With another digest.
+pub fn false_genesis() -> Point {
+    let point = genesis();
+    Point { id: PointId { digest: Digest([8; 32]), ..point.id }, ..point }
 }

@@ -1,0 +1,8 @@
+//! Values, their bytes, and what the library makes of them.
+
+mod book;
+mod damage;
+mod inverse;
+mod lists;
+mod network;
+mod random;
