@@ -1,0 +1,102 @@
+//! Points that pass verification, verified in three ways.
+
+use std::hint::black_box;
+use std::time::Instant;
+
+use oracle::answer::PASSED;
+use oracle::numbers;
+use oracle::steps::{PointInfo, Steps, read_record};
+use watcher::lent::{self, ANSWER, PEER_BUFFER};
+
+use crate::points::{Bytes, bytes};
+use crate::rounds::{median, rounds};
+
+/// Points of each set, so that no call repeats the one before it.
+const POINTS: usize = 8;
+const ROUNDS: usize = 301;
+
+const WORDS: &str = "\
+Verifying. Points that pass with full maps: all peers included, all but the author witnessed and in evidence.
+Nanoseconds a call, medians of the rounds; each round runs the three ways one after another over the same points.
+  library      wutherdish_verify, from bytes: settings, schedule and record are read in every call
+  Rust record  the Rust from the record's bytes: the oracle's reading of document 01's record into the source's
+               PointInfo, its maps built and freed, then BasicVerifier::verify; settings and schedule are there already
+  Rust verify  BasicVerifier::verify alone, on a PointInfo that is there already
+";
+
+/// Prints a row for each count of peers.
+pub fn table(counts: &[usize]) -> Result<(), String> {
+    println!("{WORDS}");
+    println!("{ROUNDS} rounds, {POINTS} points for each count of peers");
+    println!("                      nanoseconds a call              ratio to the library");
+    println!("peers  record bytes   library  Rust record  Rust verify   record  verify");
+    for &peers in counts {
+        let mut points = Points::new(peers, POINTS)?;
+        // few enough that other processes interrupt few rounds
+        let calls = (4_000 / peers).next_multiple_of(POINTS);
+        let rounds = rounds(ROUNDS, WAYS, |way| points.time(way, calls))?;
+        let [library, record, verify] = WAYS.map(|way| median(&rounds, |times| times[way as usize]));
+        let ratio = |way: Way| median(&rounds, |times| times[way as usize] / times[Way::Library as usize]);
+        print!("{peers:5}  {:12}  {library:8.0}  {record:11.0}  {verify:11.0}", points.bytes.records[0].len());
+        println!("   {:6.2}  {:6.2}", ratio(Way::ReadingRecord), ratio(Way::Verify));
+    }
+    Ok(())
+}
+
+/// How a point is verified.
+#[derive(Clone, Copy)]
+enum Way {
+    /// The static library, from the bytes of settings, schedule and record.
+    Library,
+    /// The Rust, from the record's bytes.
+    ReadingRecord,
+    /// The Rust, on a record that is already read.
+    Verify,
+}
+
+const WAYS: [Way; 3] = [Way::Library, Way::ReadingRecord, Way::Verify];
+
+/// The points of one set, as bytes and as the source's types.
+struct Points {
+    bytes: Bytes,
+    steps: Steps,
+    infos: Vec<PointInfo>,
+    peers: Vec<u8>,
+}
+
+impl Points {
+    fn new(peers: usize, points: usize) -> Result<Self, String> {
+        let bytes = bytes(peers, points);
+        let unreadable = || format!("a point of {peers} peers is unreadable");
+        let read = numbers::before(&bytes.settings, &bytes.schedule, &bytes.records[0], 0, 0, oracle::PEER_BUFFER)
+            .map_err(|_| unreadable())?;
+        let infos = bytes.records.iter().map(|record| read_record(record)).collect::<Option<_>>();
+        let infos = infos.ok_or_else(unreadable)?;
+        Ok(Self { bytes, steps: Steps::new(&read), infos, peers: vec![0; PEER_BUFFER] })
+    }
+
+    /// Nanoseconds a call, over `calls` calls that go round the points. Every point has to pass.
+    fn time(&mut self, way: Way, calls: usize) -> Result<f64, String> {
+        let start = Instant::now();
+        let mut passed = 0;
+        for call in 0..calls {
+            passed += usize::from(self.passes(way, call % self.infos.len()));
+        }
+        let nanoseconds = start.elapsed().as_nanos() as f64 / calls as f64;
+        if passed == calls { Ok(nanoseconds) } else { Err(format!("{passed} of {calls} points passed")) }
+    }
+
+    fn passes(&mut self, way: Way, place: usize) -> bool {
+        let (settings, schedule) = (black_box(&self.bytes.settings), black_box(&self.bytes.schedule));
+        let record = black_box(&self.bytes.records[place]);
+        match way {
+            Way::Library => {
+                let mut answer = [0; ANSWER];
+                let number = lent::verify(settings, schedule, record, &mut self.peers, &mut answer);
+                (number, answer[0]) == (0, PASSED)
+            }
+            Way::ReadingRecord => read_record(record).is_some_and(|info| self.steps.passes(&info)),
+            Way::Verify => self.steps.passes(black_box(&self.infos[place])),
+        }
+    }
+}

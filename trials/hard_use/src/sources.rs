@@ -1,0 +1,95 @@
+//! Where the bytes of a place's calls come from.
+
+use cases::case;
+use cases::random::Random;
+use compare::damage::{damaged, judge_damaged};
+use compare::kind::{as_judge, as_verify};
+use compare::permute::permuted;
+
+use crate::call::Call;
+use crate::fronts::share_fronts;
+use crate::{opening, small_book, wild};
+
+/// The choice of a place's source differs from its cases.
+const CHOICE: u64 = 0x736F_7572;
+
+#[derive(Clone, Copy, PartialEq, Eq, PartialOrd, Ord)]
+pub enum Source {
+    Generated,
+    Damaged,
+    Permuted,
+    Feed,
+    DamagedBook,
+    SmallBook,
+    SharedFronts,
+    Opening,
+    Spliced,
+    Wild,
+}
+
+/// Sources with their parts of the places. A feed's place has 200 offers, a permuted one up to 48 calls.
+const PARTS: [(Source, usize); 10] = [
+    (Source::Generated, 450),
+    (Source::Damaged, 500),
+    (Source::Permuted, 250),
+    (Source::Feed, 2),
+    (Source::DamagedBook, 2),
+    (Source::SmallBook, 250),
+    (Source::SharedFronts, 150),
+    (Source::Opening, 60),
+    (Source::Spliced, 250),
+    (Source::Wild, 150),
+];
+
+impl Source {
+    pub fn of(seed: u64, place: u64) -> Self {
+        let mut left = Random::new(seed ^ CHOICE, place).below(PARTS.iter().map(|(_, part)| part).sum());
+        for (source, part) in PARTS {
+            match left.checked_sub(part) {
+                Some(rest) => left = rest,
+                None => return source,
+            }
+        }
+        unreachable!("the parts make up the whole")
+    }
+
+    pub fn name(self) -> &'static str {
+        match self {
+            Self::Generated => "generated cases",
+            Self::Damaged => "damaged cases",
+            Self::Permuted => "permuted lists",
+            Self::Feed => "feeds of offers",
+            Self::DamagedBook => "damaged books",
+            Self::SmallBook => "small books",
+            Self::SharedFronts => "ids alike at their front",
+            Self::Opening => "openings",
+            Self::Spliced => "spliced cases",
+            Self::Wild => "wild bytes",
+        }
+    }
+}
+
+/// The calls of a place whose calls don't hang on one another.
+pub fn calls(source: Source, seed: u64, place: u64) -> Vec<Call> {
+    let mut random = Random::new(!seed.rotate_left(16), place);
+    let cases = match source {
+        Source::Generated => vec![as_verify(case(seed, place)), as_judge(case(seed, place))],
+        Source::Damaged => vec![as_verify(damaged(seed, place)), judge_damaged(seed, place)],
+        Source::Permuted => permuted(seed, place),
+        Source::Spliced => vec![wild::spliced(&mut random, seed, place)],
+        Source::Wild => vec![wild::wild(&mut random, case(seed, place))],
+        Source::SmallBook => return small_book::offers(&mut random, seed, place),
+        Source::SharedFronts => return alike(&mut random, seed, place),
+        Source::Opening => return vec![opening::opening(&mut random, seed, place)],
+        Source::Feed | Source::DamagedBook => unreachable!("their calls hang on one another"),
+    };
+    cases.into_iter().map(Call::Case).collect()
+}
+
+/// The calls of another source, with ids that are alike at their front; some of them are damaged then.
+fn alike(random: &mut Random, seed: u64, place: u64) -> Vec<Call> {
+    let source = random.pick(&[Source::Generated, Source::Generated, Source::SmallBook, Source::Damaged]);
+    let mut calls = calls(source, seed, place);
+    calls.iter_mut().for_each(|call| share_fronts(random, call));
+    calls
+}
