@@ -7,7 +7,7 @@ use oracle::answer::VALID;
 use oracle::numbers::{self, Read};
 use oracle::steps::{DagRound, Judging};
 use oracle::{Answer, PEER_BUFFER};
-use watcher::lent::{self, ANSWER};
+use wutherdish::lent::{self, ANSWER};
 
 use crate::pass::sum;
 use crate::points::{Bytes, bytes_with_lists};

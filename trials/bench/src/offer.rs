@@ -5,7 +5,7 @@ use std::time::Instant;
 
 use oracle::answer::VALID;
 use oracle::numbers::KEPT;
-use watcher::lent::{self, ANSWER, PEER_BUFFER};
+use wutherdish::lent::{self, ANSWER, PEER_BUFFER};
 
 use crate::dag::Dag;
 use crate::pass::sum;

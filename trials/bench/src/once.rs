@@ -1,7 +1,7 @@
 //! One call of the library, the first of a table's row, for callgrind to count.
 
 use oracle::numbers::KEPT;
-use watcher::lent::{self, ANSWER, PEER_BUFFER};
+use wutherdish::lent::{self, ANSWER, PEER_BUFFER};
 
 use crate::dag::Dag;
 use crate::judge::{LEADER, PRESENCE};

@@ -6,7 +6,7 @@ use std::time::Instant;
 use oracle::answer::PASSED;
 use oracle::numbers;
 use oracle::steps::{PointInfo, Steps, read_record};
-use watcher::lent::{self, ANSWER, PEER_BUFFER};
+use wutherdish::lent::{self, ANSWER, PEER_BUFFER};
 
 use crate::points::{Bytes, bytes};
 use crate::rounds::{median, rounds};

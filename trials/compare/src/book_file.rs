@@ -4,7 +4,7 @@ use book::Offer;
 use book::file::{After, Case, read};
 use oracle::file::blobs;
 use oracle::sha256::sha256;
-use watcher::lent::open as open_book;
+use wutherdish::lent::open as open_book;
 
 use crate::file::expected;
 use crate::lent::{FILL, Lent};

@@ -6,7 +6,7 @@ use book::{Offer, offer};
 use compare::run::{Counts, Range, run};
 use feeds::{Feed, Histogram, Step, damaged_books, opening};
 use oracle::Answer;
-use watcher::lent::open;
+use wutherdish::lent::open;
 
 use crate::lent::{Expected, FILL, Lent};
 use crate::report::{book_difference, offer_report};

@@ -1,7 +1,7 @@
 //! The cases of a file, laid out as vectors/README.md says, against the answers in it.
 
 use oracle::file::{self, Case};
-use watcher::lent::ANSWER;
+use wutherdish::lent::ANSWER;
 
 use crate::book_file;
 use crate::lent::{Expected, FILL, Lent};

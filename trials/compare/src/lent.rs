@@ -4,7 +4,7 @@ use book::Offer;
 use oracle::Answer;
 use oracle::file::Case;
 use oracle::value::Peer;
-use watcher::lent::{self, ANSWER};
+use wutherdish::lent::{self, ANSWER};
 
 /// What lent bytes hold before a call.
 pub const FILL: u8 = 0xA5;

@@ -1,0 +1,120 @@
+//! What the calls say of each point, in words.
+
+use std::io::Write;
+
+use wutherdish::{Book, Point, Refusal, Unreadable};
+
+use crate::cases::{Answer, Case, Cases};
+use crate::feed::Feed;
+use crate::problem::Problem;
+use crate::progress::Progress;
+use crate::summary::Summary;
+use crate::words::{self, Words};
+
+/// How points are explained, and where to.
+pub struct Explain<'a, W> {
+    /// How ids are written.
+    pub words: Words,
+    /// Whether the last point alone is explained.
+    pub last: bool,
+    /// How far it is.
+    pub progress: Progress,
+    /// Where the words go.
+    pub out: &'a mut W,
+}
+
+impl<W: Write> Explain<'_, W> {
+    /// Offers the points of a feed to a book and explains the answers. Gives what can't be read; the points before it
+    /// are explained all the same.
+    pub fn feed(&mut self, feed: &Feed<'_>, book: &mut Book<Vec<u8>>) -> Result<Option<Unreadable>, Problem> {
+        self.front(feed)?;
+        let mut summary = Summary::default();
+        let (mut bad, mut last) = (None, None);
+        for offer in feed.offers() {
+            match offer {
+                Ok(offer) => {
+                    let answer = book.offer(feed.schedule, offer.leader, offer.record).map(Answer::Verdict);
+                    let point = self.words.point(&offer.point, offer.leader);
+                    last = self.explain(offer.place, &point, &answer)?;
+                    summary.add(&answer);
+                    self.progress.show(offer.place, offer.end);
+                }
+                Err(unreadable) => bad = Some(unreadable),
+            }
+        }
+        let kept = book.kept().map_or(0, |kept| kept.len());
+        self.end(last, &format!("points: {}\nverdicts: {summary}\nkept: {kept}", summary.total()))?;
+        Ok(bad)
+    }
+
+    /// Makes the calls of a file of cases and explains the answers, likewise.
+    pub fn cases(&mut self, cases: Cases<'_>) -> Result<Option<Unreadable>, Problem> {
+        let mut summary = Summary::default();
+        let (mut bad, mut last) = (None, None);
+        for case in cases {
+            match case {
+                Ok(case) => {
+                    let answer = case.answer();
+                    last = self.explain(case.place, &self.case(&case), &answer)?;
+                    summary.add(&answer);
+                    self.progress.show(case.place, case.end);
+                }
+                Err(unreadable) => bad = Some(unreadable),
+            }
+        }
+        self.end(last, &format!("cases: {}\nverdicts: {summary}", summary.total()))?;
+        Ok(bad)
+    }
+
+    fn front(&mut self, feed: &Feed<'_>) -> Result<(), Problem> {
+        if self.last {
+            return Ok(());
+        }
+        let (settings, schedule) = &feed.front;
+        self.line(&format!("settings: {}", self.words.settings(settings)))?;
+        self.line(&format!("schedule: {}", words::schedule(schedule)))?;
+        if let (false, Some(note)) = (self.words.full_ids, words::short_ids(schedule)) {
+            self.line(&format!("note: {note}"))?;
+        }
+        self.line("")
+    }
+
+    fn case(&self, case: &Case<'_>) -> String {
+        let leader = case.judging.as_ref().map_or(0, |judging| judging.leader);
+        let point = match Point::read(case.record) {
+            Ok((point, [])) => self.words.point(&point, leader),
+            _ => "a record that can't be read".into(),
+        };
+        match &case.judging {
+            None => format!("verify: {point}"),
+            Some(judging) => format!("judge: {point}, presence {}", judging.presence),
+        }
+    }
+
+    /// Says what was answered; gives it back where it is said only of the last point.
+    fn explain(
+        &mut self,
+        place: usize,
+        point: &str,
+        answer: &Result<Answer, Refusal>,
+    ) -> Result<Option<String>, Problem> {
+        let words = format!("{place:>4}  {point}\n      {}", self.words.answer(answer).join("\n      "));
+        if self.last {
+            return Ok(Some(words));
+        }
+        self.line(&words).map(|()| None)
+    }
+
+    /// The last point alone, or the summary.
+    fn end(&mut self, last: Option<String>, summary: &str) -> Result<(), Problem> {
+        match last {
+            Some(words) => self.line(&words),
+            None if self.last => Ok(()),
+            None => self.line(&format!("\n{summary}")),
+        }
+    }
+
+    fn line(&mut self, line: &str) -> Result<(), Problem> {
+        writeln!(self.out, "{line}").map_err(|error| Problem::output(&error))
+    }
+}

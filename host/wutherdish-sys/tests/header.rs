@@ -1,0 +1,57 @@
+//! The declarations are those of include/wutherdish.h: the lengths, and each call's parameters by name and kind.
+
+use std::fs;
+
+use wutherdish_sys::{ANSWER, PEER_BUFFER};
+
+const ROOT: &str = concat!(env!("CARGO_MANIFEST_DIR"), "/../..");
+
+/// A file of the repository without comments, its words parted by single spaces.
+fn words(path: &str, comment: (&str, &str)) -> String {
+    let text = fs::read_to_string(format!("{ROOT}/{path}")).expect("a file of the repository");
+    let mut parts = text.split(comment.0);
+    let first = parts.next().unwrap_or_default().to_string();
+    let code = parts.fold(first, |code, part| code + part.split_once(comment.1).map_or("", |(_, code)| code));
+    code.split_whitespace().collect::<Vec<_>>().join(" ")
+}
+
+/// What stands between the brackets of a call, parameter by parameter.
+fn parameters(code: &str, call: &str) -> Vec<String> {
+    let (_, behind) = code.split_once(&format!("{call}(")).expect("the call is declared");
+    let (inside, _) = behind.split_once(')').expect("a bracket that closes");
+    inside.split(',').map(|parameter| parameter.trim().to_string()).filter(|parameter| !parameter.is_empty()).collect()
+}
+
+/// A parameter of C as Rust declares it.
+fn in_rust(parameter: &str) -> String {
+    let (kind, name) = parameter.rsplit_once([' ', '*']).expect("a kind and a name");
+    let kind = match kind.trim() {
+        _ if name == "answer[WUTHERDISH_ANSWER]" => return "answer: *mut [u8; ANSWER]".to_string(),
+        "const uint8_t" => "*const u8",
+        "uint8_t" if parameter.contains('*') => "*mut u8",
+        "uint8_t" => "u8",
+        "size_t" => "usize",
+        other => panic!("{other} is no kind of the header"),
+    };
+    format!("{name}: {kind}")
+}
+
+#[test]
+fn the_lengths() {
+    let header = words("include/wutherdish.h", ("/*", "*/"));
+    assert!(header.contains(&format!("#define WUTHERDISH_ANSWER {ANSWER} ")));
+    assert!(header.contains(&format!("#define WUTHERDISH_PEER_BUFFER {PEER_BUFFER} ")));
+}
+
+#[test]
+fn the_calls() {
+    let header = words("include/wutherdish.h", ("/*", "*/"));
+    let rust = words("host/wutherdish-sys/src/lib.rs", ("//", "\n"));
+    for call in ["wutherdish_verify", "wutherdish_judge", "wutherdish_open", "wutherdish_offer"] {
+        assert!(header.contains(&format!("uint8_t {call}(")));
+        assert!(rust.contains(&format!("pub unsafe fn {call}(")));
+        let expected: Vec<String> = parameters(&header, call).iter().map(|parameter| in_rust(parameter)).collect();
+        assert_eq!(parameters(&rust, call), expected);
+    }
+    assert_eq!(header.matches("uint8_t wutherdish_").count(), 4);
+}

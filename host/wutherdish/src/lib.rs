@@ -1,0 +1,110 @@
+//! Wutherdish for Rust hosts: the proved calls, with their answers as Rust enums, and builders for what they take.
+//!
+//! What the bytes of settings, schedules, records, lists and books mean is laid down in document 01. A host that holds
+//! such bytes hands them over as they are; one that holds Rust values builds them with [`Settings`], [`Schedule`],
+//! [`Point`] and [`List`].
+//!
+//! | call | what it does |
+//! |---|---|
+//! | [`verify`] | tests a point by itself |
+//! | [`judge`] | gives the verdict on a point by a list of its dependencies, which the host keeps |
+//! | [`Book`] | keeps the points with their verdicts, and judges each new one by them |
+//! | [`lent`] | the same calls on buffers of the host, for answers as bytes |
+//!
+//! A call gives a verdict or a [`Refusal`]; a refused call has changed nothing. Answers, refusals and errors say in one
+//! line what is wrong (`Display`), with ids cut short, or whole in the alternate form `{:#}`. Nothing here panics,
+//! whatever the bytes.
+//!
+//! # Example
+//!
+//! A network of four peers above a genesis point: a book takes the genesis point, a point above it, and a third one
+//! that includes a point which the book does not have.
+//!
+//! ```
+//! use wutherdish::AnchorStageRole::{Proof, Trigger};
+//! use wutherdish::{AnchorLink, Book, Digest, InvalidReason, PeerId, Point, PointId, PointRole};
+//! use wutherdish::{Schedule, Settings, Through, Verdict};
+//!
+//! let [founder, ada, bea, cy, dan] = [1, 2, 3, 4, 5].map(|byte| PeerId([byte; 32]));
+//! let settings = Settings {
+//!     genesis_round: 11,
+//!     genesis_digest: Digest([9; 32]),
+//!     payload_batch_bytes: 768 * 1024,
+//!     sticky_anchors: 0,
+//!     clock_skew_millis: 5_000,
+//!     commit_history_rounds: 20,
+//! };
+//! let schedule = Schedule::new(1_000).span(11, [founder]).span(12, [ada, bea, cy, dan]).to_bytes()?;
+//!
+//! let id = PointId { round: 11, digest: settings.genesis_digest, author: founder };
+//! let genesis = Point::new(id, 70_000, 70_000).include(founder, Digest([0; 32])).role(PointRole::Genesis);
+//!
+//! let above = |author, digest, included| {
+//!     let link = AnchorLink::Direct(Through::Includes(founder));
+//!     let point = Point::new(PointId { round: 12, digest, author }, 70_001, genesis.anchor_time);
+//!     point.include(founder, included).link(Proof, link).link(Trigger, link)
+//! };
+//! let good = above(ada, Digest([10; 32]), genesis.id.digest);
+//! let lost = above(bea, Digest([11; 32]), Digest([0xab; 32]));
+//!
+//! let mut book = Book::open(vec![0; 65_536], &settings.to_bytes())?;
+//! let is_leader = false;
+//! assert_eq!(book.offer(&schedule, u8::from(is_leader), &genesis.to_bytes()?)?, Verdict::Valid);
+//! assert_eq!(book.offer(&schedule, u8::from(is_leader), &good.to_bytes()?)?, Verdict::Valid);
+//!
+//! let verdict = book.offer(&schedule, u8::from(is_leader), &lost.to_bytes()?)?;
+//! match &verdict {
+//!     Verdict::Valid => println!("the point counts"),
+//!     Verdict::TransInvalid(dependency) => println!("an ancestor is bad: {}", dependency.link.to),
+//!     Verdict::Invalid(InvalidReason::DepNotFound { id }) => assert_eq!(id.digest, Digest([0xab; 32])),
+//!     Verdict::Invalid(_) | Verdict::IllFormed(_) => println!("its author breaks the rules"),
+//!     Verdict::Fail(_) => println!("the schedule is not fit to verify it"),
+//! }
+//! assert_eq!(
+//!     verdict.to_string(),
+//!     "invalid: the point abababab.. of round 11 by 01010101.., which it includes, witnesses or links to, was not found"
+//! );
+//!
+//! let kept = book.kept()?;
+//! assert_eq!(kept.len(), 3);
+//! assert_eq!(kept[1].to_string(), "point 0a0a0a0a.. of round 12 by 02020202..: valid");
+//! # Ok::<(), Box<dyn std::error::Error>>(())
+//! ```
+
+mod answer;
+mod book;
+mod build_error;
+mod calls;
+mod field;
+mod id;
+mod invalid;
+mod kept;
+pub mod lent;
+mod link;
+mod list;
+mod names;
+mod point;
+mod reasons;
+mod record;
+mod refusal;
+mod schedule;
+mod settings;
+mod words;
+
+pub use book::Book;
+pub use build_error::BuildError;
+pub use calls::{judge, verify};
+pub use field::Unreadable;
+pub use id::{Digest, PeerId, PointId};
+pub use invalid::{InvalidDependency, InvalidReason};
+pub use kept::{Kept, Status};
+pub use link::{AnchorLink, IndirectLink, Through};
+pub use list::{Dependency, List, State};
+pub use names::{IllFormedNumber, InvalidNumber};
+pub use point::{Point, PointRole};
+pub use reasons::{
+    AnchorStageRole, IllFormedReason, PeerCount, PointMap, StructureIssue, UninitVset, Verdict, Verified, VerifyError,
+};
+pub use refusal::Refusal;
+pub use schedule::{Schedule, Span};
+pub use settings::{SETTINGS, Settings};
