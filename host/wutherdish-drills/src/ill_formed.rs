@@ -43,7 +43,7 @@ fn false_genesis() -> Drill {
 }
 
 fn too_large_payload() -> Drill {
-    let what = "a payload of more than payload_batch_bytes, and of the genesis point, which may have none";
+    let what = "a payload of more than payload_batch_bytes, and of the genesis point, which must have none";
     of_genesis("ill-formed-06", what, 6, |point| point.payload(1, PAYLOAD_BATCH_BYTES + 1))
 }
 
@@ -109,7 +109,7 @@ fn links_across_genesis() -> Drill {
 }
 
 fn must_be_empty() -> Drill {
-    let what = "the genesis point with evidence, of which it may have none";
+    let what = "the genesis point with evidence, of which it must have none";
     of_genesis("ill-formed-11", what, 11, |point| point.evidence(B))
 }
 

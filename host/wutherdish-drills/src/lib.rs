@@ -5,7 +5,7 @@
 //! and the genesis point. What was never offered is not found (19), but the last reason that is found stays: in such a feed
 //! the dependency that decides is the last one of the list. The stories leave out nothing but what they tell of.
 //!
-//! What no feed can give stands in a case for verifying or judging. Number 10 has no drill: it is given for a damaged book,
+//! What no feed can give stands in a case for verifying or judging, and so does what a list leaves out. Number 10 has no drill: it is given for a damaged book,
 //! which neither a feed nor a case can hold. The reasons that are never given have none either: ill-formed 1 and 2, invalid
 //! 1 and 20.
 
@@ -13,6 +13,7 @@ mod demo;
 mod ill_formed;
 mod input;
 mod invalid;
+mod lists;
 mod numbers;
 mod stories;
 mod verdicts;
@@ -66,10 +67,11 @@ impl Input {
     }
 }
 
-/// All drills: verdicts, reasons and numbers in their order, then the stories.
+/// All drills: verdicts, reasons and numbers in their order, then the stories and the lists.
 pub fn all() -> Vec<Drill> {
-    let parts = [verdicts::drills(), ill_formed::drills(), invalid::drills(), numbers::drills(), stories::drills()];
-    parts.into_iter().flatten().chain([demo::drill()]).collect()
+    let mut all = [verdicts::drills(), ill_formed::drills(), invalid::drills(), numbers::drills()].concat();
+    all.extend([stories::drills(), lists::drills(), vec![demo::drill()]].concat());
+    all
 }
 
 /// The drill of this name, if there is one.

@@ -9,7 +9,10 @@ use crate::world::{A, B, C, D, E, WRONG_ANCHOR_TIME, World, second_version};
 use crate::{Answer, Drill};
 
 pub fn drills() -> Vec<Drill> {
-    vec![never_found(), found_bad(), found_bad_certified(), window_inside(), window_outside(), equivocation()]
+    let mut drills = vec![never_found(), late_parent(), found_bad(), found_bad_certified()];
+    drills.extend([certified_by_invalid(), successor_first(), window_inside(), window_outside()]);
+    drills.extend([equivocation(), two_valid_versions()]);
+    drills
 }
 
 fn three_peers() -> World {
@@ -32,6 +35,18 @@ fn never_found() -> Drill {
     feed.offer(&child(&world)).drill("never-found", "a point above a parent that was never offered", invalid(19))
 }
 
+/// As `never-found`, then the parent, C's point above the same three, and the child again.
+fn late_parent() -> Drill {
+    let world = three_peers();
+    let feed = Feed::new(&world).offer(&world.genesis()).offer_all([B, C].map(|author| world.first(author)));
+    let feed = feed.offer(&child(&world)).offer(&world.first(A)).offer(&world.above_all(12, C));
+    feed.offer(&child(&world)).drill(
+        "late-parent",
+        "the point of never-found keeps its verdict when its parent comes: offered again it is refused",
+        Answer::Number(11),
+    )
+}
+
 /// As `never-found`, with the parent.
 fn with_bad_parent(world: &World) -> Feed {
     Feed::new(world).offer_all([world.genesis(), bad_parent(world), world.first(B), world.first(C)])
@@ -52,6 +67,28 @@ fn found_bad_certified() -> Drill {
         "found-bad-certified",
         "the point of found-bad above the same parent, which its author's next point has marked certified",
         VALID,
+    )
+}
+
+/// As `found-bad-certified`, but A's next point breaks a rule itself: its time is that of the bad parent.
+fn certified_by_invalid() -> Drill {
+    let world = three_peers();
+    let certifier = Point { time: world.first(A).time, ..world.above_all(12, A) };
+    with_bad_parent(&world).offer(&certifier).offer(&child(&world)).drill(
+        "certified-by-invalid",
+        "the point of found-bad-certified, where the one that marks the parent certified is itself invalid",
+        VALID,
+    )
+}
+
+/// As `found-bad-certified`, but A's next point comes before the bad parent, so that it marks nothing.
+fn successor_first() -> Drill {
+    let world = three_peers();
+    let feed = Feed::new(&world).offer_all([world.genesis(), world.first(B), world.first(C), world.above_all(12, A)]);
+    feed.offer(&bad_parent(&world)).offer(&child(&world)).drill(
+        "successor-first",
+        "the points of found-bad-certified, where the parent comes after its author's next point and is not marked",
+        TRANS_INVALID,
     )
 }
 
@@ -82,5 +119,18 @@ fn equivocation() -> Drill {
         "equivocation",
         "a child without previous digest gets 9 above its author's valid point, and 10 once a bad version is kept too",
         invalid(10),
+    )
+}
+
+/// A includes B's first version, C the second. Nothing is wrong with either.
+fn two_valid_versions() -> Drill {
+    let world = three_peers();
+    let [first, second] = [world.first(B), second_version(world.first(B))];
+    let above_second = world.above_all(12, C).include(B, second.id.digest);
+    let feed = Feed::new(&world).offer_all([world.genesis(), world.first(A), first, world.first(C), second]);
+    feed.offer(&world.above_all(12, A)).offer(&above_second).drill(
+        "two-valid-versions",
+        "two versions of one author's point are valid, and so are points that stand on the one and on the other",
+        VALID,
     )
 }

@@ -5,7 +5,16 @@ use std::collections::BTreeSet;
 use wutherdish::{IllFormedReason, StructureIssue, Verdict};
 use wutherdish_drills::{Answer, Input, all, named};
 
-use crate::run::Feed;
+use crate::run::{Feed, STORIES};
+
+const LISTS: [&str; 6] = [
+    "list-with-version",
+    "list-without-version",
+    "list-with-target",
+    "list-without-target",
+    "flag-of-judging",
+    "flag-of-arrival",
+];
 
 const STRUCTURE: [&str; 7] = [
     "expected-genesis",
@@ -24,8 +33,7 @@ fn expected() -> BTreeSet<String> {
     let invalid = (2..=19).map(|number| format!("invalid-{number:02}"));
     let numbers = (1..=12).filter(|number| *number != 10).map(|number| format!("number-{number:02}"));
     let verdicts = ["valid", "trans-invalid", "fail"];
-    let stories = ["never-found", "found-bad", "found-bad-certified", "window-inside", "window-outside"];
-    let others = verdicts.iter().chain(&stories).chain(&["equivocation", "demo"]).map(|name| name.to_string());
+    let others = verdicts.iter().chain(&STORIES).chain(&LISTS).map(|name| name.to_string());
     ill_formed.chain(structure).chain(invalid).chain(numbers).chain(others).collect()
 }
 
@@ -73,7 +81,8 @@ fn each_structure_issue_has_its_drill() {
 fn only_what_no_feed_can_give_is_a_case() {
     let cases: Vec<&str> =
         all().iter().filter(|drill| matches!(drill.input, Input::Case(_))).map(|drill| drill.name).collect();
-    assert_eq!(cases, ["invalid-02", "invalid-03", "number-05", "number-07", "number-08", "number-09"]);
+    let answers = ["invalid-02", "invalid-03", "number-05", "number-07", "number-08", "number-09"];
+    assert_eq!(cases, [&answers[..], &LISTS].concat());
 }
 
 #[test]

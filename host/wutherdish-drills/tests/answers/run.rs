@@ -6,6 +6,21 @@ use wutherdish_drills::{Answer, Drill, Input, named};
 
 const BOOK: usize = 65_536;
 
+/// The feeds that are larger than their last answer needs.
+pub const STORIES: [&str; 11] = [
+    "never-found",
+    "late-parent",
+    "found-bad",
+    "found-bad-certified",
+    "certified-by-invalid",
+    "successor-first",
+    "window-inside",
+    "window-outside",
+    "equivocation",
+    "two-valid-versions",
+    "demo",
+];
+
 pub fn drill(name: &str) -> Drill {
     named(name).unwrap_or_else(|| panic!("there is no drill {name}"))
 }
@@ -105,7 +120,7 @@ pub fn case_answer(bytes: &[u8]) -> Answer {
 }
 
 /// The blobs of a case, which has nothing behind them and as many as its kind asks for.
-fn blobs(bytes: &[u8]) -> Vec<&[u8]> {
+pub fn blobs(bytes: &[u8]) -> Vec<&[u8]> {
     let (head, mut rest) = bytes.split_at(2);
     let mut blobs = Vec::new();
     while let Some((length, behind)) = rest.split_first_chunk() {

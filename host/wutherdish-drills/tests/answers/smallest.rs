@@ -5,10 +5,7 @@ use std::collections::BTreeSet;
 use wutherdish::{PeerId, Schedule};
 use wutherdish_drills::{Drill, Input, all};
 
-use crate::run::Feed;
-
-const STORIES: [&str; 7] =
-    ["never-found", "found-bad", "found-bad-certified", "window-inside", "window-outside", "equivocation", "demo"];
+use crate::run::{Feed, STORIES};
 
 fn smallest() -> impl Iterator<Item = (Drill, Feed)> {
     all().into_iter().filter(|drill| !STORIES.contains(&drill.name)).filter_map(|drill| {

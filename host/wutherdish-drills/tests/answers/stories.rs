@@ -28,10 +28,12 @@ fn without(feed: &Feed, place: usize) -> Feed {
     rest
 }
 
-/// The other parents in `equivocation` are an exception: they keep out reasons that are replaced.
+/// The other parents in `equivocation` are an exception: they keep out reasons that are replaced. So is the successor in
+/// `successor-first`, which marks nothing.
 #[test]
 fn a_later_answer_hangs_on_every_offer() {
-    for name in ["never-found", "found-bad", "found-bad-certified", "window-inside", "window-outside"] {
+    let names = ["never-found", "found-bad", "found-bad-certified", "certified-by-invalid"];
+    for name in names.into_iter().chain(["window-inside", "window-outside"]) {
         let feed = Feed::of(name);
         for place in 1..feed.offers.len() {
             assert_ne!(feed.answers()[place..], without(&feed, place).answers()[place - 1..], "{name}, offer {place}");
@@ -53,6 +55,37 @@ fn a_parent_that_is_never_found_found_bad_or_certified() {
     assert_eq!(without(bad, 2).offers, never.offers);
     assert_eq!(without(certified, 5).offers, bad.offers);
     assert_eq!(certified.id(5).author, parent.author);
+}
+
+/// The parent is valid, and so is another's point above it. The child's verdict stays.
+#[test]
+fn a_parent_that_comes_late() {
+    let [never, late] = ["never-found", "late-parent"].map(Feed::of);
+    assert_eq!(told(&late), ["V", "V", "V", "I19", "V", "V", "-11"]);
+    assert_eq!(late.offers[..4], never.offers[..]);
+    assert_eq!(late.offers[6], late.offers[3]);
+    let [child, other] = [4, 6].map(|place| late.points()[place - 1].clone());
+    assert_eq!(child.includes, other.includes);
+    assert_eq!(child.includes.get(&late.id(5).author), Some(&late.id(5).digest));
+}
+
+/// Without the certifier the child is that of `found-bad`.
+#[test]
+fn a_certifier_that_is_itself_invalid() {
+    let [bad, feed] = ["found-bad", "certified-by-invalid"].map(Feed::of);
+    assert_eq!(told(&feed), ["V", "I8", "V", "V", "I6", "V"]);
+    assert_eq!(without(&feed, 5).offers, bad.offers);
+    assert_eq!(feed.points()[4].prev_digest(), Some(feed.id(2).digest));
+}
+
+/// The same points as in `found-bad-certified`, and the parent has no mark.
+#[test]
+fn a_successor_that_comes_first() {
+    let [certified, feed] = ["found-bad-certified", "successor-first"].map(Feed::of);
+    assert_eq!(told(&feed), ["V", "V", "V", "I19", "I8", "T"]);
+    let moved = [1, 5, 2, 3, 4, 6].map(|place| feed.offers[place - 1].clone());
+    assert_eq!(moved[..], certified.offers[..]);
+    assert_eq!(root(&feed).0, feed.id(5));
 }
 
 #[test]
@@ -77,4 +110,16 @@ fn two_versions_of_one_author() {
     let answers = feed.answers();
     assert_eq!(answers[5], Ok(Verdict::Invalid(InvalidReason::MustHaveReferencedPrevPoint { id: first })));
     assert_eq!(answers[7], Ok(Verdict::Invalid(InvalidReason::MustHaveSkippedRound { id: second })));
+}
+
+#[test]
+fn two_versions_that_are_both_valid() {
+    let feed = Feed::of("two-valid-versions");
+    assert_eq!(told(&feed), ["V"; 7]);
+    let [first, second] = [3, 5].map(|place| feed.id(place));
+    assert_eq!((first.round, first.author), (second.round, second.author));
+    assert_ne!(first.digest, second.digest);
+    let points = feed.points();
+    let [above_first, above_second] = [6, 7].map(|place| points[place - 1].includes.get(&first.author));
+    assert_eq!((above_first, above_second), (Some(&first.digest), Some(&second.digest)));
 }

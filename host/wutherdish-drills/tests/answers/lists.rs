@@ -1,0 +1,42 @@
+//! The two cases of a pair differ in their lists alone.
+
+use wutherdish_drills::Input;
+
+use crate::run::{blobs, drill};
+
+/// The blobs of a case of judging, its list apart.
+fn parts(name: &str) -> (Vec<Vec<u8>>, Vec<u8>) {
+    let Input::Case(bytes) = drill(name).input else { panic!("{name} is no case") };
+    let mut blobs: Vec<Vec<u8>> = blobs(&bytes).into_iter().map(<[u8]>::to_vec).collect();
+    let list = blobs.remove(4);
+    (blobs, list)
+}
+
+fn lists([one, other]: [&str; 2]) -> [Vec<u8>; 2] {
+    let ((one, list), (other, other_list)) = (parts(one), parts(other));
+    assert_eq!(one, other);
+    [list, other_list]
+}
+
+/// Without so many bytes at a place the first list is the second.
+fn is_cut(whole: &[u8], cut: &[u8]) -> bool {
+    let count = whole.len() - cut.len();
+    (0..=cut.len()).any(|at| [&whole[..at], &whole[at + count..]].concat() == cut)
+}
+
+#[test]
+fn a_list_leaves_out_a_version_or_the_targets() {
+    for pair in [["list-with-version", "list-without-version"], ["list-with-target", "list-without-target"]] {
+        let [whole, cut] = lists(pair);
+        assert!(whole.len() > cut.len() && is_cut(&whole, &cut), "{pair:?}");
+    }
+}
+
+/// The byte is the witness's certified flag: behind tag, length and state of the first entry.
+#[test]
+fn a_flag_is_another() {
+    let [judging, arrival] = lists(["flag-of-judging", "flag-of-arrival"]);
+    let different: Vec<usize> = (0..judging.len()).filter(|at| judging[*at] != arrival[*at]).collect();
+    assert_eq!((judging.len(), different), (arrival.len(), vec![4]));
+    assert_eq!((judging[4], arrival[4]), (1, 0));
+}
