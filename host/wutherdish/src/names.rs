@@ -22,19 +22,19 @@ const ILL_FORMED: [Row; 16] = [
     ("BeforeGenesis", "its round is before genesis"),
     ("UnknownAuthor", "its author is not among the peers of its round"),
     ("FalseGenesis", "it is of the genesis round, but its digest is not that of genesis"),
-    ("TooLargePayload", "its payload is over payload_batch_bytes, or it is genesis, which has none"),
+    ("TooLargePayload", "its payload is over payload_batch_bytes, or it is genesis and has a payload"),
     ("Structure", "its role, maps, links and times do not fit together"),
     ("TooManyStickyAnchors", "its seq_no is over sticky_anchors"),
     ("BadLastStickyFlag", "its is_last is set although its seq_no is not sticky_anchors, or not set although it is"),
     ("LinksAcrossGenesis", "a link of it leads to a round before genesis"),
-    ("MustBeEmpty", "its {map} map must be empty so close to genesis"),
+    ("MustBeEmpty", "its {map} map is not empty so close to genesis"),
     ("UnknownPeers", "its {map} map has peers outside the set by which it is checked"),
     (
         "UnknownPeerInAnchorLink",
         "its indirect {role} link leads to a point whose author is not among the peers of that round",
     ),
     ("LackOfPeers", "its {map} map has too few peers"),
-    ("NotRegular", "it must be regular, since its round and the fourth after it are in different spans"),
+    ("NotRegular", "it is not regular, although its round and the fourth after it are in different spans"),
     ("BadWaveLink", "its role does not fit its proof link's length and whether its author leads the round"),
 ];
 

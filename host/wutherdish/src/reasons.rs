@@ -57,7 +57,7 @@ pub enum IllFormedReason {
     UnknownAuthor,
     /// 5: it is of the genesis round with another digest than that of genesis.
     FalseGenesis,
-    /// 6: its payload is over `payload_batch_bytes`, or it is genesis, which has none.
+    /// 6: its payload is over `payload_batch_bytes`, or it is genesis and has a payload.
     TooLargePayload {
         /// The payload's bytes.
         bytes: u32,
@@ -99,7 +99,7 @@ pub enum IllFormedReason {
         /// The map that is too short.
         map: PointMap,
     },
-    /// 15: it must be regular, since its round and the fourth after it are in different spans.
+    /// 15: it is not regular, although its round and the fourth after it are in different spans.
     NotRegular,
     /// 16: a proof with seq_no 0 whose author doesn't lead the round or whose proof link is not far enough, or a
     /// leader's regular point that should have been a proof.
@@ -112,7 +112,7 @@ pub enum IllFormedReason {
 /// What is wrong with a point's structure.
 #[derive(Clone, Copy, PartialEq, Eq, Debug)]
 pub enum StructureIssue {
-    /// Only the genesis point has the genesis role.
+    /// It is of the genesis round without the genesis role, or has that role in another round.
     ExpectedGenesis {
         /// Whether the role should be genesis.
         expected: bool,

@@ -68,14 +68,16 @@ impl Display for StructureIssue {
                 f.write_str("its role is genesis, but it is not of the genesis round")
             }
             Self::BadGenesisPrevPoint => f.write_str(
-                "as genesis it must include its author with a digest of zeros and have both links direct through that",
+                "it is genesis, but doesn't include its author with a digest of zeros, or a link of it is not direct \
+                 through that",
             ),
             Self::AuthorInMap { map: PointMap::Includes } => f.write_str(
                 "it includes its author's previous point without evidence, or has evidence without including that",
             ),
             Self::AuthorInMap { map } => write!(f, "its author is in its {map}"),
             Self::TriggerBadProofLink => f.write_str(
-                "as a trigger or a proof with a seq_no over 0 it must have a direct proof link to its previous point",
+                "it is a trigger or a proof with a seq_no over 0, but its proof link is not a direct one to its \
+                 previous point",
             ),
             Self::Link { role, map } => {
                 write!(f, "its {role} link goes through a peer that is not in its {map}, ")?;

@@ -14,11 +14,12 @@ use wutherdish::{
 
 use crate::tables::{ID, PEER, ill_formed, invalid, issues};
 
-/// One line for a crew that names these things.
+/// One line for a crew that names these things, and says what is so, not what should be.
 fn assert_line(line: &str, named: &[&str]) {
     assert!(!line.is_empty() && !line.contains(['\n', '{', '}']), "{line:?}");
     assert!(line.starts_with(|first: char| first.is_ascii_lowercase()), "{line}");
     assert!(!line.ends_with('.') || line.ends_with(".."), "a period that is no cut id's: {line}");
+    assert!(!line.contains(" must "), "a rule, where the fault is wanted: {line}");
     for name in named {
         assert!(line.contains(name), "{name} is not in: {line}");
     }
