@@ -2,7 +2,24 @@
  * Wutherdish: verdicts on Tycho points, as calls for other languages.
  *
  * The library is target/staticlib/libwutherdish.a, made by `rt staticlib wutherdish` from the repository's root.
- * What the bytes of settings, schedules, records, lists and books mean is laid down in document 01.
+ * docs/FORMAT.md says what the bytes of settings, schedules, records, lists and books mean.
+ *
+ * The host's duties. The library judges what it is handed; whether that is true it can't tell. Before it hands a point
+ * over, a host
+ *
+ *   1. checks signatures: the author's on the point's id, and every one of its evidence on the id of the author's
+ *      previous point. A record only names the peers of the evidence. A point that names enough of them certifies its
+ *      previous point, even if it is found invalid itself, and points above that are then valid, not trans-invalid;
+ *   2. computes the digest of the point and compares it with the one in its id;
+ *   3. finds out who leads the point's round: the leader flag is 1 exactly for that peer;
+ *   4. brings the network's schedule, with the peers of the point's round, of the two before it, of the fourth after it
+ *      and of the rounds that its indirect links lead to;
+ *   5. offers a point to a book after everything that it includes, witnesses or links to: a verdict stays when a parent
+ *      comes late, and only a point that is kept by then can be marked certified;
+ *   6. fills a list, where it judges by one, with all that belongs in it, and with the certified flags of the moment of
+ *      judging (wutherdish_judge below).
+ *
+ * The library tests the form of what it gets, and none of these.
  */
 #ifndef WUTHERDISH_H
 #define WUTHERDISH_H
@@ -50,7 +67,7 @@ extern "C" {
  *   5  the peer buffer is under 8,160 bytes
  *   6  a verified point above genesis: its round or the fourth after it is in no span of the schedule
  *   7  the list is needed, and unreadable or outside the domain
- *   8  the list is needed, and its entries are not the point's dependencies
+ *   8  the list is needed, and has an entry that is not the point's, or one twice, or lacks dependencies
  *   9  the list is needed, and the previous point's entry is not certified
  *
  * With a number no lent byte changes, the answer's included. With 0 the answer's 114 bytes are set, and the unknown
@@ -72,8 +89,18 @@ uint8_t wutherdish_verify(const uint8_t *settings, size_t settings_len,
  * Judges a point, as BasicVerifier::verify and then Verifier::validate of the Rust: any answer but passed.
  *
  * leader: 1 if the point's author leads its round, else 0. presence: how many of the point's round and the two before
- * it, counted in that order, are in the DAG. list: the point's dependencies in the order of their arrival. It is needed
- * if the point is verified, above genesis and not ill-formed, and the presence is 2 or 3; else it is not read.
+ * it, counted in that order, are in the DAG. list: needed if the point is verified, above genesis and not ill-formed,
+ * and the presence is 2 or 3; else it is not read. In it belong, each as it was found and in the order of arrival,
+ *
+ *   - the points that it includes and, with presence 3, those that it witnesses. Where one lacks, the answer is 8;
+ *   - if it includes no point of its author: every known point of that author in the round before;
+ *   - with presence 3, behind these: the target of each of its two links that is indirect.
+ *
+ * The last two may lack, and then what they would have given is lost in silence: reasons 9 and 10 without the author's
+ * points; without the targets reason 14, their reasons 8, 11, 17, 18 and 19, and root causes that come through links.
+ *
+ * The certified flags are those of the moment of judging: a node certifies the point's previous point, and all that
+ * this spreads to, before it judges. With the flags of arrival a point can be trans-invalid here and valid at a node.
  */
 uint8_t wutherdish_judge(const uint8_t *settings, size_t settings_len,
                          const uint8_t *schedule, size_t schedule_len,

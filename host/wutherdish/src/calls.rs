@@ -31,9 +31,10 @@ pub fn verify(settings: &[u8], schedule: &[u8], record: &[u8]) -> Result<Verifie
     answered(Verified::read, |peers, answer| lent::verify(settings, schedule, record, peers, answer))
 }
 
-/// Judges a point by the list of its dependencies, in the order of their arrival, as the source's
-/// `BasicVerifier::verify` and then `Verifier::validate`. `leader` is 1 if the point's author leads its round, else 0;
-/// `presence` says how many of the point's round and the two before it, counted in that order, are in the DAG.
+/// Judges a point by a [`List`](crate::List) of its dependencies and what else is looked at, in the order of arrival,
+/// as the source's `BasicVerifier::verify` and then `Verifier::validate`. `leader` is 1 if the point's author leads its
+/// round, else 0; `presence` says how many of the point's round and the two before it, counted in that order, are in
+/// the DAG. [What belongs in the list](crate::List) is only partly tested.
 ///
 /// ```
 /// use wutherdish::AnchorStageRole::{Proof, Trigger};

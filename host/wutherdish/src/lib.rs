@@ -1,8 +1,8 @@
 //! Wutherdish for Rust hosts: the proved calls, with their answers as Rust enums, and builders for what they take.
 //!
-//! What the bytes of settings, schedules, records, lists and books mean is laid down in document 01. A host that holds
-//! such bytes hands them over as they are; one that holds Rust values builds them with [`Settings`], [`Schedule`],
-//! [`Point`] and [`List`].
+//! docs/FORMAT.md of the repository says what the bytes of settings, schedules, records, lists and books mean;
+//! "document 01" is the paper that lays them down. A host that holds such bytes hands them over as they are; one that
+//! holds Rust values builds them with [`Settings`], [`Schedule`], [`Point`] and [`List`].
 //!
 //! | call | what it does |
 //! |---|---|
@@ -14,6 +14,24 @@
 //! A call gives a verdict or a [`Refusal`]; a refused call has changed nothing. Answers, refusals and errors say in one
 //! line what is wrong (`Display`), with ids cut short, or whole in the alternate form `{:#}`. Nothing here panics,
 //! whatever the bytes.
+//!
+//! # The host's duties
+//!
+//! The library judges what it is handed; whether that is true it can't tell. Before it hands a point over, a host
+//!
+//! 1. checks signatures: the author's on the point's id, and every one of its evidence on the id of the author's
+//!    previous point. A record only names the peers of the evidence. A point that names enough of them certifies its
+//!    previous point, even if it is found invalid itself, and points above that are then valid, not trans-invalid;
+//! 2. computes the digest of the point and compares it with the one in its id;
+//! 3. finds out who leads the point's round: the leader flag is 1 exactly for that peer;
+//! 4. brings the network's schedule, with the peers of the point's round, of the two before it, of the fourth after it
+//!    and of the rounds that its indirect links lead to;
+//! 5. offers a point to a book after everything that it includes, witnesses or links to: a verdict stays when a parent
+//!    comes late, and only a point that is kept by then can be marked certified;
+//! 6. fills a list, where it judges by one, with all that belongs in it, and with the certified flags of the moment of
+//!    judging ([`List`]).
+//!
+//! The library tests the form of what it gets, and none of these.
 //!
 //! # Example
 //!

@@ -1,11 +1,11 @@
-//! A point's dependencies in the order of their arrival, as judging takes them.
+//! What judging looks at beside the point, in the order of arrival.
 
 use crate::build_error::{BuildError, MOST_ENTRIES};
 use crate::field::{field, join};
 use crate::id::PointId;
 use crate::reasons::AnchorStageRole;
 
-/// What became of a dependency.
+/// What became of a listed point.
 #[derive(Clone, PartialEq, Eq, Debug)]
 pub enum State {
     /// It was judged valid.
@@ -45,28 +45,41 @@ pub enum State {
     Dropped,
 }
 
-/// A dependency.
+/// An entry of a list: a dependency, a version of the author's point, or the target of an indirect link.
 #[derive(Clone, PartialEq, Eq, Debug)]
 pub struct Dependency {
     /// What became of it.
     pub state: State,
-    /// Whether a certificate covers it.
+    /// Whether a certificate covers it at the moment of judging.
     pub certified: bool,
-    /// Whether it is the first valid point of its author and round.
+    /// Whether it is the first valid point of its author and round; it counts only of a version of the author's point.
     pub first_valid: bool,
 }
 
-/// The list that [`judge`](crate::judge) takes.
+/// The list that [`judge`](crate::judge) takes. In it belong, each as it was found and in the order of arrival,
+///
+/// - the points that the judged one includes and, with presence 3, those that it witnesses. Where one lacks, judging is
+///   refused with [`Refusal::Mismatch`](crate::Refusal::Mismatch);
+/// - if it includes no point of its author: every known point of that author in the round before;
+/// - with presence 3, in `indirect`: the target of each of its two links that is indirect.
+///
+/// The last two may lack, and then what they would have given is lost in silence: reasons 9 and 10 without the author's
+/// points; without the targets reason 14, their reasons 8, 11, 17, 18 and 19, and root causes that come through links.
+///
+/// The certified flags are those of the moment of judging: a node certifies the point's previous point, and all that
+/// this spreads to, before it judges. With the flags of arrival a point can be trans-invalid here and valid at a node.
+/// Of the previous point the flag is tested: without it judging is refused with
+/// [`Refusal::Uncovered`](crate::Refusal::Uncovered).
 #[derive(Clone, PartialEq, Eq, Debug, Default)]
 pub struct List {
-    /// The includes and the witness, in the order of their arrival.
+    /// The includes, the witness and the versions of the author's point, in the order of their arrival.
     pub direct: Vec<Dependency>,
     /// The targets of the indirect links, each with its link's role, in the order of their arrival.
     pub indirect: Vec<(AnchorStageRole, Dependency)>,
 }
 
 impl Dependency {
-    /// A dependency that no certificate covers.
+    /// An entry that no certificate covers.
     pub fn new(state: State) -> Self {
         Self { state, certified: false, first_valid: false }
     }
@@ -106,12 +119,12 @@ impl Dependency {
 }
 
 impl List {
-    /// A list of no dependencies.
+    /// A list without entries.
     pub fn new() -> Self {
         Self::default()
     }
 
-    /// With one more include or witness.
+    /// With one more include, witness or version of the author's point.
     pub fn direct(mut self, dependency: Dependency) -> Self {
         self.direct.push(dependency);
         self

@@ -37,7 +37,7 @@ pub struct Point {
     pub includes: BTreeMap<PeerId, Digest>,
     /// The points of the round before that one that it witnesses.
     pub witness: BTreeMap<PeerId, Digest>,
-    /// The peers that signed its author's previous point.
+    /// The peers that signed its author's previous point. Their signatures are not in the record: the host checks them.
     pub evidence: BTreeSet<PeerId>,
     /// Where its anchor proof is found.
     pub anchor_proof: AnchorLink,

@@ -22,7 +22,7 @@ pub enum Refusal {
     Horizon,
     /// 7: the list is unreadable or outside the domain.
     Entries,
-    /// 8: the list's entries are not the point's dependencies.
+    /// 8: the list has an entry that is not the point's, or one twice, or lacks dependencies.
     Mismatch,
     /// 9: the previous point's entry is not certified.
     Uncovered,
