@@ -1,6 +1,7 @@
 //! What the library answers to the drills.
 
 mod demo;
+mod format;
 mod lists;
 mod names;
 mod reasons;
