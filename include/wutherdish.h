@@ -92,9 +92,10 @@ uint8_t wutherdish_verify(const uint8_t *settings, size_t settings_len,
  * it, counted in that order, are in the DAG. list: needed if the point is verified, above genesis and not ill-formed,
  * and the presence is 2 or 3; else it is not read. In it belong, each as it was found and in the order of arrival,
  *
- *   - the points that it includes and, with presence 3, those that it witnesses. Where one lacks, the answer is 8;
+ *   - the points that it includes and, with presence 3, those that it witnesses. Where one lacks, and no dropped
+ *     entry stands for it, 8 is returned;
  *   - if it includes no point of its author: every known point of that author in the round before;
- *   - with presence 3, behind these: the target of each of its two links that is indirect.
+ *   - with presence 3, after these: the target of each of its two links that is indirect.
  *
  * The last two may lack, and then what they would have given is lost in silence: reasons 9 and 10 without the author's
  * points; without the targets reason 14, their reasons 8, 11, 17, 18 and 19, and root causes that come through links.
@@ -130,9 +131,9 @@ uint8_t wutherdish_open(uint8_t *book, size_t book_len, const uint8_t *settings,
  *   11  the point is in the book already
  *   12  4,096 entries, or no room for the point
  *
- * and then 6 as above. Where the list is needed, the point's previous point, if the book keeps it, is marked certified.
- * Fail leaves the book as it is; any other verdict is appended with the point. As above, the book, the peer buffer and
- * the answer overlap neither each other nor the rest.
+ * and then 6 as above. Where the list is needed, the point's previous point, if the book keeps it, is marked certified,
+ * whatever the verdict. Fail leaves the book as it is; any other verdict is appended with the point, and is never taken
+ * back. As above, the book, the peer buffer and the answer overlap neither each other nor the rest.
  */
 uint8_t wutherdish_offer(uint8_t *book, size_t book_len,
                          const uint8_t *schedule, size_t schedule_len,

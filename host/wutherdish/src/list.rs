@@ -58,8 +58,8 @@ pub struct Dependency {
 
 /// The list that [`judge`](crate::judge) takes. In it belong, each as it was found and in the order of arrival,
 ///
-/// - the points that the judged one includes and, with presence 3, those that it witnesses. Where one lacks, judging is
-///   refused with [`Refusal::Mismatch`](crate::Refusal::Mismatch);
+/// - the points that the judged one includes and, with presence 3, those that it witnesses. Where one lacks, and no
+///   dropped entry stands for it, judging is refused with [`Refusal::Mismatch`](crate::Refusal::Mismatch);
 /// - if it includes no point of its author: every known point of that author in the round before;
 /// - with presence 3, in `indirect`: the target of each of its two links that is indirect.
 ///

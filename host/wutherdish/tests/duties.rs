@@ -7,8 +7,8 @@ const ROOT: &str = concat!(env!("CARGO_MANIFEST_DIR"), "/../..");
 /// The duties of a file of the repository, without comment marks, words in brackets, and line ends.
 fn duties(path: &str, mark: &str) -> Vec<String> {
     let text = fs::read_to_string(format!("{ROOT}/{path}")).expect("a file of the repository");
-    let (_, behind) = text.split_once("The library judges what it is handed;").expect("the duties");
-    let (inside, _) = behind.split_once("none of these.").expect("their end");
+    let (_, after) = text.split_once("The library judges what it is handed;").expect("the duties");
+    let (inside, _) = after.split_once("none of these.").expect("their end");
     let lines = inside.lines().map(|line| line.trim_start().strip_prefix(mark).unwrap_or(line));
     let words: Vec<&str> = lines.flat_map(str::split_whitespace).collect();
     without_brackets(&words.join(" ")).split(' ').map(str::to_string).collect()
@@ -17,7 +17,7 @@ fn duties(path: &str, mark: &str) -> Vec<String> {
 fn without_brackets(text: &str) -> String {
     let mut parts = text.split(" (");
     let first = parts.next().unwrap_or_default().to_string();
-    parts.fold(first, |kept, part| kept + part.split_once(')').map_or("", |(_, behind)| behind))
+    parts.fold(first, |kept, part| kept + part.split_once(')').map_or("", |(_, after)| after))
 }
 
 #[test]

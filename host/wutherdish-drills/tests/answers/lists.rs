@@ -18,7 +18,7 @@ fn lists([one, other]: [&str; 2]) -> [Vec<u8>; 2] {
     [list, other_list]
 }
 
-/// Without so many bytes at a place the first list is the second.
+/// Without some bytes at one place the first list is the second.
 fn is_cut(whole: &[u8], cut: &[u8]) -> bool {
     let count = whole.len() - cut.len();
     (0..=cut.len()).any(|at| [&whole[..at], &whole[at + count..]].concat() == cut)
@@ -32,7 +32,7 @@ fn a_list_leaves_out_a_version_or_the_targets() {
     }
 }
 
-/// The byte is the witness's certified flag: behind tag, length and state of the first entry.
+/// The byte is the witness's certified flag: after tag, length and state of the first entry.
 #[test]
 fn a_flag_is_another() {
     let [judging, arrival] = lists(["flag-of-judging", "flag-of-arrival"]);
