@@ -4,7 +4,8 @@ use std::fs;
 
 use wutherdish_sys::{ANSWER, PEER_BUFFER};
 
-const ROOT: &str = concat!(env!("CARGO_MANIFEST_DIR"), "/../..");
+/// The repository's root, from the crate's folder, where cargo runs its tests.
+const ROOT: &str = "../..";
 
 /// A file of the repository without comments, its words parted by single spaces.
 fn words(path: &str, comment: (&str, &str)) -> String {
