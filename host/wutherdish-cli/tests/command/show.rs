@@ -49,8 +49,12 @@ fn assert_signs(feed: &[u8]) {
     let certified = kept.iter().filter(|entry| entry.certified).count();
     assert_eq!(count(&elements, "circle", "seal", None), certified + 1);
     for entry in &kept {
-        let title = format!("{entry:#}\n");
-        assert_eq!(elements.iter().filter(|element| element.text.starts_with(&title)).count(), 1, "{entry}");
+        let end = format!("\ndigest {:#}\nauthor {:#}", entry.id().digest, entry.id().author);
+        let titles: Vec<&Element> = elements.iter().filter(|element| element.text.ends_with(&end)).collect();
+        let [title] = titles[..] else { panic!("{entry}: {titles:?}") };
+        assert_eq!(title.text.starts_with("certified "), entry.certified, "{title:?}");
+        let kind = entry.status.to_string().split(": ").next().map(|kind| format!(": {kind}")).expect("a kind");
+        assert!(title.text.contains(&kind), "{title:?}");
     }
     let classes = ["valid", "trans-invalid", "invalid", "ill-formed"];
     for (class, count_of) in classes.map(|class| (class, count(&elements, "rect", class, None))) {
@@ -86,7 +90,8 @@ fn roles_and_what_is_not_kept_are_shown() {
     assert!(!lacking.is_empty());
     assert_eq!(count(&never_found, "rect", "unkept", None), lacking.len() + 1);
     for id in lacking {
-        assert_eq!(count(&never_found, "title", "", Some(&format!("{id:#}: not kept"))), 1);
+        let title = format!("{id}: not kept\ndigest {:#}\nauthor {:#}", id.digest, id.author);
+        assert_eq!(count(&never_found, "title", "", Some(&title)), 1);
     }
 }
 
@@ -102,8 +107,8 @@ fn a_root_cause_is_drawn_through_the_peer_it_came_through() {
     assert_eq!(count(&elements, "path", "root-head", None), 2);
     let Status::TransInvalid(root) = roots[1].status else { panic!("it is trans-invalid") };
     let through = roots[1].point.through_id(root.link.through).expect("it has that dependency");
-    assert_eq!(count(&elements, "title", "", Some(&format!("root cause, through {through:#}"))), 1);
-    assert_eq!(count(&elements, "title", "", Some(&format!("root cause: {:#}", root.link.to))), 1);
+    assert_eq!(count(&elements, "title", "", Some(&format!("root cause, through {through}"))), 1);
+    assert_eq!(count(&elements, "title", "", Some(&format!("root cause: {}", root.link.to))), 1);
 }
 
 /// The class of each way that a point adds, and where it leads, but for those to root causes.

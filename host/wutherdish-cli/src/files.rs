@@ -1,0 +1,88 @@
+//! Files that are written whole or not at all.
+
+use std::ffi::OsStr;
+use std::fs::{self, File, Metadata, OpenOptions, Permissions};
+use std::io::{self, ErrorKind, Write};
+use std::os::unix::fs::MetadataExt;
+use std::path::{Path, PathBuf};
+
+use crate::problem::Problem;
+
+/// How many links to files are followed, as the operating system does it.
+const LINKS: usize = 40;
+/// How many names are tried for a temporary file.
+const TRIES: usize = 100;
+
+/// Which file it is, whatever its name; none for what is no file, as a pipe or a terminal, since nothing stands there.
+#[derive(Clone, Copy, PartialEq, Eq, Debug)]
+pub struct Identity {
+    device: u64,
+    inode: u64,
+}
+
+impl Identity {
+    /// Of something that is there.
+    pub fn of(found: &Metadata) -> Option<Self> {
+        found.is_file().then(|| Self { device: found.dev(), inode: found.ino() })
+    }
+
+    /// Of what has this name.
+    pub fn named(name: &OsStr) -> Option<Self> {
+        fs::metadata(name).ok().as_ref().and_then(Self::of)
+    }
+}
+
+/// Writes a whole file. What stands under its name stays until all bytes are written.
+pub fn write_file(name: &OsStr, bytes: &[u8]) -> Result<(), Problem> {
+    replace(Path::new(name), bytes).map_err(|error| Problem::file(name.to_string_lossy(), error))
+}
+
+fn replace(path: &Path, bytes: &[u8]) -> io::Result<()> {
+    let permissions = match fs::metadata(path) {
+        // a pipe or a device keeps nothing that could be lost, and its name must stay
+        Ok(there) if !there.is_file() => return OpenOptions::new().write(true).open(path)?.write_all(bytes),
+        // a file that must not be written must not be replaced either
+        Ok(there) => OpenOptions::new().write(true).open(path).map(|_| Some(there.permissions()))?,
+        Err(_) => None,
+    };
+    let path = followed(path);
+    let (file, temporary) = create_beside(&path)?;
+    let written = fill(file, bytes, permissions).and_then(|()| fs::rename(&temporary, &path));
+    if written.is_err() {
+        // what went wrong first is what is said
+        let _ = fs::remove_file(&temporary);
+    }
+    written
+}
+
+/// The file that a name leads to, which need not be there.
+fn followed(path: &Path) -> PathBuf {
+    let mut path = path.to_path_buf();
+    for _ in 0..LINKS {
+        let Ok(next) = fs::read_link(&path) else { break };
+        path = path.parent().unwrap_or(Path::new("")).join(next);
+    }
+    path
+}
+
+/// A new file in the folder of another one.
+fn create_beside(path: &Path) -> io::Result<(File, PathBuf)> {
+    let mut last = io::Error::from(ErrorKind::AlreadyExists);
+    for number in 0..TRIES {
+        let temporary = path.with_file_name(format!(".wutherdish-{}-{number}.tmp", std::process::id()));
+        match OpenOptions::new().write(true).create_new(true).open(&temporary) {
+            Ok(file) => return Ok((file, temporary)),
+            // one that was killed left it
+            Err(error) if error.kind() == ErrorKind::AlreadyExists => last = error,
+            Err(error) => return Err(error),
+        }
+    }
+    Err(last)
+}
+
+fn fill(mut file: File, bytes: &[u8], permissions: Option<Permissions>) -> io::Result<()> {
+    file.write_all(bytes)?;
+    permissions.map_or(Ok(()), |permissions| file.set_permissions(permissions))?;
+    // some file systems say only now that they are full
+    file.sync_all()
+}
