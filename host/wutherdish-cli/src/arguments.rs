@@ -4,7 +4,7 @@ use std::collections::VecDeque;
 use std::ffi::{OsStr, OsString};
 use std::os::unix::ffi::OsStrExt;
 
-use crate::problem::Problem;
+use crate::problem::{Problem, shown};
 use crate::usage::{self, Opt};
 
 /// Arguments that nothing has taken yet.
@@ -37,7 +37,7 @@ impl Arguments {
         let (name, joined) = split(argument);
         let Some(option) = name.to_str().and_then(usage::option) else { return Err(unknown(name)) };
         let value = match (option.value, joined) {
-            (None, Some(_)) => return Err(wrong(format!("{} takes no value", name.to_string_lossy()))),
+            (None, Some(_)) => return Err(wrong(format!("{} takes no value", shown(name)))),
             (None, None) => None,
             (Some(_), joined) => joined.map(OsStr::to_os_string).or_else(|| rest.next()),
         };
@@ -78,7 +78,7 @@ impl Arguments {
         }
         match self.next() {
             None => Ok(()),
-            Some(other) => Err(wrong(format!("{} is one argument too many", other.to_string_lossy()))),
+            Some(other) => Err(wrong(format!("{} is one argument too many", shown(&other)))),
         }
     }
 }
@@ -97,7 +97,7 @@ fn split(argument: &OsStr) -> (&OsStr, Option<&OsStr>) {
 }
 
 fn unknown(option: &OsStr) -> Problem {
-    wrong(format!("{} is no option here", option.to_string_lossy()))
+    wrong(format!("{} is no option here", shown(option)))
 }
 
 fn wrong(what: String) -> Problem {

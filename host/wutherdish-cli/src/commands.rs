@@ -14,7 +14,7 @@ use crate::input::{Input, Kind};
 use crate::names::Names;
 use crate::output::{Output, print, write};
 use crate::picture;
-use crate::problem::{Problem, remark};
+use crate::problem::{Problem, remark, shown};
 use crate::progress::Progress;
 use crate::room::Room;
 use crate::summary::Summary;
@@ -161,9 +161,10 @@ pub fn drills() -> Result<(), Problem> {
 }
 
 /// The bytes of a drill.
-pub fn drill(name: &str, output: Option<&OsStr>) -> Result<(), Problem> {
-    let Some(drill) = wutherdish_drills::named(name) else {
-        return Err(Problem::Usage(format!("no drill is called {name}; `wutherdish drill` lists them")));
+pub fn drill(name: &OsStr, output: Option<&OsStr>) -> Result<(), Problem> {
+    let Some(drill) = name.to_str().and_then(wutherdish_drills::named) else {
+        let what = format!("no drill is called {}; `wutherdish drill` lists them", shown(name));
+        return Err(Problem::Usage(what));
     };
     if output.is_none() && io::stdout().is_terminal() {
         let what = "a drill is bytes, not for a terminal: name a file with -o, or send them elsewhere";
@@ -183,7 +184,7 @@ pub fn help(command: Option<&OsStr>) -> Result<(), Problem> {
 
 /// The problem that there is no such command.
 pub fn no_command(name: &OsStr) -> Problem {
-    Problem::Usage(format!("{} is no command", name.to_string_lossy()))
+    Problem::Usage(format!("{} is no command", shown(name)))
 }
 
 /// Which version this is.

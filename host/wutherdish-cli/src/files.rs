@@ -1,12 +1,12 @@
 //! Files that are written whole or not at all.
 
 use std::ffi::OsStr;
-use std::fs::{self, File, Metadata, OpenOptions, Permissions};
+use std::fs::{self, File, Metadata, OpenOptions};
 use std::io::{self, ErrorKind, Write};
-use std::os::unix::fs::MetadataExt;
+use std::os::unix::fs::{MetadataExt, fchown};
 use std::path::{Path, PathBuf};
 
-use crate::problem::Problem;
+use crate::problem::{Problem, shown};
 
 /// How many links to files are followed, as the operating system does it.
 const LINKS: usize = 40;
@@ -34,20 +34,21 @@ impl Identity {
 
 /// Writes a whole file. What stands under its name stays until all bytes are written.
 pub fn write_file(name: &OsStr, bytes: &[u8]) -> Result<(), Problem> {
-    replace(Path::new(name), bytes).map_err(|error| Problem::file(name.to_string_lossy(), error))
+    replace(Path::new(name), bytes).map_err(|error| Problem::file(shown(name), error))
 }
 
 fn replace(path: &Path, bytes: &[u8]) -> io::Result<()> {
-    let permissions = match fs::metadata(path) {
+    let old = match fs::metadata(path) {
         // a pipe or a device keeps nothing that could be lost, and its name must stay
         Ok(there) if !there.is_file() => return OpenOptions::new().write(true).open(path)?.write_all(bytes),
         // a file that must not be written must not be replaced either
-        Ok(there) => OpenOptions::new().write(true).open(path).map(|_| Some(there.permissions()))?,
-        Err(_) => None,
+        Ok(there) => OpenOptions::new().write(true).open(path).map(|_| Some(there))?,
+        Err(error) if error.kind() == ErrorKind::NotFound => None,
+        Err(error) => return Err(error),
     };
     let path = followed(path);
-    let (file, temporary) = create_beside(&path)?;
-    let written = fill(file, bytes, permissions).and_then(|()| fs::rename(&temporary, &path));
+    let (file, temporary) = create_beside(&path).map_err(of_folder)?;
+    let written = fill(file, bytes, old).and_then(|()| fs::rename(&temporary, &path));
     if written.is_err() {
         // what went wrong first is what is said
         let _ = fs::remove_file(&temporary);
@@ -80,9 +81,18 @@ fn create_beside(path: &Path) -> io::Result<(File, PathBuf)> {
     Err(last)
 }
 
-fn fill(mut file: File, bytes: &[u8], permissions: Option<Permissions>) -> io::Result<()> {
+/// The error that there is no such folder, or that nothing may be written there.
+fn of_folder(error: io::Error) -> io::Error {
+    io::Error::new(error.kind(), format!("its folder: {error}"))
+}
+
+/// Writes all bytes. A file that replaces an old one has its mode and, where that is allowed, its owner.
+fn fill(mut file: File, bytes: &[u8], old: Option<Metadata>) -> io::Result<()> {
     file.write_all(bytes)?;
-    permissions.map_or(Ok(()), |permissions| file.set_permissions(permissions))?;
+    if let Some(old) = old {
+        let _ = fchown(&file, Some(old.uid()), Some(old.gid()));
+        file.set_permissions(old.permissions())?;
+    }
     // some file systems say only now that they are full
     file.sync_all()
 }

@@ -7,7 +7,7 @@ use std::io::{self, Read};
 use wutherdish::{SETTINGS, Unreadable};
 
 use crate::files::Identity;
-use crate::problem::Problem;
+use crate::problem::{Problem, shown};
 use crate::streams;
 
 /// A file, read whole.
@@ -36,7 +36,7 @@ impl Input {
     pub fn read(name: &OsStr) -> Result<Self, Problem> {
         let (name, file) = match name == "-" {
             true => ("standard input".into(), streams::input()),
-            false => (name.to_string_lossy().into_owned(), File::open(name)),
+            false => (shown(name), File::open(name)),
         };
         let read = file.and_then(|mut file| {
             let (mut bytes, found) = (Vec::new(), file.metadata()?);
@@ -63,7 +63,7 @@ impl Input {
         match output.filter(|output| self.identity.is_some() && Identity::named(output) == self.identity) {
             None => Ok(()),
             Some(output) => {
-                let what = format!("{option} {} would write over the input", output.to_string_lossy());
+                let what = format!("{option} {} would write over the input", shown(output));
                 Err(Problem::Usage(what))
             }
         }

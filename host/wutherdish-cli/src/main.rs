@@ -89,7 +89,7 @@ fn drill(mut arguments: Arguments) -> Result<(), Problem> {
     let name = arguments.next();
     arguments.done()?;
     match (name, output) {
-        (Some(name), output) => commands::drill(&name.to_string_lossy(), output.as_deref()),
+        (Some(name), output) => commands::drill(&name, output.as_deref()),
         (None, None) => commands::drills(),
         (None, Some(_)) => Err(Problem::Usage("-o needs the name of a drill".into())),
     }
@@ -98,7 +98,7 @@ fn drill(mut arguments: Arguments) -> Result<(), Problem> {
 fn demo(mut arguments: Arguments) -> Result<(), Problem> {
     let output = arguments.value(&usage::OUTPUT);
     arguments.done()?;
-    commands::drill("demo", output.as_deref())
+    commands::drill(OsStr::new("demo"), output.as_deref())
 }
 
 fn help(mut arguments: Arguments) -> Result<(), Problem> {

@@ -1,5 +1,6 @@
 //! What can go wrong, and the exit code that says so.
 
+use std::ffi::OsStr;
 use std::fmt::{self, Display, Formatter};
 use std::io::{self, Write};
 use std::process::ExitCode;
@@ -62,4 +63,10 @@ impl Display for Problem {
 /// Says something on standard error, if anybody reads that.
 pub fn remark(what: &str) {
     let _ = writeln!(io::stderr(), "wutherdish: {what}");
+}
+
+/// An argument as a message writes it: in quotes where it is empty or would not be seen.
+pub fn shown(argument: &OsStr) -> String {
+    let text = argument.to_string_lossy();
+    if text.is_empty() || text.contains(char::is_control) { format!("{text:?}") } else { text.into_owned() }
 }

@@ -85,14 +85,22 @@ fn a_file_that_is_replaced_keeps_its_mode_and_its_links() {
 }
 
 #[test]
-fn devices_are_written_as_they_are() {
+fn what_is_no_file_is_not_replaced() {
     assert_eq!(done(&["show", "-", "-o", "/dev/stdout"], &drill("demo")), done(&["show", "-"], &drill("demo")));
     let ran = run(&["demo", "-o", "/dev/full"]);
     assert_eq!((ran.code, &ran.err[..]), (Some(1), "wutherdish: /dev/full: No space left on device (os error 28)\n"));
+    let ran = run(&["demo", "-o", "no/such/folder/file"]);
+    assert_eq!(ran.err, "wutherdish: no/such/folder/file: its folder: No such file or directory (os error 2)\n");
     let folder = folder("no-file");
     let ran = run(&["demo", "-o", &folder]);
     assert_eq!(ran.code, Some(1));
     assert_eq!(ran.err, format!("wutherdish: {folder}: Is a directory (os error 21)\n"));
+    let circle = format!("{folder}/circle");
+    symlink("circle", &circle).expect("it is linked");
+    let ran = run(&["demo", "-o", &circle]);
+    assert_eq!(ran.code, Some(1));
+    assert!(ran.err.starts_with(&format!("wutherdish: {circle}: Too many levels of symbolic links")), "{}", ran.err);
+    assert!(Path::new(&circle).is_symlink());
 }
 
 #[test]

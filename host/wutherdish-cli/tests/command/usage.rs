@@ -38,6 +38,9 @@ fn wrong_usage_is_2() {
     assert_usage(&["--version", "explain"], "explain is one argument too many");
     assert_usage(&["explain", "-", "--book", "x"], "standard input is a file of cases, which leaves no book");
     assert_usage(&["drill", "no-such-drill"], "no drill is called no-such-drill");
+    assert_usage(&[""], "\"\" is no command");
+    assert_usage(&["drill", ""], "no drill is called \"\"");
+    assert_usage(&["explain", "-", "a\nb"], r#""a\nb" is one argument too many"#);
     assert_usage(&["drill", "-o", "x"], "-o needs the name of a drill");
     for room in ["46", "16777217", "-1", "many", " 100"] {
         assert_usage(&["explain", "-", "--room", room], "--room needs a number from 47 to 16777216");
@@ -138,6 +141,7 @@ fn bad_input_is_1() {
         let ran = run(&[command, "no/such/file"]);
         assert_eq!((ran.code, &ran.out[..]), (Some(1), ""));
         assert!(ran.err.starts_with("wutherdish: no/such/file: "), "{}", ran.err);
+        assert!(run(&[command, ""]).err.starts_with("wutherdish: \"\": "), "{command}");
     }
     assert_bad(&["show", "-"], &drill("invalid-02"), "standard input: a file of cases, which leaves no book to show");
 }
