@@ -8,7 +8,7 @@ use wutherdish::{Book, Refusal, Unreadable};
 use crate::cases::Cases;
 use crate::explain::Explain;
 use crate::feed::Feed;
-use crate::files::write_file;
+use crate::files::{Identity, write_file};
 use crate::ids::Ids;
 use crate::input::{Input, Kind};
 use crate::names::Names;
@@ -40,7 +40,7 @@ pub struct Explaining {
 pub fn explain(file: &OsStr, options: &Explaining) -> Result<(), Problem> {
     let mut out = Output::new(options.book.is_some())?;
     let input = Input::read(file)?;
-    input.spare("--book", options.book.as_deref())?;
+    keep_apart(&input, options.book.as_deref())?;
     let bad = match (input.kind()?, &options.book) {
         (Kind::Cases, None) => {
             let ids = || Ids::of_cases(Cases::new(&input.bytes));
@@ -59,6 +59,17 @@ pub fn explain(file: &OsStr, options: &Explaining) -> Result<(), Problem> {
     };
     out.finish()?;
     bad.map_or(Ok(()), |unreadable| Err(input.bad(unreadable)))
+}
+
+/// Refuses to write words or book over the input, or the book over the words.
+fn keep_apart(input: &Input, book: Option<&OsStr>) -> Result<(), Problem> {
+    input.spare(None)?;
+    let Some(book) = book else { return Ok(()) };
+    input.spare(Some(("--book", book)))?;
+    match Identity::named(book).is_some_and(|written| Some(written) == Identity::of_output()) {
+        true => Err(Problem::Usage(format!("--book {} would write over the words", shown(book)))),
+        false => Ok(()),
+    }
 }
 
 fn explaining<'a>(
@@ -86,7 +97,7 @@ struct Shown {
 /// A book, or the book that a feed leaves, as a picture.
 pub fn show(file: &OsStr, room: Option<usize>, output: Option<&OsStr>, progress: bool) -> Result<(), Problem> {
     let input = Input::read(file)?;
-    input.spare("-o", output)?;
+    input.spare(output.map(|output| ("-o", output)))?;
     let Shown { book, title, ids, bad } = match input.kind()? {
         Kind::Book => found(&input)?,
         Kind::Feed => fed(&input, room, progress)?,
@@ -147,6 +158,7 @@ fn refused(room: &Room) -> String {
 pub fn tally(file: &OsStr, progress: bool) -> Result<(), Problem> {
     let mut out = Output::new(false)?;
     let input = Input::read(file)?;
+    input.spare(None)?;
     let mut progress = Progress::new(input.bytes.len(), progress, io::stdout().is_terminal());
     print_lines(&input.bytes, &mut progress, &mut out).map_err(|error| Problem::output(&error))?;
     out.finish()

@@ -50,6 +50,9 @@ impl<W: Write> Explain<'_, W> {
 
     /// Makes the calls of a file of cases and explains the answers, likewise.
     pub fn cases(&mut self, cases: Cases<'_>) -> Result<Option<Unreadable>, Problem> {
+        if !self.last {
+            self.note_names()?;
+        }
         let mut summary = Summary::default();
         let (mut bad, mut last) = (None, None);
         for case in cases {
@@ -74,10 +77,15 @@ impl<W: Write> Explain<'_, W> {
         let (settings, schedule) = &feed.front;
         self.line(&format!("settings: {}", self.words.settings(settings)))?;
         self.line(&format!("schedule: {}", words::schedule(schedule)))?;
-        if self.words.names.have_tails() {
-            self.line(&format!("note: {}", self.words.names.words()))?;
-        }
+        self.note_names()?;
         self.line("")
+    }
+
+    fn note_names(&mut self) -> Result<(), Problem> {
+        match self.words.names.have_tails() {
+            true => self.line(&format!("note: {}", self.words.names.words())),
+            false => Ok(()),
+        }
     }
 
     /// What is to be known of the book's room; of the last point alone, only that others have no part in its verdict.

@@ -7,6 +7,7 @@ use std::os::unix::fs::{MetadataExt, fchown};
 use std::path::{Path, PathBuf};
 
 use crate::problem::{Problem, shown};
+use crate::streams;
 
 /// How many links to files are followed, as the operating system does it.
 const LINKS: usize = 40;
@@ -29,6 +30,11 @@ impl Identity {
     /// Of what has this name.
     pub fn named(name: &OsStr) -> Option<Self> {
         fs::metadata(name).ok().as_ref().and_then(Self::of)
+    }
+
+    /// Of standard output.
+    pub fn of_output() -> Option<Self> {
+        streams::output().and_then(|output| output.metadata()).ok().as_ref().and_then(Self::of)
     }
 }
 

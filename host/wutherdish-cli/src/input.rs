@@ -58,14 +58,15 @@ impl Input {
         kind(&self.bytes).ok_or_else(|| self.bad(Unreadable { at: 0, wanted }))
     }
 
-    /// Refuses to write over what was read.
-    pub fn spare(&self, option: &str, output: Option<&OsStr>) -> Result<(), Problem> {
-        match output.filter(|output| self.identity.is_some() && Identity::named(output) == self.identity) {
-            None => Ok(()),
-            Some(output) => {
-                let what = format!("{option} {} would write over the input", shown(output));
-                Err(Problem::Usage(what))
-            }
+    /// Refuses to write over it: to the file that an option names, or to standard output.
+    pub fn spare(&self, output: Option<(&str, &OsStr)>) -> Result<(), Problem> {
+        let (written, what) = match output {
+            Some((option, file)) => (Identity::named(file), format!("{option} {}", shown(file))),
+            None => (Identity::of_output(), "standard output".into()),
+        };
+        match self.identity.is_some() && self.identity == written {
+            true => Err(Problem::Usage(format!("{what} would write over the input"))),
+            false => Ok(()),
         }
     }
 

@@ -83,7 +83,7 @@ impl Room {
                 Some(format!("the book grew to {size} bytes; tally's, of {TALLY}, refuses points of this feed with 12"))
             }
             _ if self.kept == MOST_POINTS => Some(format!("{points} refused: a book keeps {MOST_POINTS} at most")),
-            _ if self.grows => Some(format!("{points} refused: a book has {most} bytes at most")),
+            _ if size == *most => Some(format!("{points} refused: a book has {most} bytes at most")),
             _ => Some(format!(
                 "{points} refused for lack of room: --room takes up to {most}, and without it the book grows"
             )),

@@ -44,7 +44,27 @@ fn nothing_writes_over_its_input() {
             assert_spared(redirected, option, output);
         }
     }
+    for arguments in [&["explain", &file][..], &["show", &file], &["tally", &soft], &["tally", "-"]] {
+        let ran = shell(&format!("exec \"$0\" \"$@\" <'{file}' >>'{hard}'"), arguments, &[]);
+        assert_eq!(ran.code, Some(2), "{arguments:?}");
+        assert!(ran.err.starts_with("wutherdish: standard output would write over the input\n"), "{}", ran.err);
+        assert!(fs::read(&file).expect("it is there") == feed, "{arguments:?}");
+    }
     assert_eq!(names_in(&folder), ["feed", "hard", "soft"]);
+}
+
+#[test]
+fn a_book_does_not_replace_the_words() {
+    let words = scratch("words");
+    for book in [&words, "/dev/stdout"] {
+        let ran = shell(&format!("exec \"$0\" \"$@\" >'{words}'"), &["explain", "-", "--book", book], &drill("demo"));
+        assert_eq!(ran.code, Some(2), "{book}");
+        assert!(ran.err.starts_with(&format!("wutherdish: --book {book} would write over the words\n")), "{}", ran.err);
+    }
+    let file = scratch("picture");
+    let ran = shell(&format!("exec \"$0\" \"$@\" >'{file}'"), &["show", "-", "-o", "/dev/stdout"], &drill("demo"));
+    assert_eq!((ran.code, &ran.err[..]), (Some(0), ""));
+    assert_eq!(fs::read_to_string(&file).expect("it is written"), done(&["show", "-"], &drill("demo")));
 }
 
 #[test]
