@@ -51,10 +51,9 @@ impl Names {
 
     /// What names are.
     pub fn words(&self) -> &'static str {
-        match (self.ids.is_empty(), self.tails.is_empty()) {
-            (true, _) => "ids are written whole",
-            (false, true) => "ids are named by their first four bytes",
-            (false, false) => "ids are named by their first four bytes, and by last ones where these are alike",
+        match self.have_tails() {
+            false => "ids are named by their first four bytes",
+            true => "ids are named by their first four bytes, and by last ones where these are alike",
         }
     }
 
