@@ -1,6 +1,6 @@
 //! Standard input and output that are closed or fail, and progress.
 
-use std::io::{Read, Write};
+use std::io::{PipeWriter, Read, Write};
 use std::time::Instant;
 
 use crate::run::{command, done, drill, fed, scratch, shell, split_front};
@@ -15,39 +15,44 @@ fn long_feed() -> Vec<u8> {
 /// The exit code of a command whose output nobody reads.
 const CLOSED: i32 = 141;
 
+/// A pipe that nobody reads.
+fn closed_pipe() -> PipeWriter {
+    std::io::pipe().expect("there is a pipe").1
+}
+
+/// Runs the command on an input, which it need not read; what it writes goes into the pipe.
+fn assert_closed(arguments: &[&str], out: PipeWriter, input: &[u8]) {
+    let mut child = command(arguments).stdout(out).spawn().expect("the command starts");
+    let _ = child.stdin.take().expect("its input is a pipe").write_all(input);
+    let output = child.wait_with_output().expect("the command ends");
+    assert_eq!((output.status.code(), &output.stderr[..]), (Some(CLOSED), &b""[..]), "{arguments:?}");
+}
+
 #[test]
 fn a_closed_pipe_ends_it_quietly() {
-    let (feed, demo) = (long_feed(), drill("demo"));
-    let runs = [(&["explain", "-"][..], &feed), (&["tally"], &feed), (&["show", "-"], &demo), (&["demo"], &demo)];
-    for (arguments, input) in runs.into_iter().chain([(&["drill"][..], &demo), (&["help"], &demo)]) {
-        let mut child = command(arguments).spawn().expect("the command starts");
-        let mut out = child.stdout.take().expect("its output is a pipe");
-        if input == &feed {
-            std::thread::spawn(move || out.read_exact(&mut [0; 10]).expect("it begins"));
-        } else {
-            drop(out);
-        }
-        // not all of them read it
-        let _ = child.stdin.take().expect("its input is a pipe").write_all(input);
-        let output = child.wait_with_output().expect("the command ends");
-        assert_eq!((output.status.code(), &output.stderr[..]), (Some(CLOSED), &b""[..]), "{arguments:?}");
+    for arguments in
+        [&["explain", "-"][..], &["show", "-"], &["tally"], &["demo"], &["drill"], &["help"], &["--version"]]
+    {
+        assert_closed(arguments, closed_pipe(), &drill("demo"));
+    }
+    // one that is closed after its first bytes
+    for arguments in [&["explain", "-"][..], &["tally"]] {
+        let (mut reader, writer) = std::io::pipe().expect("there is a pipe");
+        let reading = std::thread::spawn(move || reader.read_exact(&mut [0; 10]));
+        assert_closed(arguments, writer, &long_feed());
+        reading.join().expect("it ends").expect("it begins");
     }
 }
 
 #[test]
 fn the_book_is_written_though_nobody_reads_the_words() {
-    let (feed, closed, read) = (long_feed(), scratch("closed.book"), scratch("read.book"));
-    let mut child = command(&["explain", "-", "--book", &closed]).spawn().expect("the command starts");
-    drop(child.stdout.take());
-    child.stdin.take().expect("its input is a pipe").write_all(&feed).expect("it reads all");
-    let output = child.wait_with_output().expect("the command ends");
-    assert_eq!((output.status.code(), &output.stderr[..]), (Some(CLOSED), &b""[..]));
+    let (feed, [read, closed, full]) = (long_feed(), ["read.book", "closed.book", "full.book"].map(scratch));
     done(&["explain", "-", "--book", &read], &feed);
-    assert_eq!(std::fs::read(&closed).expect("it is written"), std::fs::read(&read).expect("it is written"));
-    let full = scratch("full.book");
+    assert_closed(&["explain", "-", "--book", &closed], closed_pipe(), &feed);
     let ran = shell("exec \"$0\" \"$@\" >/dev/full", &["explain", "-", "--book", &full], &feed);
     assert_eq!((ran.code, &ran.err[..]), (Some(1), FULL));
-    assert_eq!(std::fs::read(&full).expect("it is written"), std::fs::read(&read).expect("it is written"));
+    let [read, closed, full] = [read, closed, full].map(|file| std::fs::read(file).expect("it is written"));
+    assert!(read == closed && read == full);
 }
 
 const FULL: &str = "wutherdish: standard output: No space left on device (os error 28)\n";
