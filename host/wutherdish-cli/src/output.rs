@@ -2,7 +2,7 @@
 
 use std::ffi::OsStr;
 use std::fs::File;
-use std::io::{self, BufWriter, Write};
+use std::io::{self, BufWriter, ErrorKind, Write};
 
 use crate::files::write_file;
 use crate::problem::Problem;
@@ -32,7 +32,7 @@ impl Output {
 
     fn unless_it_goes_on<T>(&mut self, written: io::Result<T>, instead: T) -> io::Result<T> {
         match written {
-            Err(error) if self.goes_on => {
+            Err(error) if self.goes_on && error.kind() != ErrorKind::Interrupted => {
                 self.failed.get_or_insert(error);
                 Ok(instead)
             }
