@@ -10,7 +10,7 @@ use crate::run::{done, drill, feed, scratch, split_front};
 use crate::xml::elements;
 
 /// Peers that begin alike, and points that do: all but peer 0's of a round have the same first four bytes.
-fn network() -> Network {
+pub fn network() -> Network {
     let peers = (1..=4).map(|last| PeerId(std::array::from_fn(|place| if place < 31 { 7 } else { last })));
     let digest = |round: u32, peer: usize| {
         let mut digest = [round as u8; 32];

@@ -4,6 +4,7 @@ use std::collections::BTreeSet;
 
 use wutherdish::{AnchorLink, AnchorStageRole, Book, Point, PointId, Refusal, Status, Through};
 
+use crate::names;
 use crate::run::{done, drill, fed, feed, feed_drills, is_bad, scratch, split_front};
 use crate::xml::{Element, elements};
 
@@ -215,9 +216,19 @@ fn text_box(text: &Element) -> (f64, f64, f64, f64) {
     (left, y - 0.75 * height, left + width, y + 0.2 * height)
 }
 
+/// Whether a text lies in the frame of a verdict.
+fn is_framed(text: &Element, elements: &[Element]) -> bool {
+    let (left, top, right, bottom) = text_box(text);
+    let frames = ["valid", "trans-invalid", "invalid", "ill-formed", "unkept"];
+    elements.iter().filter(|element| element.name == "rect" && frames.contains(&element.class())).any(|frame| {
+        let [x, y, width, height] = ["x", "y", "width", "height"].map(|name| f64::from(frame.number(name)));
+        x <= left && y <= top && x + width >= right && y + height >= bottom
+    })
+}
+
 #[test]
 fn no_texts_overlap() {
-    for feed in [drill("demo"), drill("equivocation"), drill("invalid-17"), feed()] {
+    for feed in [drill("demo"), drill("equivocation"), drill("invalid-17"), feed(), names::network().feed(3)] {
         let elements = elements(&done(&["show", "-"], &feed));
         let texts: Vec<&Element> =
             elements.iter().filter(|element| element.name == "text" && !element.text.is_empty()).collect();
@@ -225,6 +236,7 @@ fn no_texts_overlap() {
         for (place, text) in texts.iter().enumerate() {
             let (left, top, right, bottom) = text_box(text);
             assert!(left >= 0.0 && right <= width, "{text:?}");
+            assert!(!text.class().starts_with("id") || is_framed(text, &elements), "{text:?}");
             for other in &texts[..place] {
                 let (x, y, to_x, to_y) = text_box(other);
                 assert!(left >= to_x || right <= x || top >= to_y || bottom <= y, "{text:?} and {other:?}");
