@@ -66,7 +66,7 @@ fn keep_apart(input: &Input, book: Option<&OsStr>) -> Result<(), Problem> {
     input.spare(None)?;
     let Some(book) = book else { return Ok(()) };
     input.spare(Some(("--book", book)))?;
-    match Identity::named(book).is_some_and(|written| Some(written) == Identity::of_output()) {
+    match Identity::is_output(book) {
         true => Err(Problem::Usage(format!("--book {} would write over the words", shown(book)))),
         false => Ok(()),
     }

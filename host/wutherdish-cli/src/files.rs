@@ -36,6 +36,11 @@ impl Identity {
     pub fn of_output() -> Option<Self> {
         streams::output().and_then(|output| output.metadata()).ok().as_ref().and_then(Self::of)
     }
+
+    /// Whether this is the name of the file that standard output goes to.
+    pub fn is_output(name: &OsStr) -> bool {
+        Self::named(name).is_some_and(|named| Some(named) == Self::of_output())
+    }
 }
 
 /// Writes a whole file. What stands under its name stays until all bytes are written.
@@ -46,13 +51,13 @@ pub fn write_file(name: &OsStr, bytes: &[u8]) -> Result<(), Problem> {
 fn replace(path: &Path, bytes: &[u8]) -> io::Result<()> {
     let old = match fs::metadata(path) {
         // a pipe or a device keeps nothing that could be lost, and its name must stay
-        Ok(there) if !there.is_file() => return OpenOptions::new().write(true).open(path)?.write_all(bytes),
+        Ok(there) if !there.is_file() => return write_in_place(path, bytes),
         // a file that must not be written must not be replaced either
         Ok(there) => OpenOptions::new().write(true).open(path).map(|_| Some(there))?,
         Err(error) if error.kind() == ErrorKind::NotFound => None,
         Err(error) => return Err(error),
     };
-    let path = followed(path);
+    let Some(path) = followed(path) else { return write_in_place(path, bytes) };
     let (file, temporary) = create_beside(&path).map_err(of_folder)?;
     let written = fill(file, bytes, old).and_then(|()| fs::rename(&temporary, &path));
     if written.is_err() {
@@ -62,14 +67,23 @@ fn replace(path: &Path, bytes: &[u8]) -> io::Result<()> {
     written
 }
 
-/// The file that a name leads to, which need not be there.
-fn followed(path: &Path) -> PathBuf {
+fn write_in_place(path: &Path, bytes: &[u8]) -> io::Result<()> {
+    OpenOptions::new().write(true).truncate(true).open(path)?.write_all(bytes)
+}
+
+/// The file that a name leads to, which need not be there. There is none for links in /proc, as those that /dev/stdout
+/// and /dev/fd lead to: they are files that are open, and need not have a name any more.
+fn followed(path: &Path) -> Option<PathBuf> {
     let mut path = path.to_path_buf();
     for _ in 0..LINKS {
         let Ok(next) = fs::read_link(&path) else { break };
-        path = path.parent().unwrap_or(Path::new("")).join(next);
+        let folder = path.parent().unwrap_or(Path::new(""));
+        if fs::canonicalize(folder).is_ok_and(|folder| folder.starts_with("/proc")) {
+            return None;
+        }
+        path = folder.join(next);
     }
-    path
+    Some(path)
 }
 
 /// A new file in the folder of another one.

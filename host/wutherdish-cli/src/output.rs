@@ -4,7 +4,7 @@ use std::ffi::OsStr;
 use std::fs::File;
 use std::io::{self, BufWriter, ErrorKind, Write};
 
-use crate::files::write_file;
+use crate::files::{Identity, write_file};
 use crate::problem::Problem;
 use crate::streams;
 
@@ -60,7 +60,10 @@ pub fn print(bytes: &[u8]) -> Result<(), Problem> {
     out.finish()
 }
 
-/// Writes to a file, or to standard output where none is named.
+/// Writes to a file, or to standard output where none is named, or its own: others may write there too.
 pub fn write(name: Option<&OsStr>, bytes: &[u8]) -> Result<(), Problem> {
-    name.map_or_else(|| print(bytes), |name| write_file(name, bytes))
+    match name.filter(|name| !Identity::is_output(name)) {
+        Some(name) => write_file(name, bytes),
+        None => print(bytes),
+    }
 }

@@ -53,18 +53,40 @@ fn nothing_writes_over_its_input() {
     assert_eq!(names_in(&folder), ["feed", "hard", "soft"]);
 }
 
+/// A link to what is open as a number, as /dev/stdout is one; a command that replaced it would do no harm.
+fn link_to_open(folder: &str, number: u8) -> String {
+    let link = format!("{folder}/open-{number}");
+    symlink(format!("/proc/self/fd/{number}"), &link).expect("it is linked");
+    link
+}
+
 #[test]
 fn a_book_does_not_replace_the_words() {
-    let words = scratch("words");
-    for book in [&words, "/dev/stdout"] {
+    let folder = folder("words");
+    let (words, link) = (format!("{folder}/words"), link_to_open(&folder, 1));
+    for book in [&words, &link] {
         let ran = shell(&format!("exec \"$0\" \"$@\" >'{words}'"), &["explain", "-", "--book", book], &drill("demo"));
         assert_eq!(ran.code, Some(2), "{book}");
         assert!(ran.err.starts_with(&format!("wutherdish: --book {book} would write over the words\n")), "{}", ran.err);
     }
-    let file = scratch("picture");
-    let ran = shell(&format!("exec \"$0\" \"$@\" >'{file}'"), &["show", "-", "-o", "/dev/stdout"], &drill("demo"));
+}
+
+#[test]
+fn what_is_open_is_written_as_it_stands() {
+    let folder = folder("open");
+    let (demo, [out, third]) = (drill("demo"), [1, 3].map(|number| link_to_open(&folder, number)));
+    assert_eq!(done(&["show", "-", "-o", &out], &demo), done(&["show", "-"], &demo));
+    let file = format!("{folder}/file");
+    // others write to the same file before and after it
+    let ran = shell(&format!("(echo before; \"$0\" \"$@\" && echo after) >'{file}'"), &["demo", "-o", &out], &[]);
     assert_eq!((ran.code, &ran.err[..]), (Some(0), ""));
-    assert_eq!(fs::read_to_string(&file).expect("it is written"), done(&["show", "-"], &drill("demo")));
+    assert_eq!(fs::read(&file).expect("it is written"), [b"before\n", &demo[..], b"after\n"].concat());
+    // one that has no name any more
+    let script = format!("exec 3<>'{file}'; rm '{file}'; \"$0\" \"$@\" && cat '{third}'; exec 3>&-");
+    let ran = shell(&script, &["show", "-", "-o", &third], &demo);
+    assert_eq!((ran.code, &ran.err[..]), (Some(0), ""));
+    assert_eq!(ran.out, done(&["show", "-"], &demo));
+    assert_eq!(names_in(&folder), ["open-1", "open-3"]);
 }
 
 #[test]
@@ -106,9 +128,6 @@ fn a_file_that_is_replaced_keeps_its_mode_and_its_links() {
 
 #[test]
 fn what_is_no_file_is_not_replaced() {
-    assert_eq!(done(&["show", "-", "-o", "/dev/stdout"], &drill("demo")), done(&["show", "-"], &drill("demo")));
-    let ran = run(&["demo", "-o", "/dev/full"]);
-    assert_eq!((ran.code, &ran.err[..]), (Some(1), "wutherdish: /dev/full: No space left on device (os error 28)\n"));
     let ran = run(&["demo", "-o", "no/such/folder/file"]);
     assert_eq!(ran.err, "wutherdish: no/such/folder/file: its folder: No such file or directory (os error 2)\n");
     let folder = folder("no-file");
@@ -121,6 +140,12 @@ fn what_is_no_file_is_not_replaced() {
     assert_eq!(ran.code, Some(1));
     assert!(ran.err.starts_with(&format!("wutherdish: {circle}: Too many levels of symbolic links")), "{}", ran.err);
     assert!(Path::new(&circle).is_symlink());
+    let [pipe, read] = ["pipe", "read"].map(|name| format!("{folder}/{name}"));
+    let script = format!("mkfifo '{pipe}' && {{ timeout 20 cat '{pipe}' >'{read}' & \"$0\" \"$@\"; wait $!; }}");
+    let ran = shell(&script, &["show", "-", "-o", &pipe], &drill("demo"));
+    assert_eq!((ran.code, &ran.err[..]), (Some(0), ""));
+    assert_eq!(fs::read_to_string(&read).expect("it is written"), done(&["show", "-"], &drill("demo")));
+    assert_eq!(names_in(&folder), ["circle", "pipe", "read"]);
 }
 
 #[test]
