@@ -108,7 +108,12 @@ impl<'a> Iterator for Cases<'a> {
     }
 }
 
-impl Case<'_> {
+impl<'a> Case<'a> {
+    /// The bytes of its list; none for verifying.
+    pub fn list(&self) -> &'a [u8] {
+        self.judging.as_ref().map_or(&[], |judging| judging.list)
+    }
+
     /// Makes the call.
     pub fn answer(&self) -> Result<Answer, Refusal> {
         let Self { settings, schedule, record, .. } = self;

@@ -2,18 +2,19 @@
 
 use std::io::Write;
 
-use wutherdish::{Book, Point, Refusal, Unreadable};
+use wutherdish::{Point, Refusal, Unreadable};
 
 use crate::cases::{Answer, Case, Cases};
 use crate::feed::Feed;
 use crate::problem::Problem;
 use crate::progress::Progress;
+use crate::room::Room;
 use crate::summary::Summary;
 use crate::words::{self, Words};
 
 /// How points are explained, and where to.
 pub struct Explain<'a, W> {
-    /// How ids are written.
+    /// How it is said.
     pub words: Words,
     /// Whether the last point alone is explained.
     pub last: bool,
@@ -26,14 +27,14 @@ pub struct Explain<'a, W> {
 impl<W: Write> Explain<'_, W> {
     /// Offers the points of a feed to a book and explains the answers. Gives what can't be read; the points before it
     /// are explained all the same.
-    pub fn feed(&mut self, feed: &Feed<'_>, book: &mut Book<Vec<u8>>) -> Result<Option<Unreadable>, Problem> {
+    pub fn feed(&mut self, feed: &Feed<'_>, room: &mut Room) -> Result<Option<Unreadable>, Problem> {
         self.front(feed)?;
         let mut summary = Summary::default();
         let (mut bad, mut last) = (None, None);
         for offer in feed.offers() {
             match offer {
                 Ok(offer) => {
-                    let answer = book.offer(feed.schedule, offer.leader, offer.record).map(Answer::Verdict);
+                    let answer = room.offer(feed, &offer).map(Answer::Verdict);
                     let point = self.words.point(&offer.point, offer.leader);
                     last = self.explain(offer.place, &point, &answer)?;
                     summary.add(&answer);
@@ -42,13 +43,16 @@ impl<W: Write> Explain<'_, W> {
                 Err(unreadable) => bad = Some(unreadable),
             }
         }
-        let kept = book.kept().map_or(0, |kept| kept.len());
-        self.end(last, &format!("points: {}\nverdicts: {summary}\nkept: {kept}", summary.total()))?;
+        self.end(last, &format!("points: {}\nverdicts: {summary}\nkept: {}", summary.total(), room.kept()))?;
+        self.note(room)?;
         Ok(bad)
     }
 
     /// Makes the calls of a file of cases and explains the answers, likewise.
     pub fn cases(&mut self, cases: Cases<'_>) -> Result<Option<Unreadable>, Problem> {
+        if !self.last {
+            self.note_names()?;
+        }
         let mut summary = Summary::default();
         let (mut bad, mut last) = (None, None);
         for case in cases {
@@ -73,10 +77,23 @@ impl<W: Write> Explain<'_, W> {
         let (settings, schedule) = &feed.front;
         self.line(&format!("settings: {}", self.words.settings(settings)))?;
         self.line(&format!("schedule: {}", words::schedule(schedule)))?;
-        if let (false, Some(note)) = (self.words.full_ids, words::short_ids(schedule)) {
-            self.line(&format!("note: {note}"))?;
-        }
+        self.note_names()?;
         self.line("")
+    }
+
+    fn note_names(&mut self) -> Result<(), Problem> {
+        match self.words.names.have_tails() {
+            true => self.line(&format!("note: {}", self.words.names.words())),
+            false => Ok(()),
+        }
+    }
+
+    /// What is to be known of the book's room; of the last point alone, only that others have no part in its verdict.
+    fn note(&mut self, room: &Room) -> Result<(), Problem> {
+        match room.note().filter(|_| !self.last || room.refused() > 0) {
+            Some(note) => self.line(&format!("\nnote: {note}")),
+            None => Ok(()),
+        }
     }
 
     fn case(&self, case: &Case<'_>) -> String {

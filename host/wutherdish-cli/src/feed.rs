@@ -2,9 +2,6 @@
 
 use wutherdish::{Point, SETTINGS, Schedule, Settings, Unreadable};
 
-/// The book's size where none is named: that of `tally`.
-pub const ROOM: usize = 65_536;
-
 /// A feed whose front can be read.
 pub struct Feed<'a> {
     /// Its settings and its schedule.

@@ -1,8 +1,12 @@
 //! What can go wrong, and the exit code that says so.
 
+use std::ffi::OsStr;
 use std::fmt::{self, Display, Formatter};
 use std::io::{self, Write};
 use std::process::ExitCode;
+
+/// The exit code where nobody reads the output any more: what a shell says of a command that a closed pipe ended.
+const CLOSED: u8 = 141;
 
 /// Why a command did not do all that was asked for.
 #[derive(Debug)]
@@ -34,14 +38,14 @@ impl Problem {
         }
     }
 
-    /// Says the problem on standard error, if anybody reads that, and gives its exit code.
+    /// Says the problem, and gives its exit code.
     pub fn report(&self) -> ExitCode {
         let code = match self {
             Self::Usage(_) => 2,
             Self::File { .. } => 1,
-            Self::Closed => return ExitCode::SUCCESS,
+            Self::Closed => return ExitCode::from(CLOSED),
         };
-        let _ = writeln!(io::stderr(), "wutherdish: {self}");
+        remark(&self.to_string());
         ExitCode::from(code)
     }
 }
@@ -54,4 +58,15 @@ impl Display for Problem {
             Self::Closed => f.write_str("the output is closed"),
         }
     }
+}
+
+/// Says something on standard error, if anybody reads that.
+pub fn remark(what: &str) {
+    let _ = writeln!(io::stderr(), "wutherdish: {what}");
+}
+
+/// An argument as a message writes it: in quotes where it is empty or would not be seen.
+pub fn shown(argument: &OsStr) -> String {
+    let text = argument.to_string_lossy();
+    if text.is_empty() || text.contains(char::is_control) { format!("{text:?}") } else { text.into_owned() }
 }

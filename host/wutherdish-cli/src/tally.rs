@@ -4,13 +4,14 @@ use std::io::{self, Write};
 
 use wutherdish::{Book, Refusal, SETTINGS, Verdict};
 
-use crate::feed::{Feed, ROOM};
+use crate::feed::Feed;
 use crate::progress::Progress;
+use crate::room::TALLY;
 
 /// Prints a line for each point of a feed, and how many are kept.
 pub fn print_lines(bytes: &[u8], progress: &mut Progress, out: &mut impl Write) -> io::Result<()> {
     let settings = &bytes[..bytes.len().min(SETTINGS)];
-    let mut book = match Book::open(vec![0; ROOM], settings) {
+    let mut book = match Book::open(vec![0; TALLY], settings) {
         Ok(book) => book,
         Err(refusal) => return refused_front(refusal, out),
     };

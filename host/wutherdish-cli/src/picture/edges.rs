@@ -4,15 +4,16 @@ use std::cmp::Reverse;
 use std::collections::BTreeSet;
 
 use super::graph::{Edge, Graph, Way};
-use super::layout::{HIGH, Layout, Place, WIDE};
+use super::layout::{HIGH, Layout, Place};
 use super::svg::Svg;
+use crate::names::Names;
 
 /// How far a way bows out that leads to no earlier round.
 const BOW: i32 = 60;
 
 /// Draws all ways, the thin ones first. Those of one kind to one point share their line in a channel: it is drawn once,
 /// from the latest round on, so that dashes stay dashes.
-pub fn draw(svg: &mut Svg, graph: &Graph<'_>, layout: &Layout) {
+pub fn draw(svg: &mut Svg, graph: &Graph<'_>, layout: &Layout, names: &Names) {
     let mut edges: Vec<&Edge> = graph.edges.iter().collect();
     edges.sort_by_key(|edge| (edge.way, Reverse(edge.from), edge.to));
     let mut drawn = BTreeSet::new();
@@ -26,7 +27,7 @@ pub fn draw(svg: &mut Svg, graph: &Graph<'_>, layout: &Layout) {
                 svg.path(class(edges[0].way), &paths);
             }
             Some(title) => ways.for_each(|(edge, is_first)| {
-                svg.open(&format!("{title} {:#}", graph.nodes[edge.to].id));
+                svg.open(&format!("{title} {}", names.say(&graph.nodes[edge.to].id)));
                 draw_link(svg, layout, edge, is_first);
                 svg.close();
             }),
@@ -37,7 +38,7 @@ pub fn draw(svg: &mut Svg, graph: &Graph<'_>, layout: &Layout) {
 fn draw_link(svg: &mut Svg, layout: &Layout, edge: &Edge, is_first: bool) {
     svg.path(class(edge.way), &path(layout, edge, is_first));
     if let (true, Some(head)) = (is_first, head(edge.way)) {
-        let (x, y) = end(edge.way, layout.places[edge.to]);
+        let (x, y) = end(edge.way, layout, layout.places[edge.to]);
         svg.path(head, &arrow_head(x, y));
     }
 }
@@ -99,21 +100,21 @@ fn start(way: Way, place: Place) -> (i32, i32) {
     (place.x, place.y + HIGH / 2 + port(way))
 }
 
-fn end(way: Way, place: Place) -> (i32, i32) {
-    (place.x + WIDE, place.y + HIGH / 2 + port(way))
+fn end(way: Way, layout: &Layout, place: Place) -> (i32, i32) {
+    (place.x + layout.widths.point, place.y + HIGH / 2 + port(way))
 }
 
 fn path(layout: &Layout, edge: &Edge, is_first: bool) -> String {
     let (from, to) = (layout.places[edge.from], layout.places[edge.to]);
-    let (start, end) = (start(edge.way, from), end(edge.way, to));
+    let (start, end) = (start(edge.way, from), end(edge.way, layout, to));
     if from.column <= to.column {
-        let ((x, y), right) = ((from.x + WIDE, start.1), from.x.max(to.x) + WIDE + BOW);
+        let ((x, y), right) = ((from.x + layout.widths.point, start.1), from.x.max(to.x) + layout.widths.point + BOW);
         return format!("M{x} {y}C{right} {y} {right} {} {} {}", end.1, end.0, end.1);
     }
     let Some(&y) = layout.lines.get(&(edge.to, edge.way)).filter(|_| Layout::is_long(&layout.places, edge)) else {
         return format!("M{} {}{}", start.0, start.1, curve(start, end));
     };
-    let joins = (layout.columns[from.column - 1].x + WIDE, y);
+    let joins = (layout.columns[from.column - 1].x + layout.widths.point, y);
     let branch = format!("M{} {}{}", start.0, start.1, curve(start, joins));
     if !is_first {
         return branch;

@@ -5,10 +5,11 @@ use std::collections::{BTreeMap, BTreeSet};
 
 use wutherdish::PeerId;
 
-use super::graph::{Edge, Graph, Way};
+use super::graph::{Edge, Graph, Node, Way};
+use crate::names::Names;
 
-/// The width of a point.
-pub const WIDE: i32 = 116;
+/// The width of a point at least, and what of it is not its name.
+const POINT: (i32, i32) = (116, 32);
 /// The height of a point.
 pub const HIGH: i32 = 40;
 /// What is free between two columns at least, and at most.
@@ -25,8 +26,10 @@ const BETWEEN: i32 = 10;
 const PAD: i32 = 13;
 /// What is between two lines of a channel.
 const LINE: i32 = 7;
-/// The authors' names, left and right of all columns.
-pub const NAMES: i32 = 84;
+/// The width of the authors' names, left and right of all columns, at least, and what of it is free.
+const AUTHOR: (i32, i32) = (84, 4);
+/// The width of a letter of a point's name, and of an author's.
+const LETTER: (i32, i32) = (7, 8);
 /// The heading, above all lanes.
 const HEADING: i32 = 112;
 
@@ -65,6 +68,27 @@ pub struct Place {
     pub y: i32,
 }
 
+/// What is as wide as the longest name needs it.
+#[derive(Clone, Copy)]
+pub struct Widths {
+    /// A point.
+    pub point: i32,
+    /// The authors' names, left and right of all columns.
+    pub author: i32,
+}
+
+impl Widths {
+    fn new(graph: &Graph<'_>, names: &Names) -> Self {
+        let longest = |id: &dyn Fn(&Node) -> [u8; 32]| {
+            let names = graph.nodes.iter().map(|node| names.name(&id(node)).len());
+            names.max().unwrap_or(0) as i32
+        };
+        let point = POINT.1 + LETTER.0 * longest(&|node| node.id.digest.0);
+        let author = AUTHOR.1 + LETTER.1 * longest(&|node| node.id.author.0);
+        Self { point: POINT.0.max(point), author: AUTHOR.0.max(author) }
+    }
+}
+
 /// The places of all points and of the lines in the channels.
 pub struct Layout {
     /// The columns by rising round.
@@ -75,6 +99,8 @@ pub struct Layout {
     pub places: Vec<Place>,
     /// The height of the line in a channel that the ways of one kind to one point share.
     pub lines: BTreeMap<(usize, Way), i32>,
+    /// What depends on the names.
+    pub widths: Widths,
     /// The right end of the last column.
     pub right: i32,
     /// The lower end of the last channel.
@@ -92,13 +118,14 @@ struct Line {
 
 impl Layout {
     /// Places a graph.
-    pub fn new(graph: &Graph<'_>) -> Self {
+    pub fn new(graph: &Graph<'_>, names: &Names) -> Self {
         let authors: BTreeSet<PeerId> = graph.nodes.iter().map(|node| node.id.author).collect();
         let authors: Vec<PeerId> = authors.into_iter().collect();
         let rounds: BTreeSet<u32> = graph.nodes.iter().map(|node| node.id.round).collect();
         let mut places = places(graph, &rounds.iter().copied().collect::<Vec<_>>(), &authors);
         let heights: Vec<usize> = (0..authors.len()).map(|lane| versions(&places, lane)).collect();
-        let columns = columns(&rounds, heights.iter().sum());
+        let widths = Widths::new(graph, names);
+        let columns = columns(&rounds, heights.iter().sum(), widths);
         let channels = channels(graph, &places, authors.len());
         let (mut lanes, mut lines, mut y) = (Vec::new(), BTreeMap::new(), HEADING);
         for (number, channel) in channels.iter().enumerate() {
@@ -115,8 +142,8 @@ impl Layout {
             place.x = columns[place.column].x;
             place.y = lanes[place.lane].y + place.version as i32 * (HIGH + BETWEEN);
         }
-        let right = columns.last().map_or(MARGIN + NAMES, |column| column.x + WIDE);
-        Self { columns, lanes, places, lines, right, bottom: y }
+        let right = columns.last().map_or(MARGIN + widths.author, |column| column.x + widths.point);
+        Self { columns, lanes, places, lines, widths, right, bottom: y }
     }
 
     /// Whether a way leads past a column, so that it runs in a channel.
@@ -125,14 +152,17 @@ impl Layout {
     }
 }
 
-fn columns(rounds: &BTreeSet<u32>, versions: usize) -> Vec<Column> {
+fn columns(rounds: &BTreeSet<u32>, versions: usize, widths: Widths) -> Vec<Column> {
     let gap = (versions as i32 * GAP_PER_VERSION).clamp(GAP.0, GAP.1);
     let mut columns: Vec<Column> = Vec::new();
     for &round in rounds {
         let (x, break_x) = match columns.last() {
-            None => (MARGIN + NAMES, None),
-            Some(last) if last.round + 1 == round => (last.x + WIDE + gap, None),
-            Some(last) => (last.x + WIDE + gap + BREAK, Some(last.x + WIDE + (gap + BREAK) / 2)),
+            None => (MARGIN + widths.author, None),
+            Some(last) if last.round + 1 == round => (last.x + widths.point + gap, None),
+            Some(last) => {
+                let right = last.x + widths.point;
+                (right + gap + BREAK, Some(right + (gap + BREAK) / 2))
+            }
         };
         columns.push(Column { round, x, break_x });
     }

@@ -3,9 +3,9 @@
 use wutherdish::{Kept, Point, PointRole, Status};
 
 use super::graph::{Graph, Node};
-use super::layout::{HIGH, Layout, Place, WIDE};
-use super::short::Short;
+use super::layout::{HIGH, Layout, Place};
 use super::svg::Svg;
+use crate::names::Names;
 
 /// What a verdict looks like.
 #[derive(Clone, Copy)]
@@ -28,34 +28,34 @@ pub const ILL_FORMED: Look = Look { class: "ill-formed", letter: "L" };
 pub const UNKEPT: Look = Look { class: "unkept", letter: "" };
 
 /// Draws all points.
-pub fn draw(svg: &mut Svg, graph: &Graph<'_>, layout: &Layout, short: &Short) {
+pub fn draw(svg: &mut Svg, graph: &Graph<'_>, layout: &Layout, names: &Names) {
     for (node, place) in graph.nodes.iter().zip(&layout.places) {
-        svg.open(&title(node));
+        svg.open(&title(node, names));
         match node.kept {
-            Some(kept) => draw_kept(svg, kept, *place, short),
+            Some(kept) => draw_kept(svg, kept, *place, (layout.widths.point, names)),
             None => {
-                frame(svg, UNKEPT, (place.x, place.y), (WIDE, HIGH));
-                svg.text("id faint", place.x + 30, place.y + 24, &short.digest(node.id.digest));
+                frame(svg, UNKEPT, (place.x, place.y), (layout.widths.point, HIGH));
+                svg.text("id faint", place.x + 30, place.y + 24, &names.name(&node.id.digest.0));
             }
         }
         svg.close();
     }
 }
 
-fn draw_kept(svg: &mut Svg, kept: &Kept, Place { x, y, .. }: Place, short: &Short) {
+fn draw_kept(svg: &mut Svg, kept: &Kept, Place { x, y, .. }: Place, (wide, names): (i32, &Names)) {
     let (look, role) = (look(&kept.status), role(kept.point.role));
     let reason = Some(kept.status.reason_number()).filter(|reason| *reason != 0);
-    frame(svg, look, (x, y), (WIDE, HIGH));
+    frame(svg, look, (x, y), (wide, HIGH));
     svg.text("letter", x + 16, y + if reason.is_some() { 19 } else { 25 }, look.letter);
     if let Some(reason) = reason {
         svg.text("reason", x + 16, y + 33, &reason.to_string());
     }
-    svg.text("id", x + 30, y + if role.is_some() { 17 } else { 24 }, &short.digest(kept.point.id.digest));
+    svg.text("id", x + 30, y + if role.is_some() { 17 } else { 24 }, &names.name(&kept.point.id.digest.0));
     if let Some((class, text)) = role {
         svg.text(class, x + 30, y + 32, &text);
     }
     if kept.certified {
-        seal(svg, x + WIDE - 14, y);
+        seal(svg, x + wide - 14, y);
     }
 }
 
@@ -94,9 +94,14 @@ fn role(role: PointRole) -> Option<(&'static str, String)> {
     }
 }
 
-/// What is said of a point where it is pointed at.
-fn title(node: &Node<'_>) -> String {
-    let Some(kept) = node.kept else { return format!("{:#}: not kept", node.id) };
-    let Point { role, time, anchor_time, .. } = kept.point;
-    format!("{kept:#}\n{role}, time {time}, anchor time {anchor_time}")
+/// What is said of a point where it is pointed at: its names, and the ids that they stand for.
+fn title(node: &Node<'_>, names: &Names) -> String {
+    let said = match node.kept {
+        None => format!("{}: not kept", names.say(&node.id)),
+        Some(kept) => {
+            let Point { role, time, anchor_time, .. } = kept.point;
+            format!("{}\n{role}, time {time}, anchor time {anchor_time}", names.say(kept))
+        }
+    };
+    format!("{said}\ndigest {:#}\nauthor {:#}", node.id.digest, node.id.author)
 }

@@ -33,6 +33,9 @@ fn every_stored_case_gives_the_stored_answer() {
     let verdicts = kinds.map(|(kind, words)| format!("{} {words}", of_kind(kind))).join(", ");
     let summary = format!("\n\ncases: {}\nverdicts: {verdicts}, ", answers.len());
     assert!(out.contains(&summary), "{summary}");
+    // every id that an answer names was found in its case
+    let whole = out.split(|letter: char| !letter.is_ascii_hexdigit()).find(|digits| digits.len() == 64);
+    assert_eq!(whole, None);
     for (lines, answer) in cases.iter().zip(answers) {
         let (number, kind, reason) = (answer[0], answer[1], answer[2]);
         let letter = if number == 0 { ['V', 'T', 'I', 'L', 'F', 'P'][usize::from(kind)] } else { '-' };

@@ -2,6 +2,10 @@
 
 mod cases;
 mod explain;
+mod files;
+mod names;
+mod network;
+mod room;
 mod run;
 mod show;
 mod streams;

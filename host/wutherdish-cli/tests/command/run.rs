@@ -26,12 +26,24 @@ pub fn command(arguments: &[&str]) -> Command {
 
 /// Runs the command with an input. It need not read that.
 pub fn fed(arguments: &[&str], input: &[u8]) -> Ran {
-    let mut child = command(arguments).spawn().expect("the command starts");
+    ran(command(arguments), input)
+}
+
+/// Runs a script of the shell in which `$0` is the command and `$@` its arguments.
+pub fn shell(script: &str, arguments: &[&str], input: &[u8]) -> Ran {
+    let mut command = Command::new("bash");
+    command.args(["-c", script, env!("CARGO_BIN_EXE_wutherdish")]).args(arguments);
+    command.stdin(Stdio::piped()).stdout(Stdio::piped()).stderr(Stdio::piped());
+    ran(command, input)
+}
+
+fn ran(mut command: Command, input: &[u8]) -> Ran {
+    let mut child = command.spawn().expect("the command starts");
     let _ = child.stdin.take().expect("its input is a pipe").write_all(input);
     let output = child.wait_with_output().expect("the command ends");
     let text = |bytes| String::from_utf8(bytes).expect("it prints UTF-8");
     let ran = Ran { code: output.status.code(), out: text(output.stdout), err: text(output.stderr) };
-    assert!(!ran.err.contains("panicked"), "{arguments:?}: {}", ran.err);
+    assert!(!ran.err.contains("panicked"), "{command:?}: {}", ran.err);
     ran
 }
 

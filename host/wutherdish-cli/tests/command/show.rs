@@ -4,6 +4,7 @@ use std::collections::BTreeSet;
 
 use wutherdish::{AnchorLink, AnchorStageRole, Book, Point, PointId, Refusal, Status, Through};
 
+use crate::names;
 use crate::run::{done, drill, fed, feed, feed_drills, is_bad, scratch, split_front};
 use crate::xml::{Element, elements};
 
@@ -49,8 +50,12 @@ fn assert_signs(feed: &[u8]) {
     let certified = kept.iter().filter(|entry| entry.certified).count();
     assert_eq!(count(&elements, "circle", "seal", None), certified + 1);
     for entry in &kept {
-        let title = format!("{entry:#}\n");
-        assert_eq!(elements.iter().filter(|element| element.text.starts_with(&title)).count(), 1, "{entry}");
+        let end = format!("\ndigest {:#}\nauthor {:#}", entry.id().digest, entry.id().author);
+        let titles: Vec<&Element> = elements.iter().filter(|element| element.text.ends_with(&end)).collect();
+        let [title] = titles[..] else { panic!("{entry}: {titles:?}") };
+        assert_eq!(title.text.starts_with("certified "), entry.certified, "{title:?}");
+        let kind = entry.status.to_string().split(": ").next().map(|kind| format!(": {kind}")).expect("a kind");
+        assert!(title.text.contains(&kind), "{title:?}");
     }
     let classes = ["valid", "trans-invalid", "invalid", "ill-formed"];
     for (class, count_of) in classes.map(|class| (class, count(&elements, "rect", class, None))) {
@@ -86,7 +91,8 @@ fn roles_and_what_is_not_kept_are_shown() {
     assert!(!lacking.is_empty());
     assert_eq!(count(&never_found, "rect", "unkept", None), lacking.len() + 1);
     for id in lacking {
-        assert_eq!(count(&never_found, "title", "", Some(&format!("{id:#}: not kept"))), 1);
+        let title = format!("{id}: not kept\ndigest {:#}\nauthor {:#}", id.digest, id.author);
+        assert_eq!(count(&never_found, "title", "", Some(&title)), 1);
     }
 }
 
@@ -102,8 +108,8 @@ fn a_root_cause_is_drawn_through_the_peer_it_came_through() {
     assert_eq!(count(&elements, "path", "root-head", None), 2);
     let Status::TransInvalid(root) = roots[1].status else { panic!("it is trans-invalid") };
     let through = roots[1].point.through_id(root.link.through).expect("it has that dependency");
-    assert_eq!(count(&elements, "title", "", Some(&format!("root cause, through {through:#}"))), 1);
-    assert_eq!(count(&elements, "title", "", Some(&format!("root cause: {:#}", root.link.to))), 1);
+    assert_eq!(count(&elements, "title", "", Some(&format!("root cause, through {through}"))), 1);
+    assert_eq!(count(&elements, "title", "", Some(&format!("root cause: {}", root.link.to))), 1);
 }
 
 /// The class of each way that a point adds, and where it leads, but for those to root causes.
@@ -210,9 +216,19 @@ fn text_box(text: &Element) -> (f64, f64, f64, f64) {
     (left, y - 0.75 * height, left + width, y + 0.2 * height)
 }
 
+/// Whether a text lies in the frame of a verdict.
+fn is_framed(text: &Element, elements: &[Element]) -> bool {
+    let (left, top, right, bottom) = text_box(text);
+    let frames = ["valid", "trans-invalid", "invalid", "ill-formed", "unkept"];
+    elements.iter().filter(|element| element.name == "rect" && frames.contains(&element.class())).any(|frame| {
+        let [x, y, width, height] = ["x", "y", "width", "height"].map(|name| f64::from(frame.number(name)));
+        x <= left && y <= top && x + width >= right && y + height >= bottom
+    })
+}
+
 #[test]
 fn no_texts_overlap() {
-    for feed in [drill("demo"), drill("equivocation"), drill("invalid-17"), feed()] {
+    for feed in [drill("demo"), drill("equivocation"), drill("invalid-17"), feed(), names::network().feed(3)] {
         let elements = elements(&done(&["show", "-"], &feed));
         let texts: Vec<&Element> =
             elements.iter().filter(|element| element.name == "text" && !element.text.is_empty()).collect();
@@ -220,6 +236,7 @@ fn no_texts_overlap() {
         for (place, text) in texts.iter().enumerate() {
             let (left, top, right, bottom) = text_box(text);
             assert!(left >= 0.0 && right <= width, "{text:?}");
+            assert!(!text.class().starts_with("id") || is_framed(text, &elements), "{text:?}");
             for other in &texts[..place] {
                 let (x, y, to_x, to_y) = text_box(other);
                 assert!(left >= to_x || right <= x || top >= to_y || bottom <= y, "{text:?} and {other:?}");

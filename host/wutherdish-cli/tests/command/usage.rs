@@ -2,7 +2,7 @@
 
 use wutherdish::{Refusal, SETTINGS, Schedule, Settings, Unreadable};
 
-use crate::run::{done, drill, fed, run, scratch};
+use crate::run::{done, drill, fed, run, scratch, shell};
 
 /// Wrong usage: what is wrong, and where to find help.
 fn assert_usage(arguments: &[&str], wanted: &str) {
@@ -23,13 +23,55 @@ fn wrong_usage_is_2() {
     assert_usage(&["explain", "-", "--fullids"], "--fullids is no option here");
     assert_usage(&["--fullids", "explain", "-"], "--fullids is no option here");
     assert_usage(&["tally", "--full-ids"], "--full-ids is no option here");
-    assert_usage(&["explain", "-", "--book"], "--book needs a value behind it");
+    assert_usage(&["explain", "-", "--book"], "--book needs a value");
+    assert_usage(&["explain", "-", "--book="], "--book needs a value");
+    assert_usage(&["explain", "-", "--last=yes"], "--last takes no value");
+    assert_usage(&["explain", "-", "--fullids=yes"], "--fullids is no option here");
+    assert_usage(&["explain", "-", "--room", "100", "--room=100"], "--room stands twice");
+    assert_usage(&["explain", "-", "--last", "--last"], "--last stands twice");
+    assert_usage(&["show", "-", "--book=x"], "--book is no option here");
+    assert_usage(&["explain", "--", "-", "--last"], "--last is one argument too many");
+    assert_usage(&["--", "--help"], "--help is no command");
+    assert_usage(&["help", "explian"], "explian is no command");
+    assert_usage(&["explian", "--help"], "explian is no command");
+    assert_usage(&["help", "explain", "show"], "show is one argument too many");
+    assert_usage(&["--version", "explain"], "explain is one argument too many");
     assert_usage(&["explain", "-", "--book", "x"], "standard input is a file of cases, which leaves no book");
     assert_usage(&["drill", "no-such-drill"], "no drill is called no-such-drill");
+    assert_usage(&[""], "\"\" is no command");
+    assert_usage(&["drill", ""], "no drill is called \"\"");
+    assert_usage(&["explain", "-", "a\nb"], r#""a\nb" is one argument too many"#);
     assert_usage(&["drill", "-o", "x"], "-o needs the name of a drill");
-    for room in ["46", "16777217", "-1", "many", ""] {
+    for room in ["46", "16777217", "-1", "many", " 100"] {
         assert_usage(&["explain", "-", "--room", room], "--room needs a number from 47 to 16777216");
+        assert_usage(&["explain", "-", &format!("--room={room}")], "--room needs a number from 47 to 16777216");
     }
+    assert_usage(&["explain", "-", "--room", ""], "--room needs a value");
+}
+
+#[test]
+fn values_after_an_equals_sign() {
+    let (feed, [file, other]) = (drill("demo"), ["equals.book", "other=equals.book"].map(scratch));
+    let out = done(&["explain", "-", "--room", "4000", "--book", &file], &feed);
+    assert_eq!(done(&["explain", "-", "--room=4000", &format!("--book={other}")], &feed), out);
+    assert_eq!(std::fs::read(&file).expect("it is written"), std::fs::read(&other).expect("it is written"));
+}
+
+#[test]
+fn after_two_dashes_there_are_no_options() {
+    let folder = scratch("dashes");
+    let _ = std::fs::remove_dir_all(&folder);
+    std::fs::create_dir(&folder).expect("the folder is made");
+    std::fs::write(format!("{folder}/--last"), drill("demo")).expect("it is written");
+    let script = format!("cd '{folder}' && exec \"$0\" \"$@\"");
+    let expected = done(&["explain", "-"], &drill("demo"));
+    for arguments in [&["explain", "--", "--last"][..], &["--", "explain", "--last"]] {
+        let ran = shell(&script, arguments, &[]);
+        assert_eq!((ran.code, &ran.out, &ran.err[..]), (Some(0), &expected, ""), "{arguments:?}");
+    }
+    assert_eq!(done(&["explain", "--", "-"], &drill("demo")), expected);
+    let ran = shell(&script, &["explain", "--last", "--", "--last"], &[]);
+    assert_eq!(ran.out, done(&["explain", "--last", "-"], &drill("demo")));
 }
 
 #[test]
@@ -38,13 +80,44 @@ fn help_and_version() {
     for words in ["explain FILE", "show FILE", "tally [FILE]", "drill [NAME", "demo", "--version", "Exit code"] {
         assert!(help.contains(words), "{words}");
     }
-    for option in ["--room", "--book", "--full-ids", "--progress", "-o"] {
+    for option in ["--room", "--book", "--full-ids", "--progress", "-o", "--help", "--version"] {
         assert!(help.contains(&format!("\n  {option} ")), "{option}");
     }
-    for arguments in [&["--help"][..], &["-h"], &["explain", "--help"], &["show", "x", "-h"]] {
+    assert!(help.lines().all(|line| line.chars().count() <= 105), "{help}");
+    for arguments in [&["--help"][..], &["-h"]] {
         assert_eq!(done(arguments, &[]), help);
     }
     assert_eq!(done(&["--version"], &[]), concat!("wutherdish ", env!("CARGO_PKG_VERSION"), "\n"));
+}
+
+#[test]
+fn help_for_one_command() {
+    let options = ["--last", "--room", "--book", "--full-ids", "--progress", "-o"];
+    let commands = [
+        ("explain", &["--last", "--room", "--book", "--full-ids", "--progress"][..]),
+        ("show", &["--room", "--progress", "-o"]),
+        ("tally", &["--progress"]),
+        ("drill", &["-o"]),
+        ("demo", &["-o"]),
+        ("help", &[]),
+    ];
+    let all = done(&["help"], &[]);
+    for (command, has) in commands {
+        let help = done(&["help", command], &[]);
+        assert!(help.starts_with(&format!("wutherdish {command}")) && help.contains("Exit code"), "{help}");
+        assert_eq!(help.matches("\nwutherdish ").count(), 0, "{help}");
+        for option in options {
+            assert_eq!(help.contains(&format!("\n  {option} ")), has.contains(&option), "{command} {option}");
+            assert_eq!(
+                help.lines().next().is_some_and(|line| line.contains(&format!("[{option}"))),
+                has.contains(&option)
+            );
+        }
+        assert!(all.contains(help.lines().next().expect("it has a line")), "{help}");
+        for arguments in [&[command, "--help"][..], &[command, "-h"], &["--help", command], &[command, "x", "--help"]] {
+            assert_eq!(done(arguments, &[]), help, "{arguments:?}");
+        }
+    }
 }
 
 /// A file that is not what it should be: its name, and what is wrong.
@@ -68,6 +141,7 @@ fn bad_input_is_1() {
         let ran = run(&[command, "no/such/file"]);
         assert_eq!((ran.code, &ran.out[..]), (Some(1), ""));
         assert!(ran.err.starts_with("wutherdish: no/such/file: "), "{}", ran.err);
+        assert!(run(&[command, ""]).err.starts_with("wutherdish: \"\": "), "{command}");
     }
     assert_bad(&["show", "-"], &drill("invalid-02"), "standard input: a file of cases, which leaves no book to show");
 }
