@@ -2,7 +2,8 @@
 
 use std::fs;
 
-const ROOT: &str = concat!(env!("CARGO_MANIFEST_DIR"), "/../..");
+/// The repository's root, from the crate's folder, where cargo runs its tests.
+const ROOT: &str = "../..";
 
 /// The duties of a file of the repository, without comment marks, words in brackets, and line ends.
 fn duties(path: &str, mark: &str) -> Vec<String> {

@@ -4,7 +4,8 @@ use std::fs;
 
 use crate::run::drill;
 
-const FORMAT: &str = concat!(env!("CARGO_MANIFEST_DIR"), "/../../docs/FORMAT.md");
+/// From the crate's folder, where cargo runs its tests.
+const FORMAT: &str = "../../docs/FORMAT.md";
 
 /// A row's place and its bytes: "| 7 | `10 0a 00 01` × 8 | what |".
 fn row(line: &str) -> Option<(usize, Vec<u8>)> {
