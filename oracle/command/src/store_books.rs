@@ -3,7 +3,7 @@
 use std::collections::{BTreeMap, BTreeSet};
 
 use book::file::{After, Case};
-use book::{Book, Mistake, Offer, offer};
+use book::{BESIDE_RECORD, Book, Mistake, Offer, offer};
 use feeds::{Feed, damaged_books, opening};
 use oracle::file::answer_bytes;
 use oracle::sha256::sha256;
@@ -17,8 +17,6 @@ const OFFERS: usize = 18;
 const ROOM: usize = 65_536;
 /// Of offers to given books, no larger one is stored for its answer alone.
 const SMALL: usize = 2_000;
-/// Tag 33 with its length: what a kept record needs beside its own bytes.
-const BESIDE_RECORD: usize = 108;
 
 /// What an offer is stored for: its answer's number, kind and reason, or a mistake that it notices.
 #[derive(Clone, Copy, PartialEq, Eq, PartialOrd, Ord)]
@@ -142,24 +140,32 @@ fn feed_cases(place: u64, offers: usize) -> Vec<Case> {
     [begins].into_iter().chain(offers).collect()
 }
 
-/// Of all offers to damaged books the smallest for each sight, with its size and where it was met.
-fn given() -> BTreeMap<Sight, (usize, (u64, usize), Case)> {
-    let mut best: BTreeMap<Sight, (usize, (u64, usize), Case)> = BTreeMap::new();
-    for place in 0..FEEDS {
-        for (at, (slice, step)) in damaged_books(SEED, place).enumerate() {
-            let slice = shortened(slice, &step.offer);
-            let size = slice.len() + size_of(&step.offer);
-            let (case, sights) = given_case(slice, step.offer);
-            for sight in sights {
-                let is_small = size <= SMALL || matches!(sight, Sight::Mistake(_));
-                let is_better = best.get(&sight).is_none_or(|(other, ..)| size < *other);
-                if is_small && is_better && size <= ROOM {
-                    best.insert(sight, (size, (place, at), case.clone()));
-                }
-            }
-        }
+/// An offer to a given book: its size, where it was met, and the case.
+type Given = (usize, (u64, usize), Case);
+
+/// Of all offers to damaged books the smallest for each sight.
+fn given() -> BTreeMap<Sight, Given> {
+    let mut best = BTreeMap::new();
+    for (place, (at, (slice, step))) in
+        (0..FEEDS).flat_map(|place| damaged_books(SEED, place).enumerate().map(move |met| (place, met)))
+    {
+        let slice = shortened(slice, &step.offer);
+        let size = slice.len() + size_of(&step.offer);
+        let (case, sights) = given_case(slice, step.offer);
+        let wanted = sights.iter().filter(|sight| is_small(size, sight));
+        wanted.for_each(|sight| keep_smaller(&mut best, *sight, (size, (place, at), case.clone())));
     }
     best
+}
+
+fn is_small(size: usize, sight: &Sight) -> bool {
+    size <= if matches!(sight, Sight::Answer(_)) { SMALL } else { ROOM }
+}
+
+fn keep_smaller(best: &mut BTreeMap<Sight, Given>, sight: Sight, given: Given) {
+    if best.get(&sight).is_none_or(|(size, ..)| given.0 < *size) {
+        best.insert(sight, given);
+    }
 }
 
 /// The zeros at the end cut down: a book has just the room for the offered record.

@@ -17,21 +17,12 @@ const DIGEST: usize = 32;
 
 /// Cases of the files, each with one byte of what it expects changed.
 pub fn make(path: &str, files: &[&str]) -> Result<(), String> {
-    let mut bytes = Vec::new();
-    for file in files {
-        bytes.extend(std::fs::read(file).map_err(|e| format!("{file}: {e}"))?);
-    }
+    let read = |file: &&str| std::fs::read(file).map_err(|e| format!("{file}: {e}"));
+    let bytes = files.iter().map(read).collect::<Result<Vec<_>, _>>()?.concat();
     let cases = blobs(&bytes).ok_or("not whole files of cases")?;
-    let mut chosen = openings(&cases);
-    chosen.extend(first_book(&cases));
-    for (turn, kind) in CALLS.into_iter().enumerate() {
-        let mut of_kind: Vec<&Blobs<'_>> = cases.iter().filter(|case| case.0 == kind).collect();
-        of_kind.sort_by_key(|case| size(case));
-        let places = FIELDS.windows(2).flat_map(|ends| places(ends[0], ends[1], turn));
-        chosen.extend(places.filter_map(|place| answer_changed(&of_kind, place)));
-    }
-    let of_given = cases.iter().filter(|case| case.0 == OFFER_TO).min_by_key(|case| size(case));
-    chosen.extend(of_given.into_iter().flat_map(|case| (0..DIGEST).map(|place| changed(case, 1, place))));
+    let answers = CALLS.into_iter().enumerate().flat_map(|(turn, kind)| answers(&cases, turn, kind));
+    let chosen: Vec<Changed> =
+        openings(&cases).into_iter().chain(first_book(&cases)).chain(answers).chain(digests(&cases)).collect();
     let mut out = Vec::new();
     for (kind, blobs) in &chosen {
         write(*kind, &blobs.iter().map(Vec::as_slice).collect::<Vec<_>>(), &mut out);
@@ -39,6 +30,20 @@ pub fn make(path: &str, files: &[&str]) -> Result<(), String> {
     std::fs::write(path, &out).map_err(|e| format!("{path}: {e}"))?;
     println!("{} cases, each with one byte of what it expects changed, {} bytes", chosen.len(), out.len());
     Ok(())
+}
+
+/// The answers of a kind of call, each changed at one of the places that are its turn.
+fn answers(cases: &[Blobs<'_>], turn: usize, kind: u8) -> Vec<Changed> {
+    let mut rising: Vec<&Blobs<'_>> = cases.iter().filter(|case| case.0 == kind).collect();
+    rising.sort_by_key(|case| size(case));
+    let places = FIELDS.windows(2).flat_map(|ends| places(ends[0], ends[1], turn));
+    places.filter_map(|place| answer_changed(&rising, place)).collect()
+}
+
+/// The smallest offer to a given book, once for each byte of the digest.
+fn digests(cases: &[Blobs<'_>]) -> Vec<Changed> {
+    let smallest = cases.iter().filter(|case| case.0 == OFFER_TO).min_by_key(|case| size(case));
+    smallest.into_iter().flat_map(|case| (0..DIGEST).map(|place| changed(case, 1, place))).collect()
 }
 
 type Changed = (u8, Vec<Vec<u8>>);

@@ -11,6 +11,8 @@ use crate::call::Call;
 const ROOT: &str = "../..";
 /// The one crate that exports anything.
 const CRATE: &str = "crates/wutherdish/";
+/// How an export begins.
+const EXPORT: &str = "extern \"C\" fn ";
 
 pub struct Exports {
     pub header: String,
@@ -34,29 +36,37 @@ impl Exports {
 
     /// What is not as it has to be, in words.
     pub fn faults(&self) -> Vec<String> {
-        let declared = declared(&self.header);
         let mut faults = Vec::new();
-        let mut calls = Vec::new();
+        let mut names = BTreeSet::new();
         for (path, code) in &self.sources {
-            calls.extend(exported(path, code, &mut faults).into_iter().map(|call| (path, call)));
-        }
-        let names: BTreeSet<String> = calls.iter().map(|(_, call)| call.name.clone()).collect();
-        if !faults.is_empty() {
-            return faults;
-        }
-        for name in declared.iter().chain(&names).chain(&self.symbols).collect::<BTreeSet<_>>() {
-            let places = [("header", &declared), ("sources", &names), ("library", &self.symbols)];
-            let lacking = places.iter().filter(|(_, names)| !names.contains(name));
-            faults.extend(lacking.map(|(place, _)| format!("{name} is not in the {place}")));
-        }
-        for (path, call) in &calls {
-            if !path.starts_with(CRATE) {
-                faults.push(format!("{} is exported by {path}", call.name));
+            let code = joined(code);
+            if !is_marked(&code) {
+                faults.push(format!("an export of {path} is not #[no_mangle] pub"));
             }
-            faults.extend(call.faults());
+            let calls = calls(&code);
+            names.extend(calls.iter().map(|call| call.name.clone()));
+            faults.extend(calls.iter().flat_map(|call| call_faults(path, call)));
         }
+        faults.extend(self.lacking(names));
         faults
     }
+
+    /// The names that stand in one of header, sources and library, and not in all.
+    fn lacking(&self, exported: BTreeSet<String>) -> Vec<String> {
+        let declared = declared(&self.header);
+        let places = [("header", &declared), ("sources", &exported), ("library", &self.symbols)];
+        let names: BTreeSet<&String> = places.iter().flat_map(|(_, names)| names.iter()).collect();
+        let lacks = |name: &String| {
+            let lacking = places.iter().filter(|(_, names)| !names.contains(name));
+            lacking.map(|(place, _)| format!("{name} is not in the {place}")).collect::<Vec<_>>()
+        };
+        names.into_iter().flat_map(lacks).collect()
+    }
+}
+
+fn call_faults(path: &str, call: &Call) -> Vec<String> {
+    let elsewhere = (!path.starts_with(CRATE)).then(|| format!("{} is exported by {path}", call.name));
+    elsewhere.into_iter().chain(call.faults()).collect()
 }
 
 fn add_sources(folder: &Path, sources: &mut Vec<(String, String)>) {
@@ -79,16 +89,20 @@ fn declared(header: &str) -> BTreeSet<String> {
     before.filter(|name| !name.is_empty() && name.starts_with(|c: char| c.is_alphabetic())).collect()
 }
 
-/// The exports of a source. One that is not marked for the linker, or a mark with no export, is a fault.
-fn exported(path: &str, code: &str, faults: &mut Vec<String>) -> Vec<Call> {
-    let code: Vec<&str> = code.lines().map(|line| line.split("//").next().unwrap_or_default()).collect();
-    let code = code.join(" ").split_whitespace().collect::<Vec<_>>().join(" ");
-    let parts: Vec<&str> = code.split("extern \"C\" fn ").collect();
-    let marked = parts[..parts.len() - 1].iter().filter(|part| part.ends_with("#[no_mangle] pub ")).count();
-    if marked != parts.len() - 1 || code.matches("no_mangle").count() != marked {
-        faults.push(format!("an export of {path} is not #[no_mangle] pub"));
-    }
-    parts[1..].iter().map(|part| Call::read(part)).collect()
+/// A source without comments, its words parted by single spaces.
+fn joined(code: &str) -> String {
+    let lines: Vec<&str> = code.lines().map(|line| line.split("//").next().unwrap_or_default()).collect();
+    lines.join(" ").split_whitespace().collect::<Vec<_>>().join(" ")
+}
+
+/// Whether each export is marked for the linker, and nothing else is.
+fn is_marked(code: &str) -> bool {
+    let all = code.matches(EXPORT).count();
+    code.matches(&format!("#[no_mangle] pub {EXPORT}")).count() == all && code.matches("no_mangle").count() == all
+}
+
+fn calls(code: &str) -> Vec<Call> {
+    code.split(EXPORT).skip(1).map(Call::read).collect()
 }
 
 fn symbols(library: &Path) -> BTreeSet<String> {

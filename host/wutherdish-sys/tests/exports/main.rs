@@ -39,9 +39,9 @@ fn a_fifth_export_without_a_contract() {
     let mut exports = changed("#[no_mangle]\n", fifth);
     exports.symbols.insert("wutherdish_fifth".to_string());
     let faults = [
-        "wutherdish_fifth is not in the header",
         "wutherdish_fifth says nothing of its result",
         "wutherdish_fifth says nothing of book",
+        "wutherdish_fifth is not in the header",
     ];
     assert_eq!(exports.faults(), faults);
 }
@@ -88,9 +88,9 @@ fn an_export_of_another_crate() {
         "#[no_mangle]\npub extern \"C\" fn wutherdish_kept(n: u8) -> u8\n    ensures { λ r. ⌜ r ≡ n ⌝ }\n{\n    n\n}\n";
     exports.sources.push(("crates/book/src/kept.rt".to_string(), code.to_string()));
     let faults = [
+        "wutherdish_kept is exported by crates/book/src/kept.rt",
         "wutherdish_kept is not in the header",
         "wutherdish_kept is not in the library",
-        "wutherdish_kept is exported by crates/book/src/kept.rt",
     ];
     assert_eq!(exports.faults(), faults);
 }
