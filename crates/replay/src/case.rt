@@ -7,6 +7,15 @@ pub struct Case {
     pub is_whole: bool,
 }
 
+// The head of a case of which the first blob was read.
+pub fn without_first(head: Head) -> Head {
+    let mut head = head;
+    if 0 < head.blobs {
+        head.blobs -= 1;
+    }
+    head
+}
+
 pub fn read_case(fd: i32, head: Head, buf: &mut [u8]) -> Case {
     let mut ends = [0usize; 9];
     let mut is_whole = true;

@@ -3,7 +3,6 @@
 use crate::counts;
 use crate::counts::Counts;
 use crate::print;
-use libc::STDOUT_FILENO;
 ghost use Prim.Native.Nat.{_<_};
 
 // What fills the buffers that are lent.
@@ -15,7 +14,7 @@ fn wide(x: u8) -> usize
     x as usize
 }
 
-fn is_filled(s: &[u8], byte: u8) -> bool {
+pub fn is_filled(s: &[u8], byte: u8) -> bool {
     let mut i = 0;
     while i < s.len() {
         if s[i] != byte {
@@ -26,7 +25,7 @@ fn is_filled(s: &[u8], byte: u8) -> bool {
     true
 }
 
-fn is_same(s: &[u8], t: &[u8]) -> bool {
+pub fn is_same(s: &[u8], t: &[u8]) -> bool {
     if s.len() != t.len() {
         return false;
     }
@@ -109,19 +108,14 @@ fn is_expected(want: &[u8], number: u8, answer: &[u8; 114], peers: &[u8]) -> boo
 }
 
 fn show(place: u64, want: &[u8], number: u8, answer: &[u8; 114], peers: &[u8]) {
-    print::line(b"first difference: case", place);
-    io::write_all(STDOUT_FILENO, b"expected ");
-    print::bytes(want);
-    io::write_all(STDOUT_FILENO, b"\nnumber ");
-    print::byte(number);
-    io::write_all(STDOUT_FILENO, b"\nanswer ");
-    print::bytes(answer);
-    io::write_all(STDOUT_FILENO, b"\npeers ");
-    print::bytes(peers);
-    io::write_all(STDOUT_FILENO, b"\n");
+    print::difference(b"first difference: case", place);
+    print::named_bytes(b"expected ", want);
+    print::named_byte(b"number ", number);
+    print::named_bytes(b"answer ", answer);
+    print::named_bytes(b"peers ", peers);
 }
 
-// Counts a difference, and shows the first.
+// Counts a difference, and shows the first on standard error: the cases that are wrong on purpose all differ.
 pub fn compare(c: Counts, want: &[u8], number: u8, answer: &[u8; 114], peers: &[u8]) -> Counts {
     if is_expected(want, number, answer, peers) {
         return c;
@@ -132,8 +126,40 @@ pub fn compare(c: Counts, want: &[u8], number: u8, answer: &[u8; 114], peers: &[
     counts::one_different(c)
 }
 
+// The same of what needs no bytes to show.
+fn count(c: Counts, is_expected: bool, what: &[u8]) -> Counts {
+    if is_expected {
+        return c;
+    }
+    if c.different == 0 {
+        print::difference(what, c.place);
+    }
+    counts::one_different(c)
+}
+
+// The same of an offer, told whether the book's bytes are those that the case expects.
+pub fn compare_offered(
+    c: Counts,
+    want: &[u8],
+    number: u8,
+    answer: &[u8; 114],
+    peers: &[u8],
+    is_book: bool,
+) -> Counts {
+    if is_expected(want, number, answer, peers) {
+        return count(c, is_book, b"first difference: the book's bytes in case");
+    }
+    compare(c, want, number, answer, peers)
+}
+
+// The same of an opening, told whether the slice is as that number leaves it.
+pub fn compare_opened(c: Counts, want: &[u8], number: u8, is_laid_out: bool) -> Counts {
+    let is_expected = is_laid_out && is_same(want, &[number]);
+    count(c, is_expected, b"first difference: opening in case")
+}
+
 // Counts a case for which there is no room as different, and says so.
 pub fn no_room(c: Counts) -> Counts {
-    print::line(b"no room: case", c.place);
+    print::difference(b"no room: case", c.place);
     counts::one_different(c)
 }

@@ -1,18 +1,25 @@
-// How many cases there were of each kind, how many of them were answered otherwise, and the place of the last, from 1.
+// How many cases there were of each kind, how many of them were answered otherwise, the place of the last, from 1, and the
+// length of the book that offers go to.
 pub struct Counts {
     pub place: u64,
     pub verify: u64,
     pub judge: u64,
+    pub open: u64,
+    pub offer: u64,
     pub other: u64,
     pub different: u64,
+    pub book: usize,
 }
 
 pub const NONE: Counts = Counts {
     place: 0,
     verify: 0,
     judge: 0,
+    open: 0,
+    offer: 0,
     other: 0,
     different: 0,
+    book: 0,
 };
 
 fn next(n: u64) -> u64 {
@@ -37,6 +44,18 @@ pub fn one_judge(c: Counts) -> Counts {
     c
 }
 
+pub fn one_open(c: Counts) -> Counts {
+    let mut c = c;
+    c.open = next(c.open);
+    c
+}
+
+pub fn one_offer(c: Counts) -> Counts {
+    let mut c = c;
+    c.offer = next(c.offer);
+    c
+}
+
 pub fn one_other(c: Counts) -> Counts {
     let mut c = c;
     c.other = next(c.other);
@@ -46,5 +65,11 @@ pub fn one_other(c: Counts) -> Counts {
 pub fn one_different(c: Counts) -> Counts {
     let mut c = c;
     c.different = next(c.different);
+    c
+}
+
+pub fn with_book(c: Counts, length: usize) -> Counts {
+    let mut c = c;
+    c.book = length;
     c
 }

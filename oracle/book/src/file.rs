@@ -1,16 +1,17 @@
 //! The cases of a file that have a book: kinds 3 to 7 of vectors/README.md.
 
-use oracle::file::Blobs;
+use oracle::file::{self, Blobs};
 
 use crate::Offer;
 
-const OPEN: u8 = 3;
-const BEGIN: u8 = 4;
-const OFFER: u8 = 5;
-const OFFER_TO: u8 = 6;
+pub const OPEN: u8 = 3;
+pub const BEGIN: u8 = 4;
+pub const OFFER: u8 = 5;
+pub const OFFER_TO: u8 = 6;
 const TALLY: u8 = 7;
 
 /// A case with its answer.
+#[derive(Clone)]
 pub enum Case {
     Open {
         settings: Vec<u8>,
@@ -39,9 +40,34 @@ pub enum Case {
 }
 
 /// What an offer leaves behind.
+#[derive(Clone)]
 pub struct After {
     pub sha256: Vec<u8>,
     pub answer: Vec<u8>,
+}
+
+impl Case {
+    /// The case as a file holds it.
+    pub fn write(&self, out: &mut Vec<u8>) {
+        match self {
+            Self::Open { settings, length, number } => write_opening(OPEN, settings, *length, *number, out),
+            Self::Begin { settings, length, number } => write_opening(BEGIN, settings, *length, *number, out),
+            Self::Offer { offer, after } => write_offer(OFFER, None, offer, after, out),
+            Self::OfferTo { book, offer, after } => write_offer(OFFER_TO, Some(book), offer, after, out),
+            Self::Tally { input, output } => file::write(TALLY, &[input, output], out),
+        }
+    }
+}
+
+fn write_opening(kind: u8, settings: &[u8], length: usize, number: u8, out: &mut Vec<u8>) {
+    file::write(kind, &[settings, &(length as u32).to_le_bytes(), &[number]], out);
+}
+
+fn write_offer(kind: u8, book: Option<&Vec<u8>>, offer: &Offer, after: &After, out: &mut Vec<u8>) {
+    let Offer { schedule, leader, record, peer_buffer } = offer;
+    let inputs = [schedule, &[*leader][..], record, &peer_buffer.to_le_bytes(), &after.sha256, &after.answer];
+    let book = book.map(Vec::as_slice);
+    file::write(kind, &book.into_iter().chain(inputs).collect::<Vec<_>>(), out);
 }
 
 /// The cases of these kinds; others are passed over. `None` if one of them isn't laid out so.

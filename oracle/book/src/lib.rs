@@ -13,7 +13,7 @@ mod mistake;
 mod offer;
 mod tally;
 
-pub use entry::{Entry, Root, State};
+pub use entry::{BESIDE_RECORD, Entry, Root, State};
 pub use mistake::Mistake;
 pub use offer::{Offer, Offered};
 pub use tally::tally;

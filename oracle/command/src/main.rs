@@ -7,7 +7,9 @@ mod run_cases;
 mod run_feeds;
 mod spread;
 mod store;
+mod store_books;
 mod vectors;
+mod wrong;
 
 use std::process::ExitCode;
 
@@ -23,7 +25,9 @@ const USAGE: &str = "oracle COMMAND
   vectors FILE           run the cases of a file and compare with its answers
   lines FILE             run its verify and judge cases and print one line each
   store FILE             write the stored list
-  stored FILE            replay it";
+  stored FILE            replay it
+  store-books FILE       write the stored books
+  wrong OUT FILE..       write cases of files, each with one byte of what it expects changed";
 
 fn main() -> ExitCode {
     let arguments: Vec<String> = std::env::args().skip(1).collect();
@@ -49,6 +53,8 @@ fn main() -> ExitCode {
         }
         ["store", file] => store::write(file),
         ["stored", file] => store::check(file),
+        ["store-books", file] => store_books::write(file),
+        ["wrong", out, ref files @ ..] => wrong::make(out, files),
         _ => Err(USAGE.to_string()),
     };
     match result {

@@ -57,13 +57,18 @@ impl Case {
 
     /// The case and its answer, as the file holds them.
     pub fn write(&self, answer: &[u8], out: &mut Vec<u8>) {
-        let (kind, mut blobs) = self.blobs();
-        blobs.push(answer.to_vec());
-        out.extend([kind, blobs.len() as u8]);
-        for blob in blobs {
-            out.extend((blob.len() as u32).to_le_bytes());
-            out.extend(blob);
-        }
+        let (kind, blobs) = self.blobs();
+        let blobs = blobs.iter().map(Vec::as_slice).chain([answer]);
+        write(kind, &blobs.collect::<Vec<_>>(), out);
+    }
+}
+
+/// A case of any kind as the file holds it, the answer being its last blob.
+pub fn write(kind: u8, blobs: &[&[u8]], out: &mut Vec<u8>) {
+    out.extend([kind, blobs.len() as u8]);
+    for blob in blobs {
+        out.extend((blob.len() as u32).to_le_bytes());
+        out.extend(*blob);
     }
 }
 

@@ -7,10 +7,10 @@ use Rattle.replay.proofs.run_files.Statement.{statement}
 use Rattle.replay.proofs.run_files.Tie as tie
 
 abbrev Inv-loop : tie.InvT-loop
-Inv-loop buf₀ peers₀ n i₀ buf peers i = (length buf ≡ length buf₀) × (length peers ≡ length peers₀)
+Inv-loop buf₀ peers₀ book₀ spare₀ n i₀ buf peers book spare i = (length buf ≡ length buf₀) × (length peers ≡ length peers₀) × (length book ≡ length book₀) × (length spare ≡ length spare₀)
 
 abbrev μ-loop : tie.MeasureT-loop
-μ-loop buf₀ peers₀ n i₀ buf peers i = n - i
+μ-loop buf₀ peers₀ book₀ spare₀ n i₀ buf peers book spare i = n - i
 
 arg-count-requires : tie.Need-arg-count-requires Inv-loop μ-loop
 arg-count-requires c κs = search needs
@@ -36,6 +36,12 @@ same-length c = search needs
 same-length-2 : tie.Need-same-length-2 Inv-loop μ-loop
 same-length-2 c = search needs
 
+same-length-3 : tie.Need-same-length-3 Inv-loop μ-loop
+same-length-3 c = search needs
+
+same-length-4 : tie.Need-same-length-4 Inv-loop μ-loop
+same-length-4 c = search needs
+
 returns : tie.Need-returns Inv-loop μ-loop
 returns c = search needs
 
@@ -53,4 +59,6 @@ run-files-spec =
     loop-again
     same-length
     same-length-2
+    same-length-3
+    same-length-4
     returns)

@@ -6,10 +6,10 @@ use Rattle.replay.proofs.file.run.Statement.{statement}
 use Rattle.replay.proofs.file.run.Tie as tie
 
 abbrev Inv-loop : tie.InvT-loop
-Inv-loop fd buf₀ peers₀ c₀ turns₀ buf peers c turns = (length buf ≡ length buf₀) × (length peers ≡ length peers₀)
+Inv-loop fd buf₀ peers₀ book₀ spare₀ c₀ turns₀ buf peers book spare c turns = (length buf ≡ length buf₀) × (length peers ≡ length peers₀) × (length book ≡ length book₀) × (length spare ≡ length spare₀)
 
 abbrev μ-loop : tie.MeasureT-loop
-μ-loop fd buf₀ peers₀ c₀ turns₀ buf peers c turns = turns
+μ-loop fd buf₀ peers₀ book₀ spare₀ c₀ turns₀ buf peers book spare c turns = turns
 
 loop-holds : tie.Need-loop-holds Inv-loop μ-loop
 loop-holds c = search needs
@@ -22,6 +22,12 @@ same-length c = search needs
 
 same-length-2 : tie.Need-same-length-2 Inv-loop μ-loop
 same-length-2 c = search needs
+
+same-length-3 : tie.Need-same-length-3 Inv-loop μ-loop
+same-length-3 c = search needs
+
+same-length-4 : tie.Need-same-length-4 Inv-loop μ-loop
+same-length-4 c = search needs
 
 returns : tie.Need-returns Inv-loop μ-loop
 returns c = search needs
@@ -38,11 +44,17 @@ loop-less c = search needs
 loop-again : tie.Need-loop-again Inv-loop μ-loop
 loop-again c = search needs
 
-same-length-3 : tie.Need-same-length-3 Inv-loop μ-loop
-same-length-3 c = search needs
+same-length-5 : tie.Need-same-length-5 Inv-loop μ-loop
+same-length-5 c = search needs
 
-same-length-4 : tie.Need-same-length-4 Inv-loop μ-loop
-same-length-4 c = search needs
+same-length-6 : tie.Need-same-length-6 Inv-loop μ-loop
+same-length-6 c = search needs
+
+same-length-7 : tie.Need-same-length-7 Inv-loop μ-loop
+same-length-7 c = search needs
+
+same-length-8 : tie.Need-same-length-8 Inv-loop μ-loop
+same-length-8 c = search needs
 
 returns-2 : tie.Need-returns-2 Inv-loop μ-loop
 returns-2 c = search needs
@@ -57,11 +69,15 @@ run-spec =
     read-head-requires
     same-length
     same-length-2
+    same-length-3
+    same-length-4
     returns
     run-case-requires
     sub-turns
     loop-less
     loop-again
-    same-length-3
-    same-length-4
+    same-length-5
+    same-length-6
+    same-length-7
+    same-length-8
     returns-2)

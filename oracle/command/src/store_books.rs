@@ -1,0 +1,191 @@
+//! The stored books: openings, feeds and offers to given books, with the plain book's answers and its bytes.
+
+use std::collections::{BTreeMap, BTreeSet};
+
+use book::file::{After, Case};
+use book::{BESIDE_RECORD, Book, Mistake, Offer, offer};
+use feeds::{Feed, damaged_books, opening};
+use oracle::file::answer_bytes;
+use oracle::sha256::sha256;
+
+const SEED: u64 = 1;
+const OPENINGS: usize = 24;
+const FEEDS: u64 = 256;
+/// Of a feed only the first offers are looked at.
+const OFFERS: usize = 18;
+/// No slice is longer.
+const ROOM: usize = 65_536;
+/// Of offers to given books, no larger one is stored for its answer alone.
+const SMALL: usize = 2_000;
+
+/// What an offer is stored for: its answer's number, kind and reason, or a mistake that it notices.
+#[derive(Clone, Copy, PartialEq, Eq, PartialOrd, Ord)]
+enum Sight {
+    Answer([u8; 3]),
+    Mistake(usize),
+}
+
+/// The first offers of a feed: the bytes up to each, and where each sight is seen first.
+struct Seen {
+    place: u64,
+    sizes: Vec<usize>,
+    first: BTreeMap<Sight, usize>,
+}
+
+/// Openings; beginnings of feeds that show every answer and notice every mistake that these feeds can; and of the
+/// offers to damaged books the smallest for each.
+pub fn write(path: &str) -> Result<(), String> {
+    let mut out = Vec::new();
+    openings().for_each(|case| case.write(&mut out));
+    let feeds: Vec<Seen> = (0..FEEDS).filter_map(seen).collect();
+    let chosen = choose(&feeds);
+    for (place, offers) in &chosen {
+        feed_cases(*place, *offers).iter().for_each(|case| case.write(&mut out));
+    }
+    let given = given();
+    let cases: BTreeMap<_, _> = given.values().map(|(_, at, case)| (at, case)).collect();
+    cases.values().for_each(|case| case.write(&mut out));
+    std::fs::write(path, &out).map_err(|e| format!("{path}: {e}"))?;
+    let (books, offers) = (chosen.len(), chosen.values().sum::<usize>());
+    println!("{OPENINGS} openings, {books} books with {offers} offers, {} offers to given books", cases.len());
+    report(feeds.iter().flat_map(|feed| feed.first.keys()).chain(given.keys()).collect());
+    Ok(())
+}
+
+fn report(sights: BTreeSet<&Sight>) {
+    let answers = sights.iter().filter(|sight| matches!(sight, Sight::Answer(_))).count();
+    let unnoticed = (0..Mistake::ALL.len()).filter(|at| !sights.contains(&Sight::Mistake(*at)));
+    unnoticed.for_each(|at| println!("not noticed: {}", Mistake::ALL[at].text()));
+    let (noticed, all) = (sights.len() - answers, Mistake::ALL.len());
+    println!("{answers} answers; {noticed} of {all} mistakes of the book noticed");
+}
+
+fn openings() -> impl Iterator<Item = Case> {
+    let fitting = (0..).map(|place| opening(SEED, place)).filter(|(_, length)| *length <= ROOM);
+    fitting.take(OPENINGS).map(|(settings, length)| {
+        let number = book::open(&mut vec![0; length], &settings);
+        Case::Open { settings, length, number }
+    })
+}
+
+/// A feed and a book of its own, in a slice of at most `ROOM`; none where the feed begins with a given book.
+fn begin(place: u64) -> Option<(Feed, Book)> {
+    let feed = Feed::new(SEED, place);
+    let (settings, length) = (feed.book().settings(), feed.book().length().min(ROOM));
+    let book = Book::open(settings, length).expect("the feed's own settings");
+    feed.opened().then_some((feed, book))
+}
+
+fn seen(place: u64) -> Option<Seen> {
+    let (feed, mut book) = begin(place)?;
+    let places = (0..Mistake::ALL.len()).filter(|at| !Mistake::ALL[*at].is_in_reading());
+    let mut mistaken: Vec<(usize, Book)> = places.map(|at| (at, book.mistaken(Mistake::ALL[at]))).collect();
+    let mut seen = Seen { place, sizes: Vec::new(), first: BTreeMap::new() };
+    let mut size = 0;
+    for (at, step) in feed.take(OFFERS).enumerate() {
+        let answer = book.offer(&step.offer).answer;
+        let bytes = answer_bytes(&answer)?;
+        size += size_of(&step.offer) + bytes.len();
+        seen.sizes.push(size);
+        seen.first.entry(shown(&bytes)).or_insert(at);
+        mistaken.retain_mut(|(mistake, other)| {
+            let same = other.offer(&step.offer).answer == answer && other.entries() == book.entries();
+            if !same {
+                seen.first.insert(Sight::Mistake(*mistake), at);
+            }
+            same
+        });
+    }
+    Some(seen)
+}
+
+fn size_of(offer: &Offer) -> usize {
+    offer.schedule.len() + offer.record.len()
+}
+
+fn shown(answer: &[u8]) -> Sight {
+    Sight::Answer([answer[0], answer[1], answer[2]])
+}
+
+/// How many offers of which feeds: the dearest sight first, each where it is cheapest, until all are seen.
+fn choose(feeds: &[Seen]) -> BTreeMap<u64, usize> {
+    let mut chosen = BTreeMap::new();
+    let mut left: BTreeSet<Sight> = feeds.iter().flat_map(|feed| feed.first.keys().copied()).collect();
+    while let Some((_, at, feed)) = left.iter().filter_map(|sight| cheapest(feeds, sight)).max() {
+        let Seen { place, first, .. } = &feeds[feed];
+        left.retain(|sight| first.get(sight).is_none_or(|seen| *seen > at));
+        let offers: &mut usize = chosen.entry(*place).or_default();
+        *offers = (*offers).max(at + 1);
+    }
+    chosen
+}
+
+/// The bytes up to the sight, the offer that shows it and its feed.
+fn cheapest(feeds: &[Seen], sight: &Sight) -> Option<(usize, usize, usize)> {
+    let places = feeds.iter().enumerate().filter_map(|(feed, seen)| {
+        let at = *seen.first.get(sight)?;
+        Some((seen.sizes[at], at, feed))
+    });
+    places.min()
+}
+
+/// The beginning of a book, and offers to it.
+fn feed_cases(place: u64, offers: usize) -> Vec<Case> {
+    let (feed, mut book) = begin(place).expect("it was seen");
+    let begins = Case::Begin { settings: book.settings().to_vec(), length: book.length(), number: 0 };
+    let offers = feed.take(offers).map(|step| {
+        let answer = answer_bytes(&book.offer(&step.offer).answer).expect("no panic");
+        Case::Offer { offer: step.offer, after: After { sha256: sha256(&book.bytes()).to_vec(), answer } }
+    });
+    [begins].into_iter().chain(offers).collect()
+}
+
+/// An offer to a given book: its size, where it was met, and the case.
+type Given = (usize, (u64, usize), Case);
+
+/// Of all offers to damaged books the smallest for each sight.
+fn given() -> BTreeMap<Sight, Given> {
+    let mut best = BTreeMap::new();
+    for (place, (at, (slice, step))) in
+        (0..FEEDS).flat_map(|place| damaged_books(SEED, place).enumerate().map(move |met| (place, met)))
+    {
+        let slice = shortened(slice, &step.offer);
+        let size = slice.len() + size_of(&step.offer);
+        let (case, sights) = given_case(slice, step.offer);
+        let wanted = sights.iter().filter(|sight| is_small(size, sight));
+        wanted.for_each(|sight| keep_smaller(&mut best, *sight, (size, (place, at), case.clone())));
+    }
+    best
+}
+
+fn is_small(size: usize, sight: &Sight) -> bool {
+    size <= if matches!(sight, Sight::Answer(_)) { SMALL } else { ROOM }
+}
+
+fn keep_smaller(best: &mut BTreeMap<Sight, Given>, sight: Sight, given: Given) {
+    if best.get(&sight).is_none_or(|(size, ..)| given.0 < *size) {
+        best.insert(sight, given);
+    }
+}
+
+/// The zeros at the end cut down: a book has just the room for the offered record.
+fn shortened(mut slice: Vec<u8>, offer: &Offer) -> Vec<u8> {
+    let zeros = slice.iter().rev().take_while(|byte| **byte == 0).count();
+    let used = Book::read(&slice).map_or(slice.len() - zeros, |book| book.used());
+    slice.truncate(used + offer.record.len() + BESIDE_RECORD);
+    slice
+}
+
+fn given_case(book: Vec<u8>, given: Offer) -> (Case, Vec<Sight>) {
+    let reads = Book::read(&book).is_some();
+    let notices =
+        |mistake: Mistake| mistake.is_in_reading() && Book::read_mistaken(&book, Some(mistake)).is_some() != reads;
+    let mistakes = Mistake::ALL.iter().enumerate().filter(|(_, mistake)| notices(**mistake));
+    let mut sights: Vec<Sight> = mistakes.map(|(at, _)| Sight::Mistake(at)).collect();
+    let mut slice = book.clone();
+    let mut peers = vec![0; given.peer_buffer as usize];
+    let answer = offer(&mut slice, &given.schedule, given.leader, &given.record, &mut peers);
+    let answer = answer_bytes(&answer).expect("no panic");
+    sights.push(shown(&answer));
+    (Case::OfferTo { book, offer: given, after: After { sha256: sha256(&slice).to_vec(), answer } }, sights)
+}
