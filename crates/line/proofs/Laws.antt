@@ -6,9 +6,10 @@ use native.Mathlib.Decide.{decLt}
 use native.Mathlib.Nat.{mod-lt, mod-eq-of-lt, pow-suc, pow-le-pow-right, div-lt-iff-lt-mul, le-div-iff-mul-le}
 use mathlib.Core.Path.{_≡_, refl, ap, sym, _∙_}
 use mathlib.Core.List.{List, [], _∷_, _++_, append-assoc}
-use lib.ListN.{length, take, drop, length-append}
-use lib.Dec.{ltb}
+use lib.ListN.{length, length-append}
+use lib.Seq.{length-take-le}
 use borrow.Author.Tests.{lt-ltb, le-ltb}
+use Rattle.io.specs.Counts.{Counts}
 use Rattle.io.specs.Digits.{digits, glyph, Fewest}
 use Rattle.parts.specs.Bytes.{putAt}
 use Rattle.write.proofs.Laws.{put-put, put-length}
@@ -65,6 +66,12 @@ module _ (l : List ℕ) (at : ℕ) (a m : List ℕ) (e : ℕ) (b o : List ℕ) (
     written = q .written ∙ ap (λ (x : List ℕ). putAt x e b) (p .written) ∙ put-put l at a b e (sym (p .ends)) (omega (arith, q .ends));
     ends = omega (arith, p .ends, q .ends, length-append a b);
   }
+
+-- what was written at the front is counted by where it ends
+pub counts : (l a m : List ℕ) (e : ℕ) → Put l 0 a m e → e ≤ length l → Counts e m
+counts l a m e p h =
+    let k : length m ≡ length l = ap length (p .written) ∙ put-length l 0 a (omega (arith, p .ends)) in
+    (omega arith, sym (length-take-le e m (omega arith)))
 
 -- the pieces of a line
 pub line-pieces : (l : Line) → decimal (l .place) ++ space ++ (decimal (l .round) ++ space) ++ (l .letter ∷ space) ++ (decimal (l .reason) ++ space) ++ (decimal (l .number) ++ newline) ≡ lineBytes l

@@ -2,7 +2,8 @@
 ghost use mathlib.Core.Path.{_≡_};
 ghost use mathlib.Core.List.{[], _∷_, _++_};
 ghost use Prim.Native.Nat.{_+_, _≤_, _<_};
-ghost use lib.ListN.{length, drop};
+ghost use lib.ListN.{length};
+ghost use Rattle.io.specs.Counts.{Counts};
 ghost use Rattle.line.specs.Text.{decimal, space, lineBytes, endBytes, Put};
 
 pub struct Line {
@@ -56,7 +57,7 @@ fn put_letter(out: &mut [u8], at: usize, letter: u8) -> usize
 
 // Writes a line's bytes at the front, and says how many they are.
 pub fn line_bytes(line: Line, out: &mut [u8; 86]) -> usize
-    ensures { λ r. ⌜ Put (now (out .entry)) 0 (lineBytes line) (now (out .exit)) r × (r ≤ 86) ⌝ }
+    ensures { λ r. ⌜ Put (now (out .entry)) 0 (lineBytes line) (now (out .exit)) r × Counts r (now (out .exit)) ⌝ }
 {
     let place_end = put_number(out, 0, line.place, b' ');
     let round_end = put_number(out, place_end, line.round as u64, b' ');
@@ -67,7 +68,7 @@ pub fn line_bytes(line: Line, out: &mut [u8; 86]) -> usize
 
 // The same of the last line, `end` and the kept count.
 pub fn end_bytes(kept: u64, out: &mut [u8; 86]) -> usize
-    ensures { λ r. ⌜ Put (now (out .entry)) 0 (endBytes kept) (now (out .exit)) r × (r ≤ 86) ⌝ }
+    ensures { λ r. ⌜ Put (now (out .entry)) 0 (endBytes kept) (now (out .exit)) r × Counts r (now (out .exit)) ⌝ }
 {
     write::put_slice(out, 0, b"end ");
     put_number(out, 4, kept, b'\n')

@@ -5,7 +5,7 @@ use mathlib.Core.List.{List}
 use Prim.Native.Nat.{ℕ}
 use denote.Ref.{now}
 use Rattle.line.specs.Text.{Put}
-use Rattle.line.proofs.Laws.{joined, line-pieces}
+use Rattle.line.proofs.Laws.{joined, counts, line-pieces}
 use borrow.Author.Needs.{needs}
 use Rattle.line.proofs.line_bytes.Statement.{statement}
 use Rattle.line.proofs.line_bytes.Tie as tie
@@ -50,8 +50,10 @@ returns c =
     let two = joined out 0 _ _ _ _ _ _ (p .0) (q .0) (omega (arith, p .1, q .1)) in
     let three = joined out 0 _ _ _ _ _ _ two r (omega (arith, p .1, q .1, r .ends)) in
     let four = joined out 0 _ _ _ _ _ _ three (t .0) (omega (arith, p .1, q .1, r .ends, t .1)) in
-    let five = joined out 0 _ _ _ _ _ _ four (u .0) (omega (arith, p .1, q .1, r .ends, t .1, u .1)) in
-    (subst (λ (x : List ℕ). Put out 0 x (c .put-number4 .last .0) (c .put-number4 .result)) (line-pieces (s .line)) five, omega (arith, p .1, q .1, r .ends, t .1, u .1))
+    let five = joined out 0 _ _ _ _ _ _ four (u .0) (omega (arith, p .1, q .1, r .ends, t .1, u .1)) in (
+      subst (λ (x : List ℕ). Put out 0 x (c .put-number4 .last .0) (c .put-number4 .result)) (line-pieces (s .line)) five,
+      counts out _ (c .put-number4 .last .0) (c .put-number4 .result) five (omega (arith, p .1, q .1, r .ends, t .1, u .1)),
+    )
 
 pub line-bytes-spec : {M : Type 1} → statement M
 line-bytes-spec =
