@@ -77,7 +77,7 @@ openedWith (case-front.Number n) number = case-front.Number n
 openedWith (case-front.Points n) zero = case-front.Points n
 openedWith (case-front.Points n) (suc k) = case-front.Number (suc k)
 
--- what a feed begins with, for a book so long: 1, 2, and last the 5 of opening the book, or where the points begin
+-- what a feed begins with, for a book of len bytes: 1, 2, and last the 5 of opening the book, or where the points begin
 unfoldable pub begin : ℕ → List ℕ → code-front.Front
 unfolding frontOf openNumber
 begin len feed = openedWith (frontOf feed) (openNumber (take 47 feed) len)

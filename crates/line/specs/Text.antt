@@ -15,7 +15,7 @@ space = 32 ∷ []
 abbrev pub newline : List ℕ
 newline = 10 ∷ []
 
--- a number in decimal, with no zero before its first digit, in at most so many digits
+-- a number in decimal, with no zero before its first digit, in at most k digits
 unfoldable pub decimalIn : ℕ → ℕ → List ℕ
 decimalIn zero n = []
 decimalIn (suc k) n = pick (ltb n 10) ((48 + n) ∷ []) (decimalIn k (n / 10) ++ ((48 + n % 10) ∷ []))

@@ -56,7 +56,7 @@ fn put_letter(out: &mut [u8], at: usize, letter: u8) -> usize
 }
 
 // Writes a line's bytes at the front, and says how many they are.
-pub fn line_bytes(line: Line, out: &mut [u8; 86]) -> usize
+pub fn line_bytes(line: Line, out: &mut [u8; LONGEST]) -> usize
     ensures { λ r. ⌜ Put (now (out .entry)) 0 (lineBytes line) (now (out .exit)) r × Counts r (now (out .exit)) ⌝ }
 {
     let place_end = put_number(out, 0, line.place, b' ');
@@ -67,7 +67,7 @@ pub fn line_bytes(line: Line, out: &mut [u8; 86]) -> usize
 }
 
 // The same of the last line, `end` and the kept count.
-pub fn end_bytes(kept: u64, out: &mut [u8; 86]) -> usize
+pub fn end_bytes(kept: u64, out: &mut [u8; LONGEST]) -> usize
     ensures { λ r. ⌜ Put (now (out .entry)) 0 (endBytes kept) (now (out .exit)) r × Counts r (now (out .exit)) ⌝ }
 {
     write::put_slice(out, 0, b"end ");

@@ -1,7 +1,7 @@
 -- `put_decimal` meets its contract: the digits are the definition's, at most 20 of them.
 use Prim.Native.Nat.{_≤_}
 use native.Mathlib.Omega.{arith}
-use mathlib.Core.Path.{_≡_, ap, sym, _∙_}
+use mathlib.Core.Path.{_≡_, ap, _∙_}
 use lib.ListN.{length, take}
 use denote.Ref.{now}
 use Rattle.parts.specs.Bytes.{putAt}

@@ -2,7 +2,6 @@
 use Prim.Native.Nat.{ℕ, _≤_}
 use native.Mathlib.Omega.{arith}
 use mathlib.Core.Path.{_≡_, refl, sym, subst, _∙_}
-use mathlib.Core.List.{List}
 use lib.ListN.{length, take}
 use denote.Ref.{now}
 use Rattle.feed.specs.declared.front.Front.the-variants as case-front

@@ -5,7 +5,6 @@ use mathlib.Core.Path.{_≡_, ap, sym, _∙_}
 use mathlib.Core.List.{List}
 use lib.ListN.{length, getD, take, drop, length-drop}
 use denote.Ref.{now}
-use Rattle.point.specs.Point.{PointInfo}
 use Rattle.point.specs.Reading.{pointOf, readPoint, readPointOf}
 use Rattle.entries.proofs.Laws.{rest}
 use Rattle.judge.specs.Judge.{judgeAnswerOf}

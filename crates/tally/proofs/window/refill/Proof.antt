@@ -1,7 +1,7 @@
 -- `refill` meets its contract: nothing is moved, or what is at hand is moved to the front and more is read after it.
 use Prim.Native.Nat.{ℕ}
 use native.Mathlib.Omega.{arith}
-use mathlib.Core.Path.{_≡_, sym, _∙_}
+use mathlib.Core.Path.{_≡_}
 use denote.Ref.{now}
 use Rattle.tally.proofs.Laws.{unmoved, refilled}
 use borrow.Author.Needs.{needs}
