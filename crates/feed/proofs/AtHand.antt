@@ -8,16 +8,21 @@ use mathlib.Core.Bool.{Bool, true, false}
 use mathlib.Core.Option.{Option, none, some}
 use mathlib.Core.List.{List, [], _∷_}
 use lib.ListN.{length, take, drop, length-drop}
-use lib.Seq.{take-all, take-nil, drop-nil, take-take, length-take-le}
+use lib.Seq.{take-all, take-length, take-nil, drop-nil, take-take, length-take-le}
 use Rattle.base.proofs.Laws.{picked}
-use Rattle.record.specs.Record.{lengthAt, nextAt, fieldOk, endFrom, recordEnd}
-use Rattle.record.proofs.Laws.{fitting, end-behind, Agree, front-agrees, field-same, next-same, ends-same, end-same, end-within}
+use Rattle.record.specs.Record.{lengthAt, nextAt, fieldOk, endFrom, recordEnd, wellShaped}
+use Rattle.record.proofs.Laws.{fitting, end-behind, shaped-end, Agree, front-agrees, field-same, next-same, ends-same, end-same, end-within}
 use Rattle.point.specs.Point.{PointInfo}
 use Rattle.point.specs.Reading.{readPoint}
-use Rattle.plain_book.specs.Offer.{Offer}
-use Rattle.plain_book.specs.Calls.{openNumber, offerBytes}
-use Rattle.feed.specs.Tally.{lastKnownEnd, scheduleEndFrom, scheduleEnd, scheduleTo, beginWith, begin, pointWith, recordTo, step, Tally, stepThen, pointsFrom, points}
-use Rattle.feed.proofs.Laws.{span, lastKnown, by-test, schedule-behind, schedule-most, schedule-inside, record-most}
+use Rattle.schedule.specs.Settings.{Settings, readSettings}
+use Rattle.schedule.specs.Schedule.{Schedule, readSchedule}
+use Rattle.plain_book.specs.Kept.{Book}
+use Rattle.plain_book.specs.Offer.{Offer, offerTested, offerWith, offer}
+use Rattle.plain_book.specs.Layout.{Opened, readBook}
+use Rattle.plain_book.specs.Calls.{openNumber, Result, resultOf, offerTo, offerBytes}
+use Rattle.feed.specs.declared.front.Front as code-front
+use Rattle.feed.specs.Tally.{lastKnownEnd, scheduleEndFrom, scheduleEnd, scheduleTo, frontWith, frontOf, openedWith, begin, sizeWith, recordSize, offeredAs, offered, step, Tally, stepThen, pointsFrom, points}
+use Rattle.feed.proofs.Laws.{span, lastKnown, by-test, schedule-behind, schedule-most, schedule-inside, record-most, size-of}
 
 -- ---- an end that lies in a part of a list is the whole list's
 
@@ -47,20 +52,58 @@ module _ (end : List ℕ → Option ℕ) (most : ℕ)
 record-part : (n : ℕ) (s : List ℕ) → 41126 ≤ n → recordEnd (take n s) ≡ recordEnd s
 record-part = end-part recordEnd 41126 (λ e s t a k h g. end-same e s t a k h g) record-most end-within
 
+-- bytes where no record ends can't be read
+shapeless : (s : List ℕ) → recordEnd s ≡ none → (x : Bool) → wellShaped s ≡ x → x ≡ false
+shapeless s e true h = let z : _≡_ {A = ℕ} 0 1 = cc (shaped-end s h) in absurd (omega arith)
+shapeless s e false h = refl
+
+endless-unread : (s : List ℕ) → recordEnd s ≡ none → readPoint s ≡ none
+unfolding readPoint
+endless-unread s e = rw (shapeless s e (wellShaped s) refl)
+
+-- all records that can't be read are answered alike
+module _ (schedule book peers : List ℕ) (leader : ℕ) (s t : List ℕ) (p : readPoint s ≡ none) (q : readPoint t ≡ none) where
+  abbrev offering : List ℕ → Offer
+  offering bytes = record { schedule = schedule; leader = leader; bytes = bytes; peers = peers }
+
+  unread-offers : (c : Settings) (len : ℕ) (b : Book) (x : Option Schedule) → readSchedule schedule ≡ x → offer c len b (offering s) ≡ offer c len b (offering t)
+  unfolding offer offerTested offerWith
+  unread-offers c len b none e = rw e
+  unread-offers c len b (some d) e = rw (e, p, q)
+
+  unread-to : (z : Option Opened) → offerTo book (offering s) z ≡ offerTo book (offering t) z
+  unread-to none = refl
+  unread-to (some z) = ap (resultOf (z .bytes) (length book)) (unread-offers (z .settings) (length book) (z .book) (readSchedule schedule) refl)
+
+  unread-same : offerBytes book (offering s) ≡ offerBytes book (offering t)
+  unfolding offerBytes
+  unread-same = unread-to (readBook book)
+
+  unread-offered : (place k m : ℕ) → offered schedule book peers place leader k s ≡ offered schedule book peers place leader m t
+  unread-offered place k m = rw (p, q, unread-same)
+
 module _ (schedule book peers : List ℕ) (place leader n : ℕ) (s : List ℕ) where
-  to-part : (o : Option ℕ) → ((k : ℕ) → o ≡ some k → k ≤ n) → recordTo schedule book peers place leader (take n s) o ≡ recordTo schedule book peers place leader s o
-  to-part none f = refl
-  to-part (some k) f = rw (take-take k n s (f k refl))
+  to-part : (o : Option ℕ) → recordEnd (take n s) ≡ o → recordEnd s ≡ o → ((k : ℕ) → o ≡ some k → k ≤ n) →
+      offered schedule book peers place leader (suc (sizeWith (take n s) o)) (take (sizeWith (take n s) o) (take n s))
+      ≡ offered schedule book peers place leader (suc (sizeWith s o)) (take (sizeWith s o) s)
+  to-part none e f h =
+      let a = take-length (take n s) in
+      let b = take-length s in
+      unread-offered schedule book peers leader (take (length (take n s)) (take n s)) (take (length s) s)
+      (ap readPoint a ∙ endless-unread (take n s) e) (ap readPoint b ∙ endless-unread s f) place (suc (length (take n s))) (suc (length s))
+  to-part (some k) e f h = rw (take-take k n s (h k refl))
 
 -- the longest leader byte and record take 41,127 bytes
-pub step-part : (n : ℕ) (schedule book peers : List ℕ) (lines : ℕ) (feed : List ℕ) → 41127 ≤ n →
-    step schedule book peers lines (take n feed) ≡ step schedule book peers lines feed
+pub step-part : (n : ℕ) (schedule book peers : List ℕ) (place : ℕ) (feed : List ℕ) → 41127 ≤ n →
+    step schedule book peers place (take n feed) ≡ step schedule book peers place feed
 unfolding step
-step-part zero schedule book peers lines feed h = absurd (omega arith)
-step-part (suc n) schedule book peers lines [] h = refl
-step-part (suc n) schedule book peers lines (x ∷ s) h =
-    ap (recordTo schedule book peers (suc lines) x (take n s)) (record-part n s (omega arith))
-    ∙ to-part schedule book peers (suc lines) x n s (recordEnd s) (λ k e. omega (arith, record-most s k e))
+step-part zero schedule book peers place feed h = absurd (omega arith)
+step-part (suc n) schedule book peers place [] h = refl
+step-part (suc n) schedule book peers place (x ∷ s) h =
+    let e = record-part n s (omega arith) in
+    ap (λ (k : ℕ). offered schedule book peers place x (suc k) (take k (take n s))) (size-of (take n s) (recordEnd s) e)
+    ∙ to-part schedule book peers place x n s (recordEnd s) e refl (λ k f. omega (arith, record-most s k f))
+    ∙ ap (λ (k : ℕ). offered schedule book peers place x (suc k) (take k s)) (sym (size-of s (recordEnd s) refl))
 
 -- ---- schedules
 
@@ -99,11 +142,11 @@ schedule-to-part : (n : ℕ) (s : List ℕ) (o : Option ℕ) → ((k : ℕ) → 
 schedule-to-part n s none f = refl
 schedule-to-part n s (some k) f = rw (take-take k n s (f k refl))
 
-with-part : (n : ℕ) (s : List ℕ) (number : ℕ) → 32675 ≤ n → beginWith (take n s) number ≡ beginWith s number
-with-part n s zero h =
+with-part : (n : ℕ) (s : List ℕ) (c : Option Settings) → 32675 ≤ n → frontWith (take n s) c ≡ frontWith s c
+with-part n s none h = refl
+with-part n s (some c) h =
     ap (scheduleTo (take n s)) (schedule-part n s h)
     ∙ schedule-to-part n s (scheduleEnd s) (λ k e. omega (arith, schedule-most s k e))
-with-part n s (suc m) h = refl
 
 drop-part : (k n : ℕ) (s : List ℕ) → drop k (take (k + n) s) ≡ take n (drop k s)
 drop-part zero n s = let e : 0 + n ≡ n = omega arith in ap (λ (m : ℕ). take m s) e
@@ -112,46 +155,40 @@ drop-part (suc k) n (x ∷ s) = let e : suc k + n ≡ suc (k + n) = omega arith 
 
 -- the longest settings and schedule take 32,722 bytes
 pub begin-part : (n len : ℕ) (feed : List ℕ) → 32722 ≤ n → begin len (take n feed) ≡ begin len feed
-unfolding begin
+unfolding begin frontOf
 begin-part n len feed h =
     let e : n ≡ 47 + (n - 47) = omega arith in
     let d : drop 47 (take n feed) ≡ take (n - 47) (drop 47 feed) = ap (λ (m : ℕ). drop 47 (take m feed)) e ∙ drop-part 47 (n - 47) feed in
-    rw (take-take 47 n feed (omega arith), d) (with-part (n - 47) (drop 47 feed) (openNumber (take 47 feed) len) (omega arith))
+    rw (take-take 47 n feed (omega arith), d) (ap (λ (x : code-front.Front). openedWith x (openNumber (take 47 feed) len)) (with-part (n - 47) (drop 47 feed) (readSettings (take 47 feed)) (omega arith)))
 
 -- ---- the lines of a feed, step by step
 
 module _ (f g : List ℕ → List ℕ → List ℕ → Tally) (book : List ℕ) (x : ℕ) (s : List ℕ)
     (same : (b p t : List ℕ) → length t ≤ length s → f b p t ≡ g b p t) where
-  point-same : (o : Offer) (place k : ℕ) (p : Option PointInfo) → stepThen f book (x ∷ s) (pointWith book o place (suc k) p) ≡ stepThen g book (x ∷ s) (pointWith book o place (suc k) p)
-  point-same o place k none = refl
-  point-same o place k (some p) =
-      let r = offerBytes book o in
-      rw (same (r .bytes) (r .peers) (drop k s) (omega (arith, length-drop k s)))
-
-  record-same : (schedule peers : List ℕ) (place : ℕ) (o : Option ℕ) → stepThen f book (x ∷ s) (recordTo schedule book peers place x s o) ≡ stepThen g book (x ∷ s) (recordTo schedule book peers place x s o)
-  record-same schedule peers place none = refl
-  record-same schedule peers place (some k) = point-same (record { schedule = schedule; leader = x; bytes = take k s; peers = peers }) place k (readPoint (take k s))
+  offered-same : (place k : ℕ) (r : Result) (p : Option PointInfo) → stepThen f book (x ∷ s) (offeredAs place (suc k) r p) ≡ stepThen g book (x ∷ s) (offeredAs place (suc k) r p)
+  offered-same place k r none = refl
+  offered-same place k r (some p) = rw (same (r .bytes) (r .peers) (drop k s) (omega (arith, length-drop k s)))
 
 -- every number of turns that is enough gives the same
-enough : (m n : ℕ) (schedule book peers : List ℕ) (lines : ℕ) (feed : List ℕ) → length feed ≤ m → length feed ≤ n →
-    pointsFrom m schedule book peers lines feed ≡ pointsFrom n schedule book peers lines feed
+enough : (m n : ℕ) (schedule book peers : List ℕ) (place : ℕ) (feed : List ℕ) → length feed ≤ m → length feed ≤ n →
+    pointsFrom m schedule book peers place feed ≡ pointsFrom n schedule book peers place feed
 unfolding pointsFrom step
-enough zero zero schedule book peers lines feed h g = refl
-enough zero (suc n) schedule book peers lines [] h g = refl
-enough zero (suc n) schedule book peers lines (x ∷ s) h g = absurd (omega arith)
-enough (suc m) zero schedule book peers lines [] h g = refl
-enough (suc m) zero schedule book peers lines (x ∷ s) h g = absurd (omega arith)
-enough (suc m) (suc n) schedule book peers lines [] h g = refl
-enough (suc m) (suc n) schedule book peers lines (x ∷ s) h g =
-    record-same (λ b p t. pointsFrom m schedule b p (suc lines) t) (λ b p t. pointsFrom n schedule b p (suc lines) t) book x s
-    (λ b p t l. enough m n schedule b p (suc lines) t (omega arith) (omega arith)) schedule peers (suc lines) (recordEnd s)
+enough zero zero schedule book peers place feed h g = refl
+enough zero (suc n) schedule book peers place [] h g = refl
+enough zero (suc n) schedule book peers place (x ∷ s) h g = absurd (omega arith)
+enough (suc m) zero schedule book peers place [] h g = refl
+enough (suc m) zero schedule book peers place (x ∷ s) h g = absurd (omega arith)
+enough (suc m) (suc n) schedule book peers place [] h g = refl
+enough (suc m) (suc n) schedule book peers place (x ∷ s) h g =
+    offered-same (λ b p t. pointsFrom m schedule b p (suc place) t) (λ b p t. pointsFrom n schedule b p (suc place) t) book x s
+    (λ b p t l. enough m n schedule b p (suc place) t (omega arith) (omega arith)) place (recordSize s) _ (readPoint (take (recordSize s) s))
 
 -- the lines of a feed are its first step's, and then those of what this leaves
-pub points-step : (schedule book peers : List ℕ) (lines : ℕ) (feed : List ℕ) →
-    points schedule book peers lines feed
-    ≡ stepThen (λ b p t. points schedule b p (suc lines) t) book feed (step schedule book peers lines feed)
+pub points-step : (schedule book peers : List ℕ) (place : ℕ) (feed : List ℕ) →
+    points schedule book peers place feed
+    ≡ stepThen (λ b p t. points schedule b p (suc place) t) book feed (step schedule book peers place feed)
 unfolding points pointsFrom step
-points-step schedule book peers lines [] = refl
-points-step schedule book peers lines (x ∷ s) =
-    record-same (λ b p t. pointsFrom (length s) schedule b p (suc lines) t) (λ b p t. points schedule b p (suc lines) t) book x s
-    (λ b p t l. enough (length s) (length t) schedule b p (suc lines) t l (omega arith)) schedule peers (suc lines) (recordEnd s)
+points-step schedule book peers place [] = refl
+points-step schedule book peers place (x ∷ s) =
+    offered-same (λ b p t. pointsFrom (length s) schedule b p (suc place) t) (λ b p t. points schedule b p (suc place) t) book x s
+    (λ b p t l. enough (length s) (length t) schedule b p (suc place) t l (omega arith)) place (recordSize s) _ (readPoint (take (recordSize s) s))

@@ -13,17 +13,17 @@ use Rattle.base.specs.Base.{pick}
 use Rattle.base.proofs.Laws.{picked}
 use Rattle.record.specs.declared.Row.{Row}
 use Rattle.record.specs.Record.{nextAt, fieldRow, fieldOk, endFrom, rows, recordEnd}
-use Rattle.record.proofs.Laws.{next-within, fitting, end-behind}
-use Rattle.schedule.specs.Settings.{readSettings}
+use Rattle.record.proofs.Laws.{next-within, fitting, end-behind, end-within}
+use Rattle.point.specs.Point.{PointInfo}
+use Rattle.schedule.specs.Settings.{Settings, readSettings}
 use Rattle.schedule.specs.Schedule.{Schedule, readSchedule}
-use Rattle.reasons.specs.Verdict.{Fail, IllFormed, Invalid, TransInvalid, Valid}
-use Rattle.judge.specs.Judge.{JudgeAnswer, Number, Given}
-use Rattle.plain_book.specs.Calls.{openNumber, Result}
-use Rattle.feed.specs.declared.line.Line.{Line}
+use Rattle.judge.specs.Judge.{JudgeAnswer}
+use Rattle.plain_book.specs.Calls.{openNumber, openedAs, openBytes, Result}
+use Rattle.line.specs.declared.Line.{Line}
 use Rattle.feed.specs.declared.front.Front.the-variants as case-front
 use Rattle.feed.specs.declared.next.Next as code-next
 use Rattle.feed.specs.declared.next.Next.the-variants as case-next
-use Rattle.feed.specs.Tally.{refusedLine, lineOf, lastKnownEnd, scheduleEndFrom, scheduleEnd, scheduleTo, begin, Step, over, last, offered, recordTo, step, nextOf, bookAfter, peersAfter, Within}
+use Rattle.feed.specs.Tally.{lineOf, lastKnownEnd, scheduleEndFrom, scheduleEnd, scheduleTo, frontOf, begin, sizeWith, recordSize, Step, over, offeredAs, offered, step, nextOf, bookAfter, peersAfter, Within}
 
 -- ---- where fields end
 
@@ -122,70 +122,97 @@ unlike : (n m : ℕ) → n < m → eqb n m ≡ false
 unlike n m h = ne-eqb n m (λ e. omega arith)
 
 -- no settings are shorter than 47 bytes
-pub short-settings : (s : List ℕ) (len : ℕ) → length s < 47 → openNumber s len ≡ 1
-unfolding openNumber readSettings
-short-settings s len h = simp (unlike (length s) 47 h)
+pub short-settings : (s : List ℕ) → length s < 47 → readSettings s ≡ none
+unfolding readSettings
+short-settings s h = simp (unlike (length s) 47 h)
 
-module _ (len : ℕ) (feed : List ℕ) where
-  pub begin-number : (n : ℕ) → openNumber (take 47 feed) len ≡ n → (n ≡ 0 → ⊥) → begin len feed ≡ case-front.Number n
-  unfolding begin
-  begin-number zero e d = absurd (d refl)
-  begin-number (suc n) e d = rw e
+module _ (feed : List ℕ) where
+  pub front-unset : readSettings (take 47 feed) ≡ none → frontOf feed ≡ case-front.Number 1
+  unfolding frontOf
+  front-unset e = rw e
 
-  module _ (z : openNumber (take 47 feed) len ≡ 0) where
-    pub begin-open : begin len feed ≡ scheduleTo (drop 47 feed) (scheduleEnd (drop 47 feed))
-    unfolding begin
-    begin-open = rw z
+  module _ (c : Settings) (z : readSettings (take 47 feed) ≡ some c) where
+    front-set : frontOf feed ≡ scheduleTo (drop 47 feed) (scheduleEnd (drop 47 feed))
+    unfolding frontOf
+    front-set = rw z
 
-    pub begin-endless : scheduleEnd (drop 47 feed) ≡ none → begin len feed ≡ case-front.Number 2
-    begin-endless e = begin-open ∙ rw e
+    pub front-endless : scheduleEnd (drop 47 feed) ≡ none → frontOf feed ≡ case-front.Number 2
+    front-endless e = front-set ∙ rw e
 
     module _ (n : ℕ) (e : scheduleEnd (drop 47 feed) ≡ some n) where
-      pub begin-unread : readSchedule (take n (drop 47 feed)) ≡ none → begin len feed ≡ case-front.Number 2
-      begin-unread u = begin-open ∙ rw (e, u)
+      pub front-unread : readSchedule (take n (drop 47 feed)) ≡ none → frontOf feed ≡ case-front.Number 2
+      front-unread u = front-set ∙ rw (e, u)
 
-      pub begin-read : (c : Schedule) → readSchedule (take n (drop 47 feed)) ≡ some c → begin len feed ≡ case-front.Points (47 + n)
-      begin-read c r = begin-open ∙ rw (e, r)
+      pub front-read : (d : Schedule) → readSchedule (take n (drop 47 feed)) ≡ some d → frontOf feed ≡ case-front.Points (47 + n)
+      front-read d r = front-set ∙ rw (e, r)
 
-      pub begins : 47 ≤ length feed → (47 ≤ 47 + n) × (47 + n ≤ length feed) × (47 + n ≤ 32722)
-      begins h =
-          let i = schedule-inside (drop 47 feed) n e in
-          (omega arith, omega (arith, length-drop 47 feed), omega (arith, schedule-most (drop 47 feed) n e))
+  pub begins : (n : ℕ) → scheduleEnd (drop 47 feed) ≡ some n → 47 ≤ length feed → (47 ≤ 47 + n) × (47 + n ≤ length feed) × (47 + n ≤ 32722)
+  begins n e h =
+      let i = schedule-inside (drop 47 feed) n e in
+      (omega arith, omega (arith, length-drop 47 feed), omega (arith, schedule-most (drop 47 feed) n e))
+
+-- ---- opening the book
+
+module _ (len : ℕ) (feed : List ℕ) where
+  pub begin-unread : (n : ℕ) → frontOf feed ≡ case-front.Number n → begin len feed ≡ case-front.Number n
+  unfolding begin
+  begin-unread n e = rw e
+
+  module _ (n : ℕ) (e : frontOf feed ≡ case-front.Points n) where
+    pub begin-refused : (k : ℕ) → openNumber (take 47 feed) len ≡ k → (k ≡ 0 → ⊥) → begin len feed ≡ case-front.Number k
+    unfolding begin
+    begin-refused zero f d = absurd (d refl)
+    begin-refused (suc k) f d = rw (e, f)
+
+    pub begin-open : openNumber (take 47 feed) len ≡ 0 → begin len feed ≡ case-front.Points n
+    unfolding begin
+    begin-open f = rw (e, f)
+
+-- a book that is not opened is as it was
+pub unopened : (settings s : List ℕ) → (openNumber settings (length s) ≡ 0 → ⊥) → openBytes settings s ≡ s
+unfolding openBytes
+unopened settings s d = go (openNumber settings (length s)) d
+  where
+    go : (n : ℕ) → (n ≡ 0 → ⊥) → openedAs settings s n ≡ s
+    go zero d = absurd (d refl)
+    go (suc n) d = refl
 
 -- ---- the next point
 
-pub step-over : (schedule book peers : List ℕ) (lines : ℕ) (feed : List ℕ) → length feed ≡ 0 → step schedule book peers lines feed ≡ over
-unfolding step
-step-over schedule book peers lines [] h = refl
-step-over schedule book peers lines (x ∷ s) h = absurd (omega arith)
+size-in : (s : List ℕ) (o : Option ℕ) → recordEnd s ≡ o → sizeWith s o ≤ length s
+size-in s none e = omega arith
+size-in s (some n) e = end-within s n e
 
-pub step-record : (schedule book peers : List ℕ) (lines : ℕ) (feed : List ℕ) (o : Option ℕ) → (length feed ≡ 0 → ⊥) → recordEnd (drop 1 feed) ≡ o →
-    step schedule book peers lines feed ≡ recordTo schedule book peers (suc lines) (getD feed 0 0) (drop 1 feed) o
-unfolding step
-step-record schedule book peers lines [] o h e = absurd (h refl)
-step-record schedule book peers lines (x ∷ s) o h e = ap (recordTo schedule book peers (suc lines) x s) e
+pub size-inside : (s : List ℕ) → recordSize s ≤ length s
+unfolding recordSize
+size-inside s = size-in s (recordEnd s) refl
 
-pub line-place : (place round : ℕ) (a : JudgeAnswer) → lineOf place round a .place ≡ place
-line-place place round (Number n) = refl
-line-place place round (Given (Fail u)) = refl
-line-place place round (Given (IllFormed r)) = refl
-line-place place round (Given (Invalid r)) = refl
-line-place place round (Given (TransInvalid d)) = refl
-line-place place round (Given Valid) = refl
+pub size-of : (s : List ℕ) (o : Option ℕ) → recordEnd s ≡ o → recordSize s ≡ sizeWith s o
+unfolding recordSize
+size-of s o e = rw e
+
+pub step-over : (schedule book peers : List ℕ) (place : ℕ) (feed : List ℕ) → length feed ≡ 0 → step schedule book peers place feed ≡ over
+unfolding step
+step-over schedule book peers place [] h = refl
+step-over schedule book peers place (x ∷ s) h = absurd (omega arith)
+
+pub step-offer : (schedule book peers : List ℕ) (place : ℕ) (feed : List ℕ) (n : ℕ) → (length feed ≡ 0 → ⊥) → n ≡ recordSize (drop 1 feed) →
+    step schedule book peers place feed ≡ offered schedule book peers place (getD feed 0 0) (suc n) (take n (drop 1 feed))
+unfolding step
+step-offer schedule book peers place [] n h e = absurd (h refl)
+step-offer schedule book peers place (x ∷ s) n h e = rw e
 
 -- what a step gives, as its contract says it
-abbrev pub Gives : List ℕ → List ℕ → ℕ → ℕ → Step → code-next.Next → List ℕ → List ℕ → Type 0
-Gives book peers lines len t r book' peers' = (r ≡ nextOf t) × ((book' ≡ bookAfter book t) × ((peers' ≡ peersAfter peers t) × Within lines len r))
+abbrev pub Gives : List ℕ → List ℕ → ℕ → Step → code-next.Next → List ℕ → List ℕ → Type 0
+Gives book peers len t r book' peers' = (r ≡ nextOf t) × ((book' ≡ bookAfter book t) × ((peers' ≡ peersAfter peers t) × Within len r))
 
-module _ (book peers : List ℕ) (lines len : ℕ) where
-  pub gives-over : (t : Step) → t ≡ over → Gives book peers lines len t case-next.Over book peers
+module _ (book peers : List ℕ) (len : ℕ) where
+  pub gives-over : (t : Step) → t ≡ over → Gives book peers len t case-next.Over book peers
   gives-over t e = rw e (refl, (refl, (refl, tt)))
 
-  pub gives-last : (t : Step) (l : Line) → t ≡ last (refusedLine (suc lines) 0 3) → l ≡ refusedLine (lines + 1) 0 3 → Gives book peers lines len t (case-next.Last l) book peers
-  gives-last t l e f = rw (e, f, add-one lines) (refl, (refl, (refl, tt)))
+  module _ (t : Step) (place n : ℕ) (r : Result) (a : JudgeAnswer) (b p : List ℕ) (f : a ≡ r .answer) (g : b ≡ r .bytes) (h : p ≡ r .peers) where
+    pub gives-last : (l : Line) → t ≡ offeredAs place (suc n) r none → l ≡ lineOf place 0 a → Gives book peers len t (case-next.Last l) b p
+    gives-last l e d = rw (e, d, f) (refl, (g, (h, tt)))
 
-  pub gives-point : (t : Step) (round n : ℕ) (r : Result) (l : Line) (a : JudgeAnswer) (b p : List ℕ) → t ≡ offered (suc lines) round (suc n) r →
-      l ≡ lineOf (lines + 1) round a → a ≡ r .answer → b ≡ r .bytes → p ≡ r .peers → n < len → Gives book peers lines len t (case-next.Point l (n + 1)) b p
-  gives-point t round n r l a b p e f g h i k =
-      let f' : l ≡ lineOf (suc lines) round (r .answer) = f ∙ rw (add-one lines, g) in
-      rw (e, f', add-one n) (refl, (h, (i, (line-place (suc lines) round (r .answer), omega arith))))
+    pub gives-point : (i : PointInfo) (l : Line) → t ≡ offeredAs place (suc n) r (some i) → l ≡ lineOf place (i .id .round) a → n < len → Gives book peers len t (case-next.Point l (n + 1)) b p
+    gives-point i l e d k = rw (e, d, f, add-one n) (refl, (g, (h, omega arith)))

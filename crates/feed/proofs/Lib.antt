@@ -1,3 +1,4 @@
 pub mod Laws
 pub mod AtHand
+pub mod Numbered
 pub mod Printed

@@ -1,23 +1,23 @@
 -- The program tally (document 01, "Printing and calling"): "reads settings, schedule, then leader byte and record per point from
 -- standard input into a book of 65,536 bytes". A feed is all bytes of its standard input.
 use Prim.Native.Nat.{ℕ, zero, suc, _+_, _≤_}
-use mathlib.Core.Path.{_≡_}
 use mathlib.Core.Option.{Option, none, some}
-use mathlib.Core.List.{List, [], _∷_}
+use mathlib.Core.List.{List, [], _∷_, _++_}
 use lib.ListN.{length, take, drop, replicate}
 use Rattle.base.specs.Base.{pick, isSome}
 use Rattle.record.specs.Record.{fieldRow, fieldOk, nextAt, endFrom, recordEnd}
 use Rattle.point.specs.Point.{PointInfo}
 use Rattle.point.specs.Reading.{readPoint}
+use Rattle.schedule.specs.Settings.{Settings, readSettings}
 use Rattle.schedule.specs.Schedule.{readSchedule}
 use Rattle.reasons.specs.IllFormed.{illFormedNumber}
 use Rattle.reasons.specs.Invalid.{invalidNumber}
 use Rattle.reasons.specs.Verdict.{Verdict, Fail, IllFormed, Invalid, TransInvalid, Valid}
 use Rattle.judge.specs.Judge.{JudgeAnswer, Number, Given}
-use Rattle.plain_book.specs.Offer.{Offer}
 use Rattle.plain_book.specs.Layout.{Opened, readBook}
 use Rattle.plain_book.specs.Calls.{openNumber, openBytes, Result, offerBytes}
-use Rattle.feed.specs.declared.line.Line.{Line}
+use Rattle.line.specs.declared.Line.{Line}
+use Rattle.line.specs.Text.{linesBytes, endBytes}
 use Rattle.feed.specs.declared.front.Front as code-front
 use Rattle.feed.specs.declared.front.Front.the-variants as case-front
 use Rattle.feed.specs.declared.next.Next as code-next
@@ -63,41 +63,62 @@ abbrev pub scheduleTo : List ℕ → Option ℕ → code-front.Front
 scheduleTo s none = case-front.Number 2
 scheduleTo s (some n) = pick (isSome (readSchedule (take n s))) (case-front.Points (47 + n)) (case-front.Number 2)
 
-abbrev pub beginWith : List ℕ → ℕ → code-front.Front
-beginWith s zero = scheduleTo s (scheduleEnd s)
-beginWith s (suc n) = case-front.Number (suc n)
+abbrev pub frontWith : List ℕ → Option Settings → code-front.Front
+frontWith s none = case-front.Number 1
+frontWith s (some c) = scheduleTo s (scheduleEnd s)
 
--- what a feed begins with, for a book so long: the number of its settings or its schedule, or where its points begin
+-- the number of settings or a schedule that can't be read, or where the points begin
+unfoldable pub frontOf : List ℕ → code-front.Front
+unfolding readSettings scheduleEnd readSchedule
+frontOf feed = frontWith (drop 47 feed) (readSettings (take 47 feed))
+
+abbrev pub openedWith : code-front.Front → ℕ → code-front.Front
+openedWith (case-front.Number n) number = case-front.Number n
+openedWith (case-front.Points n) zero = case-front.Points n
+openedWith (case-front.Points n) (suc k) = case-front.Number (suc k)
+
+-- what a feed begins with, for a book of len bytes: 1, 2, and last the 5 of opening the book, or where the points begin
 unfoldable pub begin : ℕ → List ℕ → code-front.Front
-unfolding openNumber scheduleEnd readSchedule
-begin len feed = beginWith (drop 47 feed) (openNumber (take 47 feed) len)
+unfolding frontOf openNumber
+begin len feed = openedWith (frontOf feed) (openNumber (take 47 feed) len)
+
+-- the book: "A number comes without a verdict, with all lent bytes unchanged"
+abbrev pub begunBook : List ℕ → List ℕ → code-front.Front → List ℕ
+begunBook settings book (case-front.Number n) = book
+begunBook settings book (case-front.Points n) = openBytes settings book
 
 -- ---- one point
 
--- what comes next in a feed: nothing; "An unreadable record prints round 0 and ends the reading"; or a point's line, how many
--- bytes the point takes, and what its offer left
+abbrev pub sizeWith : List ℕ → Option ℕ → ℕ
+sizeWith s none = length s
+sizeWith s (some n) = n
+
+-- how many bytes the record at the front of a slice takes: all of them where none ends there
+unfoldable pub recordSize : List ℕ → ℕ
+unfolding recordEnd
+recordSize s = sizeWith s (recordEnd s)
+
+-- what comes next in a feed: nothing; the line of a record that can't be read; or a point's line and how many bytes the point takes;
+-- with what the offer left
 pub data Step : Type 0 where
   over : Step
-  last : Line → Step
+  last : Line → Result → Step
   point : Line → ℕ → Result → Step
 
-abbrev pub offered : ℕ → ℕ → ℕ → Result → Step
-offered place round size r = point (lineOf place round (r .answer)) size r
+-- "An unreadable record prints round 0 and ends the reading": it is offered as it stands, and the number is the offer's
+abbrev pub offeredAs : ℕ → ℕ → Result → Option PointInfo → Step
+offeredAs place size r none = last (lineOf place 0 (r .answer)) r
+offeredAs place size r (some p) = point (lineOf place (p .id .round) (r .answer)) size r
 
-abbrev pub pointWith : List ℕ → Offer → ℕ → ℕ → Option PointInfo → Step
-pointWith book o place size none = last (refusedLine place 0 3)
-pointWith book o place size (some p) = offered place (p .id .round) size (offerBytes book o)
+abbrev pub offered : List ℕ → List ℕ → List ℕ → ℕ → ℕ → ℕ → List ℕ → Step
+offered schedule book peers place leader size bytes =
+    offeredAs place size (offerBytes book (record { schedule = schedule; leader = leader; bytes = bytes; peers = peers })) (readPoint bytes)
 
-abbrev pub recordTo : List ℕ → List ℕ → List ℕ → ℕ → ℕ → List ℕ → Option ℕ → Step
-recordTo schedule book peers place leader s none = last (refusedLine place 0 3)
-recordTo schedule book peers place leader s (some n) =
-    pointWith book (record { schedule = schedule; leader = leader; bytes = take n s; peers = peers }) place (suc n) (readPoint (take n s))
-
--- "leader byte and record per point"; a place counts from 1, behind so many lines
+-- "leader byte and record per point"; the place is the one that the line is to have
 unfoldable pub step : List ℕ → List ℕ → List ℕ → ℕ → List ℕ → Step
-unfolding recordEnd readPoint offerBytes
-step schedule book peers lines [] = over
-step schedule book peers lines (leader ∷ s) = recordTo schedule book peers (suc lines) leader s (recordEnd s)
+unfolding recordSize readPoint offerBytes
+step schedule book peers place [] = over
+step schedule book peers place (leader ∷ s) = offered schedule book peers place leader (suc (recordSize s)) (take (recordSize s) s)
 
 -- ---- a whole feed
 
@@ -111,31 +132,34 @@ lineThen l t = record { lines = l ∷ t .lines; book = t .book }
 
 abbrev pub stepThen : (List ℕ → List ℕ → List ℕ → Tally) → List ℕ → List ℕ → Step → Tally
 stepThen next book feed over = record { lines = []; book = book }
-stepThen next book feed (last l) = record { lines = l ∷ []; book = book }
+stepThen next book feed (last l r) = record { lines = l ∷ []; book = r .bytes }
 stepThen next book feed (point l size r) = lineThen l (next (r .bytes) (r .peers) (drop size feed))
 
 -- at most so many points, each offered to the book, with the peer buffer, that the one before left
 unfoldable pub pointsFrom : ℕ → List ℕ → List ℕ → List ℕ → ℕ → List ℕ → Tally
 unfolding step
-pointsFrom zero schedule book peers lines feed = record { lines = []; book = book }
-pointsFrom (suc n) schedule book peers lines feed =
-    stepThen (λ b p f. pointsFrom n schedule b p (suc lines) f) book feed (step schedule book peers lines feed)
+pointsFrom zero schedule book peers place feed = record { lines = []; book = book }
+pointsFrom (suc n) schedule book peers place feed =
+    stepThen (λ b p f. pointsFrom n schedule b p (suc place) f) book feed (step schedule book peers place feed)
 
 -- no feed has more points than bytes
 unfoldable pub points : List ℕ → List ℕ → List ℕ → ℕ → List ℕ → Tally
 unfolding pointsFrom
-points schedule book peers lines feed = pointsFrom (length feed) schedule book peers lines feed
+points schedule book peers place feed = pointsFrom (length feed) schedule book peers place feed
 
--- "Unreadable settings or schedule give place and round 0 with number 1 or 2"
+-- "Unreadable settings or schedule give place and round 0 with number 1 or 2"; a place counts from 1
 abbrev pub tallyWith : List ℕ → List ℕ → List ℕ → code-front.Front → Tally
 tallyWith book peers feed (case-front.Number n) = record { lines = refusedLine 0 0 n ∷ []; book = book }
-tallyWith book peers feed (case-front.Points n) = points (drop 47 (take n feed)) book peers 0 (drop n feed)
+tallyWith book peers feed (case-front.Points n) = points (drop 47 (take n feed)) book peers 1 (drop n feed)
+
+abbrev pub tallyFrom : List ℕ → List ℕ → List ℕ → code-front.Front → Tally
+tallyFrom book peers feed front = tallyWith (begunBook (take 47 feed) book front) peers feed front
 
 -- what the program is to print of its standard input. Proved of the code are the parts: `begin`, `step` and `keptIn`; `printed-tally`
--- says that these parts, one behind the other, give it.
+-- says that these parts, one after the other, give it.
 unfoldable pub tally : List ℕ → Tally
 unfolding begin points openBytes
-tally feed = tallyWith (openBytes (take 47 feed) (replicate 65536 0)) (replicate 8160 0) feed (begin 65536 feed)
+tally feed = tallyFrom (replicate 65536 0) (replicate 8160 0) feed (begin 65536 feed)
 
 -- "then `end` and the kept count"
 abbrev pub keptOf : Option Opened → ℕ
@@ -146,31 +170,36 @@ unfoldable pub keptIn : List ℕ → ℕ
 unfolding readBook
 keptIn s = keptOf (readBook s)
 
+-- its bytes
+unfoldable pub output : Tally → List ℕ
+unfolding linesBytes endBytes keptIn
+output t = linesBytes (t .lines) ++ endBytes (keptIn (t .book))
+
 -- ---- what the code's answers stand for
 
 abbrev pub nextOf : Step → code-next.Next
 nextOf over = case-next.Over
-nextOf (last l) = case-next.Last l
+nextOf (last l r) = case-next.Last l
 nextOf (point l size r) = case-next.Point l size
 
--- the book and the peer buffer behind a step
+-- the book and the peer buffer after a step
 abbrev pub bookAfter : List ℕ → Step → List ℕ
 bookAfter book over = book
-bookAfter book (last l) = book
+bookAfter book (last l r) = r .bytes
 bookAfter book (point l size r) = r .bytes
 
 abbrev pub peersAfter : List ℕ → Step → List ℕ
 peersAfter peers over = peers
-peersAfter peers (last l) = peers
+peersAfter peers (last l r) = r .peers
 peersAfter peers (point l size r) = r .peers
 
--- the points begin within a feed, behind a schedule of at most 32,675 bytes
+-- the points begin within a feed, after a schedule of at most 32,675 bytes
 abbrev pub Begins : List ℕ → code-front.Front → Type 0
 Begins feed (case-front.Number n) = Unit
 Begins feed (case-front.Points n) = (47 ≤ n) × (n ≤ length feed) × (n ≤ 32722)
 
--- a point ends within a feed, and its line is one more than those before
-abbrev pub Within : ℕ → ℕ → code-next.Next → Type 0
-Within lines len case-next.Over = Unit
-Within lines len (case-next.Last l) = Unit
-Within lines len (case-next.Point l size) = (l .place ≡ suc lines) × (size ≤ len)
+-- a point ends within a feed
+abbrev pub Within : ℕ → code-next.Next → Type 0
+Within len case-next.Over = Unit
+Within len (case-next.Last l) = Unit
+Within len (case-next.Point l size) = size ≤ len

@@ -1,12 +1,12 @@
 // What stands in front of the points: the settings, with which the book is opened, and the schedule.
 use record::End;
 use record::Row;
+use schedule::ReadSettings;
 ghost use mathlib.Core.Path.{_≡_};
 ghost use Prim.Native.Nat.{_≤_};
 ghost use lib.ListN.{length, take};
 ghost use Rattle.record.specs.Record.{endOf};
-ghost use Rattle.plain_book.specs.Calls.{openBytes};
-ghost use Rattle.feed.specs.Tally.{lastKnownEnd, scheduleEnd, begin, Begins};
+ghost use Rattle.feed.specs.Tally.{lastKnownEnd, scheduleEnd, frontOf, begin, begunBook, Begins};
 
 // A number in place of the points, or where they begin.
 pub enum Front {
@@ -55,26 +55,43 @@ pub fn schedule_end(s: &[u8]) -> End
     last_known_end(s, at)
 }
 
-// Opens the book with the settings of a feed, and says where its points begin.
-pub fn begin(book: &mut [u8], feed: &[u8]) -> Front
-    ensures { λ r. ⌜ r ≡ begin (length (now (book .entry))) (now (feed .entry)) ⌝ }
-    ensures { λ r. ⌜ now (book .exit) ≡ openBytes (take 47 (now (feed .entry))) (now (book .entry)) ⌝ }
+// The number of settings or a schedule that can't be read, or where the points begin.
+fn front_of(feed: &[u8]) -> Front
+    ensures { λ r. ⌜ r ≡ frontOf (now (feed .entry)) ⌝ }
     ensures { λ r. ⌜ Begins (now (feed .entry)) r ⌝ }
 {
     if feed.len() < SETTINGS {
         return Front::Number(1);
     }
-    let number = book::open(book, &feed[0..47]);
-    if number != 0 {
-        return Front::Number(number);
-    }
-    let behind = &feed[47..];
-    let End::At(n) = schedule_end(behind) else {
+    let ReadSettings::Settings(_) = schedule::read_settings(&feed[0..47]) else {
+        return Front::Number(1);
+    };
+    let after = &feed[47..];
+    let End::At(n) = schedule_end(after) else {
         return Front::Number(2);
     };
-    let read = schedule::read_schedule(&behind[0..n]);
+    let read = schedule::read_schedule(&after[0..n]);
     if !read.readable {
         return Front::Number(2);
     }
     Front::Points(47 + n)
+}
+
+// Opens the book with the settings of a feed, and says where its points begin. A number leaves the book as it was.
+pub fn begin(book: &mut [u8], feed: &[u8]) -> Front
+    ensures { λ r. ⌜ r ≡ begin (length (now (book .entry))) (now (feed .entry)) ⌝ }
+    ensures { λ r. ⌜ now (book .exit) ≡ begunBook (take 47 (now (feed .entry))) (now (book .entry)) r ⌝ }
+    ensures { λ r. ⌜ Begins (now (feed .entry)) r ⌝ }
+{
+    let front = front_of(feed);
+    match front {
+        Front::Number(n) => Front::Number(n),
+        Front::Points(start) => {
+            let number = book::open(book, &feed[0..47]);
+            if number != 0 {
+                return Front::Number(number);
+            }
+            Front::Points(start)
+        }
+    }
 }

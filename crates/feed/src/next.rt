@@ -1,13 +1,13 @@
 // The next point of a feed: its line, and what it leaves in the book.
-use crate::line;
-use crate::line::Line;
+use crate::answers;
+use line::Line;
 use point::ReadPoint;
 use read_book::ReadBook;
 use record::End;
 ghost use mathlib.Core.Path.{_≡_};
-ghost use Prim.Native.Nat.{_+_, _≤_, _<_, _^_};
+ghost use Prim.Native.Nat.{_≤_};
 ghost use lib.ListN.{length};
-ghost use Rattle.feed.specs.Tally.{step, nextOf, bookAfter, peersAfter, keptIn, Within};
+ghost use Rattle.feed.specs.Tally.{recordSize, step, nextOf, bookAfter, peersAfter, keptIn, Within};
 
 // What comes next: nothing, the line of a record that can't be read, or a line and how many bytes its point takes.
 pub enum Next {
@@ -16,35 +16,45 @@ pub enum Next {
     Point(Line, usize),
 }
 
-// Offers the next point of a feed to a book. So many lines stand before its own.
+// How many bytes the record at the front of a slice takes: all of them where none ends there.
+fn record_size(s: &[u8]) -> usize
+    ensures { λ r. ⌜ r ≡ recordSize (now (s .entry)) ⌝ }
+    ensures { λ r. ⌜ r ≤ length (now (s .entry)) ⌝ }
+{
+    let end = record::record_end(s);
+    match end {
+        End::At(n) => n,
+        End::Unreadable => s.len(),
+    }
+}
+
+// Offers the next point of a feed to a book. Its line has the place that the caller counted.
 pub fn next_point(
     book: &mut [u8],
     schedule: &[u8],
-    lines: u64,
+    place: u64,
     feed: &[u8],
     peers: &mut [u8],
 ) -> Next
-    requires { ⌜ lines + 1 < 2 ^ 64 ⌝ }
-    ensures { λ r. ⌜ r ≡ nextOf (step (now (schedule .entry)) (now (book .entry)) (now (peers .entry)) lines (now (feed .entry))) ⌝ }
-    ensures { λ r. ⌜ now (book .exit) ≡ bookAfter (now (book .entry)) (step (now (schedule .entry)) (now (book .entry)) (now (peers .entry)) lines (now (feed .entry))) ⌝ }
-    ensures { λ r. ⌜ now (peers .exit) ≡ peersAfter (now (peers .entry)) (step (now (schedule .entry)) (now (book .entry)) (now (peers .entry)) lines (now (feed .entry))) ⌝ }
-    ensures { λ r. ⌜ Within lines (length (now (feed .entry))) r ⌝ }
+    ensures { λ r. ⌜ r ≡ nextOf (step (now (schedule .entry)) (now (book .entry)) (now (peers .entry)) place (now (feed .entry))) ⌝ }
+    ensures { λ r. ⌜ now (book .exit) ≡ bookAfter (now (book .entry)) (step (now (schedule .entry)) (now (book .entry)) (now (peers .entry)) place (now (feed .entry))) ⌝ }
+    ensures { λ r. ⌜ now (peers .exit) ≡ peersAfter (now (peers .entry)) (step (now (schedule .entry)) (now (book .entry)) (now (peers .entry)) place (now (feed .entry))) ⌝ }
+    ensures { λ r. ⌜ Within (length (now (feed .entry))) r ⌝ }
 {
     if feed.len() == 0 {
         return Next::Over;
     }
-    let place = lines + 1;
-    let End::At(n) = record::record_end(&feed[1..]) else {
-        return Next::Last(line::refused(place, 0, 3));
-    };
-    let size = n + 1;
+    let size = record_size(&feed[1..]) + 1;
     let rec = &feed[1..size];
-    let ReadPoint::Point(info) = point::read_point(rec) else {
-        return Next::Last(line::refused(place, 0, 3));
-    };
-    let id = info.id;
+    let read = point::read_point(rec);
     let answer = book::offer(book, schedule, feed[0], rec, peers);
-    Next::Point(line::line_of(place, id.round, answer), size)
+    match read {
+        ReadPoint::Point(info) => {
+            let id = info.id;
+            Next::Point(answers::line_of(place, id.round, answer), size)
+        }
+        ReadPoint::Unreadable => Next::Last(answers::line_of(place, 0, answer)),
+    }
 }
 
 // How many points a book keeps.

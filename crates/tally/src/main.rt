@@ -8,6 +8,7 @@ use window::Window;
 ghost use mathlib.Core.Path.{_≡_};
 ghost use Prim.Native.Nat.{_≤_};
 ghost use lib.ListN.{length};
+ghost use Rattle.tally.specs.Window.{Lies};
 
 const BOOK: usize = 65536;
 
@@ -16,69 +17,85 @@ const PEERS: usize = 8160;
 // The longest schedule: four spans of 255 peers, and the last known round.
 const SCHEDULE: usize = 32675;
 
-// Prints the lines of the points in the window and behind it. A proved loop has to end, and nothing says that an input does:
-// so it ends where a line could not be counted.
-fn print_points(book: &mut [u8], schedule: &[u8], peers: &mut [u8], buf: &mut [u8], first: Window)
-    requires { ⌜ (first .start ≤ first .end) × (first .end ≤ length (now buf)) ⌝ }
+// Prints the lines of the points in the window and after it, and says whether all of them were read and printed. A proved loop
+// has to end, and nothing says that an input does: so it ends where a line could not be counted.
+fn print_points(
+    book: &mut [u8],
+    schedule: &[u8],
+    peers: &mut [u8],
+    buf: &mut [u8],
+    first: Window,
+) -> bool
+    requires { ⌜ Lies (length (now buf)) first × (41127 ≤ length (now buf)) ⌝ }
 {
     let mut w = first;
-    let mut lines = 0;
-    while lines < u64::MAX {
+    let mut place = 1;
+    while place < u64::MAX {
         w = window::refill(buf, w);
+        if w.failed {
+            print::unread();
+            return false;
+        }
         let start = w.start;
         let end = w.end;
-        let next = feed::next_point(book, schedule, lines, &buf[start..end], peers);
+        let next = feed::next_point(book, schedule, place, &buf[start..end], peers);
         match next {
-            Next::Over => return,
-            Next::Last(line) => {
-                print::line(line);
-                return;
-            }
+            Next::Over => return true,
+            Next::Last(line) => return print::line(line),
             Next::Point(line, size) => {
-                print::line(line);
-                lines = line.place;
+                if !print::line(line) {
+                    return false;
+                }
                 w = window::after(w, size);
+                place += 1;
             }
         }
     }
+    true
 }
 
-// Prints the lines of the points that begin at a place of the first window, behind settings and a schedule. The schedule's
-// bytes are kept, since the buffer will hold others.
-fn print_behind(
+// The same, of the points that begin at a place of the first window, after settings and a schedule. The schedule's bytes are kept,
+// since the buffer will hold others.
+fn print_after(
     book: &mut [u8],
     schedule: &mut [u8],
     peers: &mut [u8],
     buf: &mut [u8],
     w: Window,
     start: usize,
-)
+) -> bool
     requires { ⌜ (47 ≤ start) × (start ≤ 32722) × (32675 ≤ length (now schedule)) ⌝ }
-    requires { ⌜ (w .start ≡ 0) × (start ≤ w .end) × (w .end ≤ length (now buf)) ⌝ }
+    requires { ⌜ (w .start ≡ 0) × (start ≤ w .end) × (w .end ≤ length (now buf)) × (41127 ≤ length (now buf)) ⌝ }
 {
     let n = start - 47;
     write::put_slice(schedule, 0, &buf[47..start]);
-    print_points(book, &schedule[0..n], peers, buf, window::after(w, start));
+    print_points(book, &schedule[0..n], peers, buf, window::after(w, start))
 }
 
 // Prints a line for each point, or the one line of settings or a schedule that can't be read.
-fn print_lines(book: &mut [u8], schedule: &mut [u8], peers: &mut [u8], buf: &mut [u8])
-    requires { ⌜ 32675 ≤ length (now schedule) ⌝ }
+fn print_lines(book: &mut [u8], schedule: &mut [u8], peers: &mut [u8], buf: &mut [u8]) -> bool
+    requires { ⌜ (32675 ≤ length (now schedule)) × (41127 ≤ length (now buf)) ⌝ }
 {
     let w = window::first(buf);
+    if w.failed {
+        print::unread();
+        return false;
+    }
     let end = w.end;
     let front = feed::begin(book, &buf[0..end]);
     match front {
         Front::Number(n) => print::line(feed::refused(0, 0, n)),
-        Front::Points(start) => print_behind(book, schedule, peers, buf, w, start),
+        Front::Points(start) => print_after(book, schedule, peers, buf, w, start),
     }
 }
 
+// The last line is `end` only if all was read and printed: a program has no exit status.
 fn tally(book: &mut [u8], schedule: &mut [u8], peers: &mut [u8], buf: &mut [u8])
-    requires { ⌜ 32675 ≤ length (now schedule) ⌝ }
+    requires { ⌜ (32675 ≤ length (now schedule)) × (41127 ≤ length (now buf)) ⌝ }
 {
-    print_lines(book, schedule, peers, buf);
-    print::end(feed::kept(book) as u64);
+    if print_lines(book, schedule, peers, buf) {
+        print::end(feed::kept(book) as u64);
+    }
 }
 
 fn main() {

@@ -1,31 +1,29 @@
-// What is printed.
-use feed::Line;
+// What is printed: each line by one call. A call that fails is told on standard error.
 use libc::STDOUT_FILENO;
+use line::Line;
 
-fn number(n: u64) {
-    io::print_decimal(STDOUT_FILENO, n);
+fn write(bytes: &[u8]) -> bool {
+    let written = io::write_all(STDOUT_FILENO, bytes);
+    if !written {
+        os::fail(b"standard output");
+    }
+    written
 }
 
-fn space() {
-    io::write_all(STDOUT_FILENO, b" ");
+pub fn line(line: Line) -> bool {
+    let mut bytes = [0u8; line::LONGEST];
+    let n = line::line_bytes(line, &mut bytes);
+    write(&bytes[..n])
 }
 
-pub fn line(line: Line) {
-    let letter = [line.letter; 1];
-    number(line.place);
-    space();
-    number(line.round as u64);
-    space();
-    io::write_all(STDOUT_FILENO, &letter);
-    space();
-    number(line.reason as u64);
-    space();
-    number(line.number as u64);
-    io::write_all(STDOUT_FILENO, b"\n");
+pub fn end(kept: u64) -> bool {
+    let mut bytes = [0u8; line::LONGEST];
+    let n = line::end_bytes(kept, &mut bytes);
+    write(&bytes[..n])
 }
 
-pub fn end(kept: u64) {
-    io::write_all(STDOUT_FILENO, b"end ");
-    number(kept);
-    io::write_all(STDOUT_FILENO, b"\n");
+// The last line where the input could not be read to its end.
+pub fn unread() -> bool {
+    os::fail(b"standard input");
+    write(b"unread: standard input\n")
 }

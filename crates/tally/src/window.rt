@@ -1,25 +1,37 @@
 // The part of standard input that is at hand.
 use libc::STDIN_FILENO;
 ghost use mathlib.Core.Path.{_≡_};
+ghost use mathlib.Core.List.{_++_};
 ghost use Prim.Native.Nat.{_+_, _≤_};
-ghost use lib.ListN.{length};
+ghost use lib.ListN.{length, take, drop};
+ghost use Rattle.tally.specs.Window.{Lies, GotWithin, Filled, Refilled};
 
 // The longest leader byte and record. With as much at hand the next point gives what it gives with all at hand (step-part of
 // crate feed), and so do settings and a schedule.
 const ENOUGH: usize = 41127;
 
-pub const ROOM: usize = 131072;
+pub const ROOM: usize = 65536;
 
-// What was read and not used yet stands in a buffer from a start to an end. Nothing follows it if it is all.
+// What was read and not used yet stands in a buffer from a start to an end. Nothing follows it if it is all; what follows it
+// could not be read if reading failed.
 pub struct Window {
     pub start: usize,
     pub end: usize,
     pub is_all: bool,
+    pub failed: bool,
 }
 
-// Moves n bytes to the front.
+// What one call gave: a number of bytes, at least one; nothing, at the input's end; or an error.
+enum Got {
+    Bytes(usize),
+    Nothing,
+    Failed,
+}
+
+// Moves n bytes to the front. The others stay.
 fn shift(buf: &mut [u8], from: usize, n: usize)
     requires { ⌜ from + n ≤ length (now buf) ⌝ }
+    ensures { λ r. ⌜ now (buf .exit) ≡ take n (drop from (now (buf .entry))) ++ drop n (now (buf .entry)) ⌝ }
 {
     let mut i = 0;
     while i < n {
@@ -28,29 +40,70 @@ fn shift(buf: &mut [u8], from: usize, n: usize)
     }
 }
 
-// Reads behind the n bytes at the front until the buffer is full, or the input ends.
-fn read_behind(buf: &mut [u8], n: usize) -> Window
-    requires { ⌜ n ≤ length (now buf) ⌝ }
-    ensures { λ r. ⌜ (r .start ≡ 0) × (r .end ≤ length (now (buf .entry))) ⌝ }
+// Reads once, from a place of the buffer on.
+fn read_at(buf: &mut [u8], at: usize) -> Got
+    requires { ⌜ at ≤ length (now buf) ⌝ }
+    ensures { λ r. ⌜ take at (now (buf .exit)) ≡ take at (now (buf .entry)) ⌝ }
+    ensures { λ r. ⌜ GotWithin at (length (now (buf .entry))) r ⌝ }
 {
-    let end = n + io::read_full(STDIN_FILENO, &mut buf[n..]);
+    let got = libc::read(STDIN_FILENO, &mut buf[at..]);
+    if got < 0 {
+        return Got::Failed;
+    }
+    let n = io::count(got, &buf[at..]);
+    if n == 0 {
+        return Got::Nothing;
+    }
+    Got::Bytes(n)
+}
+
+// Reads after the n bytes at the front until the buffer is full, or the input ends.
+fn read_after(buf: &mut [u8], n: usize) -> Window
+    requires { ⌜ n ≤ length (now buf) ⌝ }
+    ensures { λ r. ⌜ take n (now (buf .exit)) ≡ take n (now (buf .entry)) ⌝ }
+    ensures { λ r. ⌜ Filled n (length (now (buf .entry))) r ⌝ }
+{
+    let mut end = n;
+    while end < buf.len() {
+        let got = read_at(buf, end);
+        match got {
+            Got::Bytes(more) => end += more,
+            Got::Nothing => {
+                return Window {
+                    start: 0,
+                    end,
+                    is_all: true,
+                    failed: false,
+                };
+            }
+            Got::Failed => {
+                return Window {
+                    start: 0,
+                    end,
+                    is_all: false,
+                    failed: true,
+                };
+            }
+        }
+    }
     Window {
         start: 0,
         end,
-        is_all: end < buf.len(),
+        is_all: false,
+        failed: false,
     }
 }
 
 pub fn first(buf: &mut [u8]) -> Window
-    ensures { λ r. ⌜ (r .start ≡ 0) × (r .end ≤ length (now (buf .entry))) ⌝ }
+    ensures { λ r. ⌜ Filled 0 (length (now (buf .entry))) r ⌝ }
 {
-    read_behind(buf, 0)
+    read_after(buf, 0)
 }
 
-// With enough at hand for a point, or all that is left.
+// With enough at hand for a point, or all that is left, unless reading failed.
 pub fn refill(buf: &mut [u8], w: Window) -> Window
-    requires { ⌜ (w .start ≤ w .end) × (w .end ≤ length (now buf)) ⌝ }
-    ensures { λ r. ⌜ (r .start ≤ r .end) × (r .end ≤ length (now (buf .entry))) ⌝ }
+    requires { ⌜ Lies (length (now buf)) w × (41127 ≤ length (now buf)) ⌝ }
+    ensures { λ r. ⌜ Refilled (now (buf .entry)) w (now (buf .exit)) r ⌝ }
 {
     let n = w.end - w.start;
     if ENOUGH <= n {
@@ -60,7 +113,7 @@ pub fn refill(buf: &mut [u8], w: Window) -> Window
         return w;
     }
     shift(buf, w.start, n);
-    read_behind(buf, n)
+    read_after(buf, n)
 }
 
 // Without the first n bytes.
@@ -72,5 +125,6 @@ pub fn after(w: Window, n: usize) -> Window
         start: w.start + n,
         end: w.end,
         is_all: w.is_all,
+        failed: w.failed,
     }
 }

@@ -8,10 +8,10 @@ use borrow.Author.Needs.{needs}
 use Rattle.tally.proofs.print_lines.Statement.{statement}
 use Rattle.tally.proofs.print_lines.Tie as tie
 
-abbrev opened : tie.After-print-behind-arg4 → tie.After-first
-opened c = c .before .before .before .before .before .before .before .before .before .before .before .before .before .before .before
+abbrev opened : tie.After-print-after-arg4 → tie.After-first
+opened c = c .before .before .before .before .before .before .before .before .before .before .before .before .before .before .before .before
 
-begun : (c : tie.After-print-behind-arg4) → let n = c .before .before .before .before .before .front2 .given .0 .0 in
+begun : (c : tie.After-print-after-arg4) → let n = c .before .before .before .before .before .front2 .given .0 .0 in
     (47 ≤ n) × (n ≤ opened c .first .result .end) × (n ≤ 32722)
 begun c =
     let f = opened c .first in
@@ -21,6 +21,15 @@ begun c =
 
 first-requires : tie.Need-first-requires
 first-requires c κs = search needs
+
+unread-requires : tie.Need-unread-requires
+unread-requires c κs = search needs
+
+same-length : tie.Need-same-length
+same-length c = search needs
+
+returns : tie.Need-returns
+returns c = search needs
 
 sub-begin : tie.Need-sub-begin
 sub-begin c = search needs
@@ -46,22 +55,20 @@ line-requires c κs = search needs
 enum-known-front-2 : tie.Need-enum-known-front-2
 enum-known-front-2 c = search needs
 
-print-behind-requires : tie.Need-print-behind-requires
-print-behind-requires c κs =
+print-after-requires : tie.Need-print-after-requires
+print-after-requires c κs =
     let b = begun c in
-    ((b .0, b .2, search needs), (opened c .first .ensures .0, b .1, search needs))
-
-same-length : tie.Need-same-length
-same-length c = search needs
+    let f = opened c .first .ensures in
+    ((b .0, b .2, search needs), (f .start, b .1, search needs, search needs))
 
 same-length-2 : tie.Need-same-length-2
 same-length-2 c = search needs
 
-returns : tie.Need-returns
-returns c = search needs
-
 same-length-3 : tie.Need-same-length-3
 same-length-3 c = search needs
+
+returns-2 : tie.Need-returns-2
+returns-2 c = search needs
 
 same-length-4 : tie.Need-same-length-4
 same-length-4 c = search needs
@@ -72,14 +79,20 @@ same-length-5 c = search needs
 same-length-6 : tie.Need-same-length-6
 same-length-6 c = search needs
 
-returns-2 : tie.Need-returns-2
-returns-2 c = search needs
+same-length-7 : tie.Need-same-length-7
+same-length-7 c = search needs
+
+returns-3 : tie.Need-returns-3
+returns-3 c = search needs
 
 pub print-lines-spec : {M : Type 1} → statement M
 print-lines-spec =
     tie.close
     (tie.spec
     first-requires
+    unread-requires
+    same-length
+    returns
     sub-begin
     part-begin-start
     part-begin-end
@@ -88,12 +101,12 @@ print-lines-spec =
     refused-requires
     line-requires
     enum-known-front-2
-    print-behind-requires
-    same-length
+    print-after-requires
     same-length-2
-    returns
     same-length-3
+    returns-2
     same-length-4
     same-length-5
     same-length-6
-    returns-2)
+    same-length-7
+    returns-3)

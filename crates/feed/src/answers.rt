@@ -1,18 +1,11 @@
-// The line that is printed of a point.
+// The line that an answer gives.
 use judge::JudgeAnswer;
+use line::Line;
 use reasons::Verdict;
 ghost use mathlib.Core.Path.{_≡_};
 ghost use Rattle.reasons.specs.Verdict.{verdictOf};
 ghost use Rattle.judge.specs.Judge.{judgeAnswerOf};
 ghost use Rattle.feed.specs.Tally.{verdictLine, lineOf, refusedLine};
-
-pub struct Line {
-    pub place: u64,
-    pub round: u32,
-    pub letter: u8,
-    pub reason: u8,
-    pub number: u8,
-}
 
 fn of_verdict(place: u64, round: u32, v: Verdict) -> Line
     ensures { λ r. ⌜ r ≡ verdictLine place round (verdictOf v) ⌝ }

@@ -1,7 +1,7 @@
 -- `of_verdict` meets its contract: each case by its equation.
 use borrow.Author.Needs.{needs}
-use Rattle.feed.proofs.line.of_verdict.Statement.{statement}
-use Rattle.feed.proofs.line.of_verdict.Tie as tie
+use Rattle.feed.proofs.answers.of_verdict.Statement.{statement}
+use Rattle.feed.proofs.answers.of_verdict.Tie as tie
 
 enum-told : tie.Need-enum-told
 enum-told c = search needs

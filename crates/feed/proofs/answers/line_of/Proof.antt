@@ -1,7 +1,7 @@
 -- `line_of` meets its contract: each case by its equation.
 use borrow.Author.Needs.{needs}
-use Rattle.feed.proofs.line.line_of.Statement.{statement}
-use Rattle.feed.proofs.line.line_of.Tie as tie
+use Rattle.feed.proofs.answers.line_of.Statement.{statement}
+use Rattle.feed.proofs.answers.line_of.Tie as tie
 
 enum-known-answer : tie.Need-enum-known-answer
 enum-known-answer c = search needs
