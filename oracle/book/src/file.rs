@@ -1,4 +1,4 @@
-//! The cases of a file that have a book: kinds 3 to 7 of vectors/README.md.
+//! The cases of a file that have a book: kinds 3 to 7 of docs/FORMAT.md, "Files of cases".
 
 use oracle::file::{self, Blobs};
 

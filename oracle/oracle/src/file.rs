@@ -1,4 +1,4 @@
-//! Files of cases with their answers, laid out as vectors/README.md says.
+//! Files of cases with their answers, laid out as docs/FORMAT.md says.
 
 use crate::answer::NONE;
 use crate::{Answer, Verdict, judge, verify};

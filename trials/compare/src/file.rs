@@ -1,4 +1,4 @@
-//! The cases of a file, laid out as vectors/README.md says, against the answers in it.
+//! The cases of a file, laid out as docs/FORMAT.md says, against the answers in it.
 
 use oracle::file::{self, Case};
 use wutherdish::lent::ANSWER;

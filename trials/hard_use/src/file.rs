@@ -1,4 +1,4 @@
-//! Calls in files, laid out as vectors/README.md says, without the answers.
+//! Calls in files, laid out as docs/FORMAT.md says, without the answers.
 
 use book::Offer;
 use oracle::file::{Blobs, Case, JUDGE, VERIFY};

@@ -1,4 +1,4 @@
-//! docs/src doesn't define `EpochStarts`; document 01's rule decides: a round belongs to the last span
+//! No file of the source at hand defines `EpochStarts`; document 01's rule decides: a round belongs to the last span
 //! starting at or before it; before the first span and past the last known round it has none.
 
 use crate::models::Round;
