@@ -1,12 +1,13 @@
 -- What an offer does to the plain book (document 01, "The book"): "It is fed each offer's schedule, leader flag, record and peer
 -- buffer alone, and gives the table's number, or demand 2's verdict, reason and unknown peers over the lists built of its entries".
-use Prim.Native.Nat.{ℕ, _+_, _-_, _<_}
+use Prim.Native.Nat.{ℕ, _+_, _-_}
 use mathlib.Core.Bool.{Bool, true, false, _&&_, _||_}
 use mathlib.Core.Option.{some}
 use mathlib.Core.List.{List, [], _∷_, _++_}
-use lib.ListN.{length, getD}
+use lib.ListN.{length}
 use lib.Dec.{leb, ltb, eqb}
 use Rattle.base.specs.Base.{pick, isSome}
+use Rattle.parts.specs.Bytes.{Bytes}
 use Rattle.point.specs.Point.{PointInfo, prevId}
 use Rattle.point.specs.Reading.{readPoint}
 use Rattle.schedule.specs.Settings.{Settings}
@@ -156,10 +157,6 @@ unfoldable pub buffers : Settings → ℕ → Book → List Offer → List (List
 unfolding offer
 buffers c len b [] = []
 buffers c len b (o ∷ l) = offer c len b o .peers ∷ buffers c len (offer c len b o .book) l
-
--- a byte is below 256
-abbrev pub Bytes : List ℕ → Type 0
-Bytes s = (k : ℕ) → getD s k 0 < 256
 
 -- the records of all offers are bytes, as those of every call are
 abbrev pub AreBytes : List Offer → Type 0

@@ -7,9 +7,9 @@ use mathlib.Core.List.{List}
 use lib.ListN.{length, take, drop}
 use lib.Seq.{take-all}
 use denote.Ref.{now}
+use Rattle.base.proofs.Lists.{up-to, rest}
 use Rattle.record.specs.Record.{endOf}
 use Rattle.schedule.specs.Schedule.{readSchedule}
-use Rattle.entries.proofs.Laws.{up-to, rest}
 use Rattle.verify.proofs.Laws.{schedule-read, schedule-unread}
 use Rattle.plain_book.specs.Calls.{openNumber, openBytes}
 use Rattle.feed.specs.Tally.{scheduleEnd}

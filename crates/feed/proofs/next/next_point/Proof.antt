@@ -6,11 +6,11 @@ use mathlib.Core.Option.{none, some}
 use mathlib.Core.List.{List}
 use lib.ListN.{length, getD, take, drop, length-drop}
 use denote.Ref.{now}
+use Rattle.base.proofs.Lists.{rest}
 use Rattle.record.specs.Record.{endOf, recordEnd}
 use Rattle.record.proofs.Laws.{end-within}
 use Rattle.point.specs.Point.{PointInfo}
 use Rattle.point.specs.Reading.{pointOf, readPoint, readPointOf}
-use Rattle.entries.proofs.Laws.{rest}
 use Rattle.plain_book.specs.Offer.{Offer}
 use Rattle.plain_book.specs.Calls.{Result, offerBytes}
 use Rattle.feed.specs.Tally.{Step, pointWith, step}
