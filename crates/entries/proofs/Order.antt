@@ -1,4 +1,4 @@
--- A list that was read is in order: behind an indirect entry stands no direct one.
+-- A list that was read is in order: after an indirect entry comes no direct one.
 use Prim.Native.Nat.{ℕ, zero, suc}
 use mathlib.Core.Path.{_≡_, refl}
 use mathlib.Core.Bool.{Bool, true, false, _&&_}

@@ -22,7 +22,7 @@ use Rattle.reasons.specs.Verdict.{Verdict}
 
 -- ---- the previous point over the walk
 
-pub prev-in : (p : PointInfo) → prevIn (pointView p) ≡ prevId p
+prev-in : (p : PointInfo) → prevIn (pointView p) ≡ prevId p
 unfolding pointView prevId
 prev-in p = refl
 

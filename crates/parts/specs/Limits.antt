@@ -16,11 +16,11 @@ peersRoom = 8160
 abbrev pub settingsLength : ℕ
 settingsLength = 47
 
--- where a book's entries begin: behind its settings
+-- where a book's entries begin: after its settings
 abbrev pub entriesStart : ℕ
 entriesStart = settingsLength
 
--- tag 33 behind an entry's record: 3 bytes and 105
+-- tag 33 after an entry's record: 3 bytes and 105
 abbrev pub tag33Length : ℕ
 tag33Length = 108
 

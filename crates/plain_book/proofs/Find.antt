@@ -28,12 +28,12 @@ find-member (x ∷ b) i k h = go (sameId (x .point .id) i) (find-member b i k) h
     go true rec e = let f : x ≡ k = cc in List·Memᴰ·head (sym f)
     go false rec e = List·Memᴰ·tail (rec e)
 
--- an id that is not found is not the first entry's, and is not found behind it
+-- an id that is not found is not the first entry's, and is not found after it
 pub absent-first : (k : Kept) (b : Book) (i : PointId) → find (k ∷ b) i ≡ none → (sameId (k .point .id) i ≡ false) × (find b i ≡ none)
 unfolding find
 absent-first k b i h = unpicked (sameId (k .point .id) i) k (find b i) h
 
--- an id that the first entries don't have is looked for behind them
+-- an id that the first entries don't have is looked for after them
 pub find-behind : (front back : Book) (i : PointId) → find front i ≡ none → find (front ++ back) i ≡ find back i
 unfolding find
 find-behind [] back i h = refl
@@ -59,7 +59,7 @@ pub once-rest : (k : Kept) (b : Book) → isTwice (k ∷ b) ≡ false → isTwic
 unfolding isTwice
 once-rest k b h = or-right (isSome (find b (k .point .id))) (isTwice b) h
 
--- a new id behind the others
+-- a new id after the others
 pub once-more : (b : Book) (k : Kept) → isTwice b ≡ false → find b (k .point .id) ≡ none → isTwice (b ++ (k ∷ [])) ≡ false
 unfolding isTwice find
 once-more [] k h g = refl
