@@ -1,6 +1,5 @@
 -- Laws of an offer to a book's bytes: what is decided over them, and what the two writes make of them.
 use Prim.Native.Nat.{ℕ, _+_, _≤_, _<_}
-use native.Mathlib.Nat.{add-zero}
 use native.Mathlib.Omega.{arith}
 use mathlib.Core.Path.{_≡_, refl, ap, sym, _∙_}
 use mathlib.Core.Bool.{Bool, true}
@@ -9,8 +8,9 @@ use mathlib.Core.List.{List, [], _∷_, _++_, append-nil}
 use lib.ListN.{length, getD, take, drop, set, take-append-drop}
 use lib.Dec.{eqb}
 use borrow.Author.Tests.{ne-eqb}
-use Rattle.parts.specs.Bytes.{putAt}
-use Rattle.parts.proofs.Laws.{Bytes}
+use Rattle.base.proofs.Impossible.{impossible}
+use Rattle.parts.specs.Bytes.{putAt, Bytes}
+use Rattle.write.proofs.Laws.{put-nothing}
 use Rattle.point.specs.Point.{PointId, Includes, Direct, PointInfo, prevId, sameId, inDomain}
 use Rattle.point.specs.declared.data.PointRole.the-variants.{Regular}
 use Rattle.schedule.specs.Settings.{Settings}
@@ -22,14 +22,14 @@ use Rattle.judge.specs.declared.before.Before as code-before
 use Rattle.judge.specs.declared.before.Before.the-variants as case-before
 use Rattle.plain_book.specs.Kept.{Kept, Book, find, mark, markPrev}
 use Rattle.plain_book.specs.Lists.{directList, indirectList}
-use Rattle.plain_book.specs.Offer.{Offer, used, offerTested, markedBy, leftFrom, beforeIn, markedIn, answerIn, offerWith, offer}
+use Rattle.plain_book.specs.Offer.{Offer, used, offerTested, leftFrom, beforeIn, markedIn, answerIn, offerWith, offer}
 use Rattle.plain_book.specs.Layout.{keptBytes, entriesBytes, bookBytes, keptFront, Opened, readBook}
 use Rattle.plain_book.specs.Calls.{Result, resultOf, offerTo, offerBytes}
 use Rattle.plain_book.proofs.RoundTrip.{settings-length}
 use Rattle.plain_book.proofs.Canonical.{BookOf, book-again}
 use Rattle.plain_book.proofs.Shape.{whole}
-use Rattle.plain_book.proofs.Offered.{Accepted, accepted}
-use Rattle.plain_book.proofs.Bytes.{entry-within, mark-used, mark-absent, mark-bytes, append-bytes}
+use Rattle.plain_book.proofs.Offered.{Accepted, accepted, marked-used}
+use Rattle.plain_book.proofs.Bytes.{entry-within, mark-absent, mark-bytes, append-bytes}
 use Rattle.index.specs.Index.{FoundAt}
 use Rattle.index.specs.declared.Place.the-variants.{At, Absent}
 use Rattle.read_book.specs.ReadBook.{Holds, IsRead}
@@ -49,10 +49,6 @@ left-bytes bytes p q (Given (verdict.IllFormed r)) = refl
 left-bytes bytes p q (Given (verdict.Invalid r)) = refl
 left-bytes bytes p q (Given (verdict.TransInvalid d)) = refl
 left-bytes bytes p q (Given verdict.Valid) = refl
-
-pub put-nothing : (s : List ℕ) (at : ℕ) → putAt s at [] ≡ s
-unfolding putAt
-put-nothing s at = rw (add-zero at, append-nil (take at s)) (take-append-drop at s)
 
 module _ (settings : List ℕ) (len : ℕ) (b : Book) (at : ℕ) (l : length settings ≡ 47) (e : at ≡ 47 + used b) where
   append-none : putAt (bookBytes settings len b) at (entriesBytes []) ≡ bookBytes settings len (b ++ [])
@@ -81,16 +77,6 @@ left-none s end l e = rw e (sym (put-nothing s end))
 pub left-one : (s t : List ℕ) (end : ℕ) (l : List Kept) (k : Kept) → l ≡ k ∷ [] → t ≡ putAt s end (keptBytes k) → t ≡ putAt s end (entriesBytes l)
 unfolding entriesBytes
 left-one s t end l k e f = rw (e, append-nil (keptBytes k)) f
-
--- ---- marks
-
-prev-used : (o : Option PointId) (b : Book) → used (markPrev o b) ≡ used b
-prev-used none b = refl
-prev-used (some i) b = mark-used i b
-
-marked-used : (p : PointInfo) (b : Book) (x : Before) → used (markedBy p b x) ≡ used b
-marked-used p b (answered a) = refl
-marked-used p b (needed required) = prev-used (prevId p) b
 
 -- ---- over the bytes of a book that was read
 
@@ -241,7 +227,7 @@ module _ (s : List ℕ) (o : Offer) where
     answer = a ∙ sym (ap (λ (x : Result). x .answer) h);
     peers = sym (ap (λ (x : Result). x .peers) h);
     inside = λ f. absurd (f m);
-    room = λ v f. let x : _≡_ {A = ℕ} 0 1 = cc in absurd (omega arith);
+    room = λ v f. impossible (cc);
     bytes = λ q. ap (λ (x : Result). x .bytes) h ∙ rw (a, m) (sym (put-nothing s (d .end)));
   }
 

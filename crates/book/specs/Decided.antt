@@ -8,6 +8,7 @@ use lib.ListN.{length, set}
 use lib.Dec.{leb, eqb}
 use Rattle.base.specs.Base.{pick}
 use Rattle.parts.specs.Bytes.{putAt}
+use Rattle.parts.specs.Limits.{tag33Length}
 use Rattle.point.specs.Point.{PointId, PointInfo}
 use Rattle.point.specs.Reading.{readPoint, pointOf}
 use Rattle.point.specs.declared.info.PointInfo as code-info
@@ -36,7 +37,7 @@ markedAt s at = pick (eqb at 0) s (set s at 1)
 
 -- where a record has a verdict, its entry fits at a place
 abbrev pub FitsAt : List ℕ → ℕ → List ℕ → JudgeAnswer → Type 0
-FitsAt s end bytes a = (v : Verdict) → a ≡ Given v → end + length bytes + 108 ≤ length s
+FitsAt s end bytes a = (v : Verdict) → a ≡ Given v → end + length bytes + tag33Length ≤ length s
 
 -- what an answer on a record leaves stands at a place; an entry's bytes have nothing of its point but the record
 abbrev pub LeftAt : List ℕ → ℕ → List ℕ → JudgeAnswer → List ℕ → Type 0

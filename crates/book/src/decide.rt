@@ -16,6 +16,7 @@ ghost use mathlib.Core.Option.{some};
 ghost use Prim.Native.Nat.{_+_, _-_, _≤_};
 ghost use lib.ListN.{length, drop};
 ghost use lib.Dec.{leb, ltb};
+ghost use Rattle.parts.specs.Limits.{tag33Length, mostKept};
 ghost use Rattle.point.specs.Point.{prevId};
 ghost use Rattle.point.specs.Reading.{pointOf, readPoint};
 ghost use Rattle.schedule.specs.Settings.{settingsOf};
@@ -48,21 +49,21 @@ fn refused(number: u8) -> Decided
 // Whether a book so long, whose n entries end at a place, has no room for a record so long.
 fn is_full(len: usize, n: usize, end: usize, rec_len: usize) -> bool
     requires { ⌜ end ≤ len ⌝ }
-    ensures { λ r. ⌜ r ≡ (leb 4096 n || ltb (len - end) («rec_len» + 108)) ⌝ }
+    ensures { λ r. ⌜ r ≡ (leb mostKept n || ltb (len - end) («rec_len» + tag33Length)) ⌝ }
 {
-    if index::MOST <= n {
+    if parts::MOST_KEPT <= n {
         return true;
     }
-    if len - end < 108 {
+    if len - end < parts::TAG33_LENGTH {
         return true;
     }
-    len - end - 108 < rec_len
+    len - end - parts::TAG33_LENGTH < rec_len
 }
 
 // Where the certified flag of the entry at a place stands.
 fn flag_at(book: &[u8], place: usize) -> usize
     requires { ⌜ place ≤ length (now book) ⌝ }
-    ensures { λ r. ⌜ ((k : Kept) → keptFront (drop place (now (book .entry))) ≡ some (record { kept = k; size = length (k .bytes) + 108 }) → r ≡ place + length (k .bytes) + 4) ⌝ }
+    ensures { λ r. ⌜ ((k : Kept) → keptFront (drop place (now (book .entry))) ≡ some (record { kept = k; size = length (k .bytes) + tag33Length }) → r ≡ place + length (k .bytes) + 4) ⌝ }
 {
     let read = layout::read_kept(&book[place..]);
     match read {
@@ -215,7 +216,7 @@ fn decide_in(
     if 1 < leader {
         return refused(4);
     }
-    if peers.len() < 8160 {
+    if peers.len() < parts::PEERS_ROOM {
         return refused(5);
     }
     decide_point(
@@ -239,9 +240,9 @@ fn decide_in(
 pub fn decide(book: &[u8], schedule: &[u8], leader: u8, rec: &[u8], peers: &mut [u8]) -> Decided
     ensures { λ r. ⌜ Decides (now (book .entry)) (offerOf (now (schedule .entry)) leader (now (rec .entry)) (now (peers .entry))) r (now (peers .exit)) ⌝ }
 {
-    let mut at = [0u32; 4096];
-    let mut next = [0u16; 4096];
-    let mut heads = [0u16; 4096];
+    let mut at = [0u32; parts::MOST_KEPT];
+    let mut next = [0u16; parts::MOST_KEPT];
+    let mut heads = [0u16; parts::MOST_KEPT];
     let read = read_book::read_book(book, &mut at, &mut next, &mut heads);
     match read {
         ReadBook::Book(conf, n, end) => decide_in(

@@ -32,14 +32,14 @@ pub fn open(book: &mut [u8], settings: &[u8]) -> u8
     let ReadSettings::Settings(_) = schedule::read_settings(settings) else {
         return 1;
     };
-    if book.len() < 47 {
+    if book.len() < parts::ENTRIES_START {
         return 5;
     }
-    if 16777216 < book.len() {
+    if parts::LONGEST_BOOK < book.len() {
         return 5;
     }
     write::put_slice(book, 0, settings);
-    clear(book, 47);
+    clear(book, parts::ENTRIES_START);
     0
 }
 

@@ -2,14 +2,15 @@
 use Prim.Native.Nat.{ℕ, _-_, _≤_, _<_}
 use native.Mathlib.Omega.{arith}
 use mathlib.Core.Path.{_≡_, refl, ap, sym, _∙_}
-use mathlib.Core.Bool.{true, false, not}
+use mathlib.Core.Bool.{not}
 use mathlib.Core.Option.{Option, none, some}
 use mathlib.Core.List.{List, [], _∷_, append-nil}
 use lib.ListN.{length}
 use lib.Dec.{ltb, eqb}
 use borrow.Author.Tests.{lt-ltb, le-ltb, eq-eqb, ne-eqb}
 use Rattle.base.specs.Base.{iff, concat, firstOf, isEmpty}
-use Rattle.base.proofs.Laws.{first-here, first-behind, row-here, row-behind}
+use Rattle.base.proofs.Tables.{first-here, first-behind, row-here, row-behind}
+use Rattle.base.proofs.Lists.{empty, not-empty}
 use Rattle.parts.specs.Bytes.{putAt}
 use Rattle.parts.specs.Parts.{oneF, majority, majorityOfOthers}
 use Rattle.parts.specs.declared.PeerCount.{PeerCount}
@@ -25,17 +26,6 @@ use Rattle.reasons.specs.declared.ill_formed.VerifyError.{VerifyError}
 use Rattle.reasons.specs.declared.ill_formed.VerifyError.the-variants.{IllFormed}
 use Rattle.verifier.specs.Verify.{Scheduled, unknownRow, lack, evidenceRows, includesRows, witnessRows}
 use Rattle.verifier.specs.Found.{unknownMap, unknownOf, bufferWith}
-
--- ---- emptiness, by length
-
-module _ {A : Type 0} where
-  empty : (l : List A) → length l ≡ 0 → isEmpty l ≡ true
-  empty [] h = refl
-  empty (x ∷ l) h = absurd (omega arith)
-
-  not-empty : (l : List A) → (length l ≡ 0 → ⊥) → isEmpty l ≡ false
-  not-empty [] h = absurd (h refl)
-  not-empty (x ∷ l) h = refl
 
 -- ---- an answer of checks, and the buffer
 

@@ -14,6 +14,7 @@ ghost use Prim.Native.Nat.{_≤_};
 ghost use lib.ListN.{length};
 ghost use Rattle.base.specs.Base.{concat, firstOf};
 ghost use Rattle.parts.specs.Parts.{oneF};
+ghost use Rattle.parts.specs.Limits.{peersRoom};
 ghost use Rattle.map.specs.Rows.{peersOf, pairsOf, rising};
 ghost use Rattle.point.specs.Reading.{pointOf, readPoint};
 ghost use Rattle.schedule.specs.Settings.{settingsOf};
@@ -42,7 +43,7 @@ fn check_evidence_peers(
     requires { ⌜ peersOf 32 (now evidence) ≡ pointOf (now rec) info .evidence ⌝ }
     requires { ⌜ rising (peersOf 32 (now known)) ≡ true ⌝ }
     requires { ⌜ length (peersOf 32 (now known)) ≤ 255 ⌝ }
-    requires { ⌜ 8160 ≤ length (now peers) ⌝ }
+    requires { ⌜ peersRoom ≤ length (now peers) ⌝ }
     ensures { λ r. ⌜ ((k : Scheduled) → k .sameRound ≡ peersOf 32 (now (known .entry)) →
         (verifiedOf r ≡ firstOf (concat (evidenceRows (settingsOf conf) k (pointOf (now (rec .entry)) info))))
         × (now (peers .exit) ≡ bufferWith k (pointOf (now (rec .entry)) info) (verifiedOf r) (now (peers .entry)))) ⌝ }
@@ -81,7 +82,7 @@ fn check_includes_peers(
     requires { ⌜ pairsOf (now includes) ≡ pointOf (now rec) info .includes ⌝ }
     requires { ⌜ rising (peersOf 32 (now known)) ≡ true ⌝ }
     requires { ⌜ length (peersOf 32 (now known)) ≤ 255 ⌝ }
-    requires { ⌜ 8160 ≤ length (now peers) ⌝ }
+    requires { ⌜ peersRoom ≤ length (now peers) ⌝ }
     ensures { λ r. ⌜ ((k : Scheduled) → k .includes ≡ peersOf 32 (now (known .entry)) →
         (verifiedOf r ≡ firstOf (concat (includesRows k (pointOf (now (rec .entry)) info))))
         × (now (peers .exit) ≡ bufferWith k (pointOf (now (rec .entry)) info) (verifiedOf r) (now (peers .entry)))) ⌝ }
@@ -112,7 +113,7 @@ fn check_witness_peers(
     requires { ⌜ readPoint (now rec) ≡ some (pointOf (now rec) info) ⌝ }
     requires { ⌜ pairsOf (now witness) ≡ pointOf (now rec) info .witness ⌝ }
     requires { ⌜ rising (peersOf 32 (now known)) ≡ true ⌝ }
-    requires { ⌜ 8160 ≤ length (now peers) ⌝ }
+    requires { ⌜ peersRoom ≤ length (now peers) ⌝ }
     ensures { λ r. ⌜ ((k : Scheduled) → k .witness ≡ peersOf 32 (now (known .entry)) →
         (verifiedOf r ≡ firstOf (concat (witnessRows (settingsOf conf) k (pointOf (now (rec .entry)) info))))
         × (now (peers .exit) ≡ bufferWith k (pointOf (now (rec .entry)) info) (verifiedOf r) (now (peers .entry)))) ⌝ }
@@ -158,7 +159,7 @@ pub fn check_peers(
     requires { ⌜ readSchedule (now schedule) ≡ some (scheduleOf (now schedule) spans) ⌝ }
     requires { ⌜ readPoint (now rec) ≡ some (pointOf (now rec) info) ⌝ }
     requires { ⌜ (pairsOf (now includes) ≡ pointOf (now rec) info .includes) × (pairsOf (now witness) ≡ pointOf (now rec) info .witness) × (peersOf 32 (now evidence) ≡ pointOf (now rec) info .evidence) ⌝ }
-    requires { ⌜ 8160 ≤ length (now peers) ⌝ }
+    requires { ⌜ peersRoom ≤ length (now peers) ⌝ }
     ensures { λ r. ⌜ verifiedOf r ≡ firstOf (concat (peerRows (settingsOf conf) (scheduled (settingsOf conf) (scheduleOf (now (schedule .entry)) spans) (pointOf (now (rec .entry)) info)) (pointOf (now (rec .entry)) info))) ⌝ }
     ensures { λ r. ⌜ now (peers .exit) ≡ bufferWith (scheduled (settingsOf conf) (scheduleOf (now (schedule .entry)) spans) (pointOf (now (rec .entry)) info)) (pointOf (now (rec .entry)) info) (verifiedOf r) (now (peers .entry)) ⌝ }
 {

@@ -8,11 +8,15 @@ use mathlib.Core.Option.{Option, none, some}
 use mathlib.Core.List.{List, [], _∷_, List·Memᴰ, List·Memᴰ·head, List·Memᴰ·tail, List·Memᴰ·not-nil, List·Memᴰ·cases-cons, Memᴰ·append-left, Memᴰ·append-right}
 use lib.Dec.{T, eqb}
 use borrow.Author.Tests.{ltb-false, eqb-true, eq-eqb, ne-eqb, not-false}
-use Rattle.base.proofs.Laws.{append-none, AllNone, all-none, row-none}
+use Rattle.base.proofs.Lists.{append-none}
+use Rattle.base.proofs.Tables.{AllNone, all-none, row-none}
+use Rattle.base.proofs.Impossible.{impossible}
 use Rattle.map.specs.Rows.{Pair, rising, peers, get}
+use Rattle.map.proofs.Pairs.{member-get, get-member}
 use Rattle.point.specs.Point.{PointId, Through, Includes, Witness, PointInfo, isAnchorProof, throughRound, throughPeer, digestSafe, prevDigest, through, anchorLink, source, target, top, sameId}
 use Rattle.point.specs.declared.data.AnchorStageRole.{AnchorStageRole}
 use Rattle.point.specs.declared.data.AnchorStageRole.the-variants.{Proof, Trigger}
+use Rattle.point.proofs.Ids.{same-eq, eq-same}
 use Rattle.schedule.specs.Settings.{Settings}
 use Rattle.verifier.specs.DagPoint.{Entry, entryId, isDropped, linkIds, pointView, linksIn, depView, topIn}
 use Rattle.verifier.specs.Validate.{newerRow, anchorTimeRow, carriedRow, sourceRow, anchorRows, pointRows, Taken, asDependency, asPrevPoint, taken}
@@ -23,8 +27,9 @@ use Rattle.plain_book.specs.Kept.{Status, Valid, TransInvalid, Invalid, IllForm
 use Rattle.plain_book.specs.Lists.{dagPoint, keptEntry, entryWith, lookup, lookups, directList}
 use Rattle.claims.specs.Following.{isIllFormed}
 use Rattle.claims.specs.FoundBook.{Held}
-use Rattle.claims.proofs.Ids.{same-eq, eq-same, member-get, get-member}
-use Rattle.claims.proofs.Following.{Inherited, Linked, find-id}
+use Rattle.plain_book.proofs.Clear.{lookup-id}
+use Rattle.plain_book.proofs.Find.{find-id}
+use Rattle.claims.proofs.Following.{Inherited, Linked}
 
 -- ---- the direct list holds each dependency
 
@@ -49,22 +54,6 @@ module _ (b : Book) (p : PointInfo) (q : Pair) where
   includes-listed m =
       Memᴰ·append-right (lookups b p (p .id .round - 2) (p .witness))
       (Memᴰ·append-left _ (lookups-member b p (p .id .round - 1) (p .includes) q m))
-
--- ---- an entry that is looked up has the id that was asked for
-
-dag-id : (q : PointInfo) (s : Status) → entryId (dagPoint q s) ≡ q .id
-dag-id q Valid = refl
-dag-id q (TransInvalid d) = refl
-dag-id q (Invalid n) = refl
-dag-id q (IllFormed n) = refl
-
-lookup-id : (b : Book) (p : PointInfo) (i : PointId) → entryId (lookup b p i .state) ≡ i
-unfolding lookup keptEntry
-lookup-id b p i = go (find b i) refl
-  where
-    go : (o : Option Kept) → find b i ≡ o → entryId (entryWith b p i o .state) ≡ i
-    go none h = refl
-    go (some k) h = dag-id (k .point) (k .status) ∙ find-id b i k h
 
 -- ---- how a dependency is taken: as the previous point or not
 
@@ -156,7 +145,7 @@ module _ (g : AnchorStageRole) (p q : PointInfo) where
 
 second-of-two : (a b : Bool) → a ≡ true → (a && b) ≡ false → b ≡ false
 second-of-two true b e h = h
-second-of-two false b e h = let z : _≡_ {A = ℕ} 0 1 = cc in absurd (omega arith)
+second-of-two false b e h = impossible (cc)
 
 inherits : (g : AnchorStageRole) (p q : PointInfo) → carriedRow g (pointView p) (depView q) ≡ [] → Inherited g p q
 unfolding carriedRow anchorTimeRow pointView depView

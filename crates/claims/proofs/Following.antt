@@ -2,21 +2,24 @@
 use Prim.Native.Nat.{ℕ, zero, suc, _+_, _-_, _≤_, _<_}
 use native.Mathlib.Omega.{arith}
 use mathlib.Core.Path.{_≡_, refl, sym, ap, _∙_, subst}
-use mathlib.Core.Bool.{Bool, true, false, not, _&&_}
+use mathlib.Core.Bool.{Bool, true, false, not, and-false}
 use mathlib.Core.Option.{Option, some}
-use mathlib.Core.List.{[], _∷_, List·Memᴰ, List·Memᴰ·head, List·Memᴰ·tail}
+use mathlib.Core.List.{List·Memᴰ}
 use lib.Dec.{T}
 use Rattle.base.specs.Base.{pick}
+use Rattle.base.proofs.Impossible.{impossible}
+use Rattle.base.proofs.Bool.{clash}
 use Rattle.map.specs.Rows.{Pair}
 use Rattle.point.specs.Point.{PointId, Through, Includes, Witness, PointInfo, isAnchorProof, isAnchorStage, throughRound, through, anchorLink, source, target, top, sameId}
 use Rattle.point.specs.declared.data.AnchorStageRole.{AnchorStageRole}
 use Rattle.point.specs.declared.data.AnchorStageRole.the-variants.{Proof, Trigger}
+use Rattle.point.proofs.Ids.{eq-same}
 use Rattle.schedule.specs.Settings.{Settings}
 use Rattle.mismatch.specs.Mismatch.{pairId}
 use Rattle.plain_book.specs.Kept.{Status, Valid, TransInvalid, Invalid, IllFormed, Kept, Book, find}
 use Rattle.claims.specs.Following.{isIllFormed, End, reached, stopped, astray, onward, arrive, stepTo, follow, hasArrived}
 use Rattle.claims.specs.FoundBook.{isUsable, Held}
-use Rattle.claims.proofs.Ids.{same-eq, eq-same}
+use Rattle.plain_book.proofs.Find.{find-id, find-member}
 
 -- ---- what holds of an entry
 
@@ -44,26 +47,6 @@ pub record Stands (c : Settings) (b : Book) (p : PointInfo) (s : Status) : Type 
 abbrev pub AllStand : Settings → Book → Type 0
 AllStand c b = (k : Kept) → List·Memᴰ k b → Stands c b (k .point) (k .status)
 
--- ---- the entry of an id
-
-find-member : (b : Book) (i : PointId) (k : Kept) → find b i ≡ some k → List·Memᴰ k b
-unfolding find
-find-member [] i k h = let z : _≡_ {A = ℕ} 0 1 = cc in absurd (omega arith)
-find-member (x ∷ b) i k h = go (sameId (x .point .id) i) (find-member b i k) h
-  where
-    go : (t : Bool) → (find b i ≡ some k → List·Memᴰ k b) → pick t (some x) (find b i) ≡ some k → List·Memᴰ k (x ∷ b)
-    go true f e = let q : k ≡ x = cc in List·Memᴰ·head q
-    go false f e = List·Memᴰ·tail (f e)
-
-pub find-id : (b : Book) (i : PointId) (k : Kept) → find b i ≡ some k → k .point .id ≡ i
-unfolding find
-find-id [] i k h = let z : _≡_ {A = ℕ} 0 1 = cc in absurd (omega arith)
-find-id (x ∷ b) i k h = go (sameId (x .point .id) i) refl (find-id b i k) h
-  where
-    go : (t : Bool) → sameId (x .point .id) i ≡ t → (find b i ≡ some k → k .point .id ≡ i) → pick t (some x) (find b i) ≡ some k → k .point .id ≡ i
-    go true s f e = let q : k ≡ x = cc in ap (λ (y : Kept). y .point .id) q ∙ same-eq (x .point .id) i s
-    go false s f e = f e
-
 -- ---- one step
 
 lower : (t : Through) (n : ℕ) → 0 < n → throughRound t n < n
@@ -83,10 +66,6 @@ module _ (g : AnchorStageRole) (q : PointInfo) where
   unfolding top
   top-linked h = rw h
 
-and-second : (a b : Bool) → b ≡ false → (a && b) ≡ false
-and-second true b h = h
-and-second false b h = refl
-
 yes-is : (b : Bool) → T b → b ≡ true
 yes-is true h = refl
 yes-is false h = absurd h
@@ -99,7 +78,7 @@ module _ (g : AnchorStageRole) (to : PointId) (k : Kept) (rest : End) where
 
   arrive-past : isAnchorStage g (k .point .role) ≡ false → arrive g to k rest ≡ onward g to k rest (k .status)
   unfolding arrive
-  arrive-past s = rw (s, and-second (sameId (k .point .id) to) false refl)
+  arrive-past s = rw (s, and-false (sameId (k .point .id) to))
 
   onward-arrives : (s : Status) → T (not (isIllFormed s)) → target g (k .point) ≡ to → (T (isUsable s) → T (hasArrived rest)) →
       T (hasArrived (onward g to k rest s))
@@ -128,7 +107,7 @@ module _ (c : Settings) (b : Book) (all : AllStand c b) where
       c .genesisRound < k .point .id .round
   above g k m f s =
       let low : c .genesisRound ≤ k .point .id .round = all k m .floor f in
-      let apart : k .point .id .round ≡ c .genesisRound → ⊥ = λ e. (let t = all k m .genesis f e g in let z : _≡_ {A = ℕ} 0 1 = cc in omega arith) in
+      let apart : k .point .id .round ≡ c .genesisRound → ⊥ = λ e. (let t = all k m .genesis f e g in impossible (cc)) in
       omega (arith, apart)
 
   pub follow-arrives : (g : AnchorStageRole) (to : PointId) (n : ℕ) (p : PointInfo) (s : Status) → Stands c b p s → T (isUsable s) →
@@ -153,7 +132,7 @@ isReached (stopped k) = false
 isReached astray = false
 
 unreached : (x : End) (e : Kept) → isReached x ≡ false → x ≡ reached e → ⊥
-unreached x e h f = let g : isReached x ≡ true = ap isReached f in let z : _≡_ {A = ℕ} 0 1 = cc in omega arith
+unreached x e h f = clash (isReached x) (ap isReached f) h
 
 module _ (g : AnchorStageRole) (to : PointId) (k : Kept) (rest : End) (e : Kept) where
   -- past a point that is not the target, only a Valid or TransInvalid one leads on

@@ -1,38 +1,35 @@
 -- The statement on found books, put together from the law of each sentence.
-use Prim.Native.Nat.{ℕ}
-use native.Mathlib.Omega.{arith}
 use mathlib.Core.Path.{_≡_, refl, ap, sym, _∙_}
 use mathlib.Core.Logic.{_⊎_, inl, inr}
-use mathlib.Core.Bool.{Bool, true, false, _||_}
-use mathlib.Core.Option.{Option, none, some}
-use mathlib.Core.List.{List, [], _∷_, List·Memᴰ, List·Memᴰ·not-nil, List·Memᴰ·cases-cons}
+use mathlib.Core.Bool.{Bool, true, false}
+use mathlib.Core.Option.{some}
+use mathlib.Core.List.{[], _∷_, List·Memᴰ, List·Memᴰ·not-nil, List·Memᴰ·cases-cons}
 use lib.ListN.{length}
-use Rattle.base.specs.Base.{pick, isSome}
-use Rattle.point.specs.Point.{PointId, sameId}
+use Rattle.base.specs.Base.{pick}
+use Rattle.base.proofs.Option.{none-some}
+use Rattle.point.specs.Point.{sameId}
+use Rattle.point.proofs.Ids.{same-refl, same-eq}
 use Rattle.plain_book.specs.Kept.{Kept, Book, find, isTwice}
 use Rattle.plain_book.specs.Offer.{after}
 use Rattle.claims.specs.FoundBook.{FoundBooks}
-use Rattle.mismatch.proofs.Rows.{or-left, or-right, same-refl}
-use Rattle.plain_book.proofs.Clear.{same-eq, unfound}
 use Rattle.plain_book.proofs.Shape.{empty-shape}
 use Rattle.plain_book.proofs.Offered.{after-shape}
 use Rattle.plain_book.proofs.Lift.{opened-bytes, opened-answers, opened-buffers}
+use Rattle.plain_book.proofs.Find.{once-first, once-rest}
 use Rattle.claims.proofs.Found.{found-includes, found-witness, found-links, found-times}
 use Rattle.claims.proofs.Marks.{found-marks}
 use Rattle.claims.proofs.LeftEntries.{found-entries}
 
 -- where no id stands twice, an entry is found by its id
 once-found : (b : Book) → isTwice b ≡ false → (k : Kept) → List·Memᴰ k b → find b (k .point .id) ≡ some k
-unfolding find isTwice
+unfolding find
 once-found [] h k m = absurd (List·Memᴰ·not-nil m)
 once-found (x ∷ b) h k m =
-    go (once-found b (or-right (isSome (find b (x .point .id))) (isTwice b) h) k) (List·Memᴰ·cases-cons m)
+    go (once-found b (once-rest x b h) k) (List·Memᴰ·cases-cons m)
   where
     later : (t : Bool) → sameId (x .point .id) (k .point .id) ≡ t → find b (k .point .id) ≡ some k → pick t (some x) (find b (k .point .id)) ≡ some k
     later true e f =
-        let n : find b (x .point .id) ≡ none = unfound (find b (x .point .id)) (or-left (isSome (find b (x .point .id))) (isTwice b) h) in
-        let z : _≡_ {A = Option Kept} none (some k) = sym n ∙ (ap (find b) (same-eq (x .point .id) (k .point .id) e) ∙ f) in
-        let q : _≡_ {A = ℕ} 0 1 = cc in absurd (omega arith)
+        none-some (sym (once-first x b h) ∙ (ap (find b) (same-eq (x .point .id) (k .point .id) e) ∙ f))
     later false e f = f
 
     go : (List·Memᴰ k b → find b (k .point .id) ≡ some k) → (k ≡ x) ⊎ List·Memᴰ k b → pick (sameId (x .point .id) (k .point .id)) (some x) (find b (k .point .id)) ≡ some k

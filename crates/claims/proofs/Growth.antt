@@ -1,6 +1,5 @@
 -- A book only grows: a change of marks alone and new entries take no entry's bytes, point or status away.
-use Prim.Native.Nat.{ℕ, _-_, _≤_}
-use native.Mathlib.Omega.{arith}
+use Prim.Native.Nat.{_-_, _≤_}
 use mathlib.Core.Path.{_≡_, refl, sym, ap, _∙_, subst}
 use mathlib.Core.Logic.{_⊎_, inl, inr}
 use mathlib.Core.Bool.{Bool, true, false, not}
@@ -8,11 +7,14 @@ use mathlib.Core.Option.{some}
 use mathlib.Core.List.{[], _∷_, _++_, List·Memᴰ, List·Memᴰ·head, List·Memᴰ·tail, List·Memᴰ·not-nil, List·Memᴰ·cases-cons, List·Memᴰ·append-cases}
 use lib.Dec.{T}
 use Rattle.base.specs.Base.{pick}
+use Rattle.base.proofs.Impossible.{impossible}
+use Rattle.base.proofs.Option.{none-some}
 use Rattle.point.specs.Point.{PointId, PointInfo, source, target, top, sameId}
 use Rattle.point.specs.declared.data.AnchorStageRole.{AnchorStageRole}
 use Rattle.schedule.specs.Settings.{Settings}
 use Rattle.mismatch.specs.Mismatch.{pairId}
 use Rattle.plain_book.specs.Kept.{Status, Kept, Book, find}
+use Rattle.plain_book.proofs.Find.{find-front}
 use Rattle.claims.specs.Following.{isIllFormed}
 use Rattle.claims.specs.FoundBook.{Held, Judged, judgedOf}
 use Rattle.claims.proofs.Following.{Inherited, Linked, Stands, AllStand}
@@ -29,17 +31,8 @@ record Still (b : Book) (i : PointId) (k : Kept) : Type 0 where
 abbrev Grows : Book → Book → Type 0
 Grows b d = (i : PointId) (k : Kept) → find b i ≡ some k → Still d i k
 
-find-append : (b l : Book) (i : PointId) (k : Kept) → find b i ≡ some k → find (b ++ l) i ≡ some k
-unfolding find
-find-append [] l i k h = let z : _≡_ {A = ℕ} 0 1 = cc in absurd (omega arith)
-find-append (x ∷ b) l i k h = go (sameId (x .point .id) i) (find-append b l i k) h
-  where
-    go : (t : Bool) → (find b i ≡ some k → find (b ++ l) i ≡ some k) → pick t (some x) (find b i) ≡ some k → pick t (some x) (find (b ++ l) i) ≡ some k
-    go true f e = e
-    go false f e = f e
-
 grows-append : (b l : Book) → Grows b (b ++ l)
-grows-append b l i k h = record { entry = k; kept = find-append b l i k h; point = refl; status = refl }
+grows-append b l i k h = record { entry = k; kept = find-front b l i k h; point = refl; status = refl }
 
 -- the first entries of two books that differ in their marks alone, and the rest
 record SameFirst (x y : Kept) (b d : Book) : Type 0 where
@@ -62,11 +55,11 @@ same-first x y b d h =
 
 nothing-first : (x : Kept) (b : Book) → judgedOf (x ∷ b) ≡ judgedOf [] → ⊥
 unfolding judgedOf
-nothing-first x b h = let z : _≡_ {A = ℕ} 0 1 = cc in omega arith
+nothing-first x b h = impossible (cc)
 
 grows-marked : (b d : Book) → judgedOf b ≡ judgedOf d → Grows b d
 unfolding find
-grows-marked [] d h i k e = let z : _≡_ {A = ℕ} 0 1 = cc in absurd (omega arith)
+grows-marked [] d h i k e = none-some e
 grows-marked (x ∷ b) [] h i k e = absurd (nothing-first x b h)
 grows-marked (x ∷ b) (y ∷ d) h i k e =
     let f : SameFirst x y b d = same-first x y b d h in

@@ -6,17 +6,16 @@ use mathlib.Core.Option.{Option, none, some}
 use mathlib.Core.List.{List, [], _∷_, _++_}
 use Rattle.base.specs.Base.{pick, isSome}
 use Rattle.point.specs.Point.{PointId, PointInfo, prevId, sameId}
+use Rattle.point.proofs.Ids.{same-sym, same-eq}
 use Rattle.schedule.specs.Settings.{Settings}
 use Rattle.reasons.specs.Verdict as verdict
 use Rattle.reasons.specs.Verdict.{Verdict}
 use Rattle.verify.specs.Call.{Tested, refused, taken}
 use Rattle.mismatch.specs.Mismatch.{isId}
-use Rattle.mismatch.proofs.Rows.{same-sym}
 use Rattle.judge.specs.Judge.{JudgeAnswer, Number, Given, Before, answered, needed}
 use Rattle.plain_book.specs.Kept.{Kept, Book, find, markOne, mark, markPrev}
 use Rattle.plain_book.specs.Offer.{Offer, offerTested, markedBy, leftBy, leftFrom, beforeIn, markedIn, answerIn, offerWith, offer, after}
 use Rattle.claims.specs.FoundBook.{marksWith, marksIn, everMarked}
-use Rattle.claims.proofs.Ids.{same-eq}
 
 abbrev isCertified : Option Kept → Bool
 isCertified none = false

@@ -1,20 +1,20 @@
 -- After an offer every entry stands as before, and the entry that it leaves stands too.
 use Prim.Native.Nat.{ℕ, _≤_}
 use native.Mathlib.Omega.{arith}
-use mathlib.Core.Path.{_≡_, refl, sym, ap, _∙_, subst}
-use mathlib.Core.Bool.{Bool, true, false, not, _&&_}
+use mathlib.Core.Path.{_≡_, refl, sym, ap, subst}
+use mathlib.Core.Bool.{Bool, true, false, _&&_}
 use mathlib.Core.Option.{Option, none, some}
 use mathlib.Core.List.{List, [], _∷_, List·Memᴰ, List·Memᴰ·not-nil, List·Memᴰ·eq-of-singleton}
-use lib.Dec.{leb, ltb, eqb}
-use borrow.Author.Tests.{leb-true, eqb-true, not-false}
-use Rattle.base.specs.Base.{pick, isSome}
-use Rattle.base.proofs.Laws.{and-left}
+use lib.Dec.{leb, eqb}
+use borrow.Author.Tests.{leb-true, eqb-true}
+use Rattle.base.specs.Base.{pick}
+use Rattle.base.proofs.Bool.{and-left}
 use Rattle.map.specs.Rows.{rising, peers}
 use Rattle.point.specs.Point.{PointId, PointInfo, prevId, inDomain}
 use Rattle.point.specs.Reading.{readPoint}
 use Rattle.point.proofs.Laws.{readable}
 use Rattle.schedule.specs.Settings.{Settings}
-use Rattle.schedule.specs.Schedule.{Schedule, readSchedule}
+use Rattle.schedule.specs.Schedule.{Schedule}
 use Rattle.reasons.specs.IllFormed.{illFormedNumber}
 use Rattle.reasons.specs.Invalid.{invalidNumber}
 use Rattle.reasons.specs.declared.ill_formed.VerifyError.{VerifyError}
@@ -22,7 +22,7 @@ use Rattle.reasons.specs.declared.ill_formed.VerifyError.the-variants as case-e
 use Rattle.verifier.specs.Verify.{verify}
 use Rattle.verifier.specs.DagPoint.{IndirectEntry, pointView}
 use Rattle.verifier.specs.Validate.{ValidateResult, isInvalid, isTransInvalid, isValid, validate, ofResult}
-use Rattle.verify.specs.Call.{Input, Tested, refused, taken, testedWith}
+use Rattle.verify.specs.Call.{Input, Tested, refused, taken}
 use Rattle.check_ill_formed.specs.declared.WaveChecked.{WaveChecked}
 use Rattle.check_ill_formed.specs.declared.WaveChecked.the-variants as case-wave
 use Rattle.check_ill_formed.specs.WaveChecked.{waveChecked}
@@ -30,9 +30,10 @@ use Rattle.validate.specs.Passed.{hasReason, Passed}
 use Rattle.validate.proofs.Laws.{validate-all}
 use Rattle.mismatch.specs.Mismatch.{mismatch, uncovered, entriesIn}
 use Rattle.judge.specs.Judge.{Number, Given, ofError, Before, answered, needed, beforeWith, before}
-use Rattle.plain_book.specs.Kept.{Status, Valid, TransInvalid, Invalid, IllFormed, Kept, Book, find, markOne, mark, markPrev}
+use Rattle.plain_book.specs.Kept.{Status, Valid, TransInvalid, Invalid, IllFormed, Kept, Book, markOne, mark, markPrev}
 use Rattle.plain_book.specs.Lists.{directList, indirectList}
-use Rattle.plain_book.specs.Offer.{Offer, isFull, testedRoom, offerTested, markedBy, areStatesOk, overLists, answerWith, keptAs, leftBy, leftFrom, beforeIn, markedIn, answerIn, offerWith, offer, after}
+use Rattle.plain_book.specs.Offer.{Offer, offerTested, markedBy, areStatesOk, overLists, answerWith, keptAs, leftBy, leftFrom, beforeIn, markedIn, answerIn, offerWith, offer, after}
+use Rattle.plain_book.proofs.Offered.{accepted}
 use Rattle.claims.specs.FoundBook.{Judged, judgedOf}
 use Rattle.claims.proofs.Following.{Stands, AllStand}
 use Rattle.claims.proofs.Growth.{all-stand-marked, all-stand-append}
@@ -121,41 +122,6 @@ module _ (c : Settings) (s : Schedule) (b : Book) (bytes : List ℕ) (p : PointI
   each-before none v false t (case-wave.IllFormed r) = each-one (IllFormed (illFormedNumber r)) (ill-formed-stands c b p (illFormedNumber r))
   each-before none v false t (case-wave.Sound required) = each-lists v required (indirectList b p)
 
--- ---- an offer that is taken
-
--- its settings are the book's, its record reads, and its point lies in the domain
-pub record TakenFrom (c : Settings) (o : Offer) (i : Input) : Type 0 where
-  pub settings : i .settings ≡ c
-  pub read : readPoint (o .bytes) ≡ some (i .point)
-  pub domain : inDomain (i .point) ≡ true
-
-unless-refused : (t : Bool) (n : ℕ) (x : Tested) (i : Input) → pick t (refused n) x ≡ taken i → (t ≡ false) × (x ≡ taken i)
-unless-refused true n x i h = let z : _≡_ {A = ℕ} 0 1 = cc in absurd (omega arith)
-unless-refused false n x i h = (refl, h)
-
-room-taken : (len : ℕ) (b : Book) (bytes : List ℕ) (t : Tested) (i : Input) → testedRoom len b bytes t ≡ taken i → t ≡ taken i
-room-taken len b bytes (refused n) i h = let z : _≡_ {A = ℕ} 0 1 = cc in absurd (omega arith)
-room-taken len b bytes (taken j) i h =
-    unless-refused (isFull len b bytes) 12 (taken j) i (unless-refused (isSome (find b (j .point .id))) 11 _ i h .1) .1
-
-with-taken : (c : Settings) (s : Option Schedule) (o : Offer) (p : Option PointInfo) (others : Bool) (size : ℕ) (i : Input) → readPoint (o .bytes) ≡ p →
-    testedWith (some c) s p others size ≡ taken i → TakenFrom c o i
-with-taken c none o p others size i e h = let z : _≡_ {A = ℕ} 0 1 = cc in absurd (omega arith)
-with-taken c (some s) o none others size i e h = let z : _≡_ {A = ℕ} 0 1 = cc in absurd (omega arith)
-with-taken c (some s) o (some p) others size i e h =
-    let domain = unless-refused (not (inDomain p && others)) 4 _ i h in
-    let room : taken (record { settings = c; schedule = s; point = p }) ≡ taken i = unless-refused (ltb size 8160) 5 _ i (domain .1) .1 in
-    let same : i ≡ record { settings = c; schedule = s; point = p } = cc in
-    record {
-      settings = ap (λ (j : Input). j .settings) same;
-      read = e ∙ ap (λ (j : Input). some (j .point)) (sym same);
-      domain = ap (λ (j : Input). inDomain (j .point)) same ∙ and-left (inDomain p) others (not-false _ (domain .0));
-    }
-
-pub offer-taken : (c : Settings) (len : ℕ) (b : Book) (o : Offer) (i : Input) → offerTested c len b o ≡ taken i → TakenFrom c o i
-unfolding offerTested
-offer-taken c len b o i h = with-taken c (readSchedule (o .schedule)) o (readPoint (o .bytes)) _ _ i refl (room-taken len b (o .bytes) _ i h)
-
 -- ---- a mark changes marks alone
 
 mark-judged : (i : PointId) (b : Book) → judgedOf (mark i b) ≡ judgedOf b
@@ -192,7 +158,7 @@ offer-stands c len b o all = go (offerTested c len b o) refl
     go : (t : Tested) → offerTested c len b o ≡ t → AllStand c (offerWith b o t .book)
     go (refused n) h = all
     go (taken i) h =
-        let w : TakenFrom c o i = offer-taken c len b o i h in
+        let w = accepted c len b o i h in
         all-stand-append c (markedIn i (o .leader) b) (leftFrom (o .bytes) (i .point) (answerIn i (o .leader) b))
         (all-stand-marked c b (markedIn i (o .leader) b) (sym (marked-judged i (o .leader) b)) all)
         (λ k m. subst (λ (x : Settings). Stands x (markedIn i (o .leader) b) (k .point) (k .status)) (w .settings)

@@ -3,13 +3,16 @@
 use Prim.Native.Nat.{ℕ, _≤_, _<_}
 use native.Mathlib.Omega.{arith}
 use mathlib.Core.Path.{_≡_, refl, sym, ap, _∙_}
-use mathlib.Core.Bool.{Bool, true, false, _||_}
-use mathlib.Core.Option.{Option, none, some}
+use mathlib.Core.Bool.{true, false}
+use mathlib.Core.Option.{none, some}
 use mathlib.Core.List.{List, [], _∷_}
 use lib.Dec.{eqb}
 use borrow.Author.Tests.{ltb-false, eq-eqb, ne-eqb, not-false}
-use Rattle.base.specs.Base.{concat, firstOf, isSome}
-use Rattle.base.proofs.Laws.{pick-true, pick-false, AllNone, all-none, row-none}
+use Rattle.base.specs.Base.{concat, firstOf}
+use Rattle.base.proofs.Bool.{pick-true, pick-false, or-left}
+use Rattle.base.proofs.Tables.{AllNone, all-none, row-none, first-none}
+use Rattle.base.proofs.Option.{some-of}
+use Rattle.base.proofs.Impossible.{impossible}
 use Rattle.point.specs.Point.{PointInfo, isAnchorStage, digestSafe, through, anchorLink}
 use Rattle.point.specs.declared.data.PointRole.{PointRole}
 use Rattle.point.specs.declared.data.PointRole.the-variants.{Regular, AnchorProof, AnchorTrigger, Genesis}
@@ -19,35 +22,19 @@ use Rattle.schedule.specs.Settings.{Settings}
 use Rattle.schedule.specs.Schedule.{Schedule}
 use Rattle.reasons.specs.declared.ill_formed.StructureIssue.{StructureIssue}
 use Rattle.reasons.specs.declared.ill_formed.VerifyError.{VerifyError}
+use Rattle.plain_book.proofs.Named.{no-issue}
 use Rattle.verifier.specs.Verify.{newRows, isGenesis, genesisStructureRows, targetTooNew, badLink, linkRows, structureRows, structure, genesisRows, aboveRows, wellFormedRows, scheduled, peerRows, faults, verify}
-
-first-none : {A : Type 0} (l : List A) → firstOf l ≡ none → l ≡ []
-unfolding firstOf
-first-none [] h = refl
-first-none (x ∷ l) h = let z : _≡_ {A = ℕ} 0 1 = cc in absurd (omega arith)
-
-structure-none : (o : Option StructureIssue) → structure o ≡ [] → o ≡ none
-structure-none none h = refl
-structure-none (some i) h = let z : _≡_ {A = ℕ} 0 1 = cc in absurd (omega arith)
 
 -- the rows of a structure that raise no issue
 issues-none : (l : List (List StructureIssue)) → structure (firstOf (concat l)) ≡ [] → AllNone l
-issues-none l h = all-none l (first-none (concat l) (structure-none (firstOf (concat l)) h))
-
-first-of-two : (a b : Bool) → (a || b) ≡ false → a ≡ false
-first-of-two true b h = h
-first-of-two false b h = refl
+issues-none l h = all-none l (first-none (concat l) (no-issue (firstOf (concat l)) h))
 
 genesis-stage : (g : AnchorStageRole) (r : PointRole) → isGenesis r ≡ true → isAnchorStage g r ≡ true
-genesis-stage g Regular h = let z : _≡_ {A = ℕ} 0 1 = cc in absurd (omega arith)
-genesis-stage g (AnchorProof n l) h = let z : _≡_ {A = ℕ} 0 1 = cc in absurd (omega arith)
-genesis-stage g AnchorTrigger h = let z : _≡_ {A = ℕ} 0 1 = cc in absurd (omega arith)
+genesis-stage g Regular h = impossible (cc)
+genesis-stage g (AnchorProof n l) h = impossible (cc)
+genesis-stage g AnchorTrigger h = impossible (cc)
 genesis-stage Proof Genesis h = refl
 genesis-stage Trigger Genesis h = refl
-
-some-is : (o : Option ℕ) → isSome o ≡ true → (d : ℕ) × (o ≡ some d)
-some-is none h = let z : _≡_ {A = ℕ} 0 1 = cc in absurd (omega arith)
-some-is (some d) h = (d, refl)
 
 module _ (c : Settings) (s : Schedule) (p : PointInfo) (pass : verify c s p ≡ none) where
   abbrev parts : List (List VerifyError)
@@ -92,4 +79,4 @@ module _ (c : Settings) (s : Schedule) (p : PointInfo) (pass : verify c s p ≡ 
   pub pass-link : c .genesisRound < p .id .round → (g : AnchorStageRole) → (d : ℕ) × (digestSafe p (through (anchorLink g p)) ≡ some d)
   unfolding badLink
   pass-link a g =
-      some-is _ (not-false _ (first-of-two _ (targetTooNew (p .id .round) (anchorLink g p)) (link-ok a g)))
+      some-of _ (not-false _ (or-left _ (targetTooNew (p .id .round) (anchorLink g p)) (link-ok a g)))

@@ -6,11 +6,12 @@ use mathlib.Core.Bool.{Bool, true, false, _&&_}
 use mathlib.Core.Option.{Option, none, some}
 use mathlib.Core.List.{List, [], _∷_}
 use lib.ListN.{length, getD, take, drop, length-drop}
-use lib.Seq.{take-all, drop-drop}
+use lib.Seq.{drop-drop}
 use lib.Dec.{leb, eqb}
 use borrow.Author.Tests.{le-leb, lt-leb, eq-eqb, ne-eqb}
 use Rattle.base.specs.Base.{pick, isSome}
-use Rattle.base.proofs.Laws.{and-left, and-right, picked}
+use Rattle.base.proofs.Bool.{and-left, and-right}
+use Rattle.base.proofs.Option.{picked, IfSome, pick-has, has, none-some}
 use Rattle.parts.specs.Bytes.{littleAt}
 use Rattle.map.specs.declared.Found.{Found}
 use Rattle.map.specs.Rows.{foundOf}
@@ -35,15 +36,8 @@ use Rattle.entries.specs.declared.ReadRecord.the-variants as case-read-r
 
 -- ---- parts of a list
 
--- what a slice's part up to a place holds, and its part from a place on
-pub up-to : (n : ℕ) (s : List ℕ) → take (n - 0) s ≡ take n s
-up-to n s = let e : n - 0 ≡ n = omega arith in rw e
-
-pub rest : (k : ℕ) (s : List ℕ) → take (length s - k) (drop k s) ≡ drop k s
-rest k s = take-all (length s - k) (drop k s) (omega (arith, length-drop k s))
-
-part-front : (s : List ℕ) (front n size : ℕ) → size ≡ front + n → partOf s front size ≡ take n (drop front s)
-part-front s front n size e = let h : size - front ≡ n = omega arith in rw h
+part-is : (s : List ℕ) (front n size : ℕ) → size ≡ front + n → partOf s front size ≡ take n (drop front s)
+part-is s front n size e = let h : size - front ≡ n = omega arith in rw h
 
 part-behind : (s : List ℕ) (front place size : ℕ) → partOf s (front + place) (front + size) ≡ partOf (drop front s) place size
 part-behind s front place size =
@@ -216,7 +210,7 @@ module _ (s part : List ℕ) (front : ℕ) (r : code-read-record.ReadRecord) (p 
   pub back : (n size : ℕ) (i : code-info.PointInfo) → r ≡ case-read-record.Record i n → RecordPlaced part r → front ≤ length s → size ≡ front + n →
       Back s front size i
   back n size i g q b e =
-      let a = part-front s front n size e in
+      let a = part-is s front n size e in
       let w : RecordPlaced part (case-read-record.Record i n) = rw g at q in
       let t : take n part ≡ partOf s front size = ap (take n) p ∙ sym a in
       let l : n ≤ length (drop front s) = rw p at (w .0) in
@@ -325,28 +319,15 @@ module _ (s : List ℕ) where
 
 -- ---- how many bytes an entry takes
 
--- what was read, if anything was, has a property
-abbrev IfSome : {A : Type 0} → (A → Type 0) → Option A → Type 0
-IfSome P none = Unit
-IfSome P (some x) = P x
-
-module _ {A : Type 0} (P : A → Type 0) where
-  pick-has : (b : Bool) (o p : Option A) → (b ≡ true → IfSome P o) → IfSome P p → IfSome P (pick b o p)
-  pick-has true o p f g = f refl
-  pick-has false o p f g = g
-
-  has : (o : Option A) (x : A) → IfSome P o → o ≡ some x → P x
-  has o x h e = rw e at h
-
 abbrev Inside : ℕ → Stated → Type 0
 Inside n x = x .size ≤ n
 
 front-with : (n : ℕ) (o : Option PointInfo) (x : RecordFront) → frontWith n o ≡ some x → x .size ≡ n
-front-with n none x h = let z : _≡_ {A = ℕ} 0 1 = cc in absurd (omega arith)
+front-with n none x h = none-some h
 front-with n (some q) x h = let e = picked (isListable q) (some (record { point = q; size = n })) x h .1 in cc
 
 front-to : (s : List ℕ) (o : Option ℕ) (x : RecordFront) → recordEnd s ≡ o → frontTo s o ≡ some x → x .size ≤ length s
-front-to s none x e h = let z : _≡_ {A = ℕ} 0 1 = cc in absurd (omega arith)
+front-to s none x e h = none-some h
 front-to s (some n) x e h = omega (arith, front-with n (readPoint (take n s)) x h, end-within s n e)
 
 front-within : (s : List ℕ) (x : RecordFront) → recordFront s ≡ some x → x .size ≤ length s

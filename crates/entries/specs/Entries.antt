@@ -9,6 +9,7 @@ use lib.ListN.{length, getD, take, drop}
 use lib.Dec.{leb, eqb}
 use Rattle.base.specs.Base.{pick, isSome}
 use Rattle.parts.specs.Bytes.{bytesAt, littleAt}
+use Rattle.parts.specs.Limits.{firstRound, lastRound}
 use Rattle.record.specs.Record.{fieldRow, fieldOk, recordEnd}
 use Rattle.point.specs.Point.{PointId, AnchorLink, Direct, Indirect, PointInfo, digestSafe, inDomain}
 use Rattle.point.specs.Reading.{pointIdAt, readPoint, pointIdOf, pointOf}
@@ -81,8 +82,8 @@ unfoldable pub isRoot : List ℕ → Bool
 unfolding fieldOk dagRound
 isRoot s =
     fieldOk (fieldRow 18 69 69) s 0
-    && (leb 4 (littleAt 4 s 3)
-    && (leb (littleAt 4 s 3) 2147483647
+    && (leb firstRound (littleAt 4 s 3)
+    && (leb (littleAt 4 s 3) lastRound
     && isSome (dagRound (getD s 71 0))))
 
 -- "for states 3 and 4 tag 17, the id; for state 1 tag 18 ..; for states 0 to 2 the point record". "State 3 has an ill-formed number,

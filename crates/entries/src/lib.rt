@@ -191,10 +191,10 @@ fn is_root(s: &[u8]) -> bool
         return false;
     }
     let round = parts::u32_at(s, 3);
-    if round < 4 {
+    if round < parts::FIRST_ROUND {
         return false;
     }
-    if 2147483647 < round {
+    if parts::LAST_ROUND < round {
         return false;
     }
     is_reason(s[71])

@@ -9,7 +9,7 @@ use mathlib.Core.Option.{Option, none, some}
 use mathlib.Core.List.{List, [], _∷_}
 use lib.ListN.{length, take, drop, length-drop}
 use lib.Seq.{take-all, take-length, take-nil, drop-nil, take-take, length-take-le}
-use Rattle.base.proofs.Laws.{picked}
+use Rattle.base.proofs.Option.{picked}
 use Rattle.record.specs.Record.{lengthAt, nextAt, fieldOk, endFrom, recordEnd, wellShaped}
 use Rattle.record.proofs.Laws.{fitting, end-behind, shaped-end, Agree, front-agrees, field-same, next-same, ends-same, end-same, end-within}
 use Rattle.point.specs.Point.{PointInfo}

@@ -10,7 +10,7 @@ use lib.ListN.{length, getD, take, drop, length-drop}
 use lib.Dec.{eqb}
 use borrow.Author.Tests.{ne-eqb}
 use Rattle.base.specs.Base.{pick}
-use Rattle.base.proofs.Laws.{picked}
+use Rattle.base.proofs.Option.{picked}
 use Rattle.record.specs.declared.Row.{Row}
 use Rattle.record.specs.Record.{nextAt, fieldRow, fieldOk, endFrom, rows, recordEnd}
 use Rattle.record.proofs.Laws.{next-within, fitting, end-behind, end-within}

@@ -10,7 +10,8 @@ use Rattle.schedule.specs.Settings.{Settings}
 use Rattle.schedule.specs.Schedule.{Schedule, readSchedule}
 use Rattle.judge.specs.Judge.{Number}
 use Rattle.plain_book.specs.Kept.{Book}
-use Rattle.plain_book.specs.Offer.{Bytes, offerTested, offerWith, offer}
+use Rattle.plain_book.specs.Offer.{offerTested, offerWith, offer}
+use Rattle.parts.specs.Bytes.{Bytes}
 use Rattle.plain_book.specs.Layout.{Opened, readBook}
 use Rattle.plain_book.specs.Calls.{Result, offerTo, offerBytes}
 use Rattle.plain_book.proofs.Refused.{unchanged}

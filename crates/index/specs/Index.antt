@@ -5,13 +5,14 @@ use mathlib.Core.Bool.{true, false}
 use mathlib.Core.List.{List}
 use lib.ListN.{length, getD}
 use lib.Dec.{eqb}
+use Rattle.parts.specs.Limits.{mostKept}
 use Rattle.point.specs.Point.{PointId, sameId}
 use Rattle.point.specs.Reading.{pointIdAt}
 use Rattle.index.specs.declared.Place.{Place}
 use Rattle.index.specs.declared.Place.the-variants.{At, Absent}
 
 abbrev pub bucketOf : PointId → ℕ
-bucketOf i = i .digest % 4096
+bucketOf i = i .digest % mostKept
 
 -- the id of an entry: its record begins with tag 1
 abbrev pub idOf : List ℕ → List ℕ → ℕ → PointId
@@ -25,12 +26,12 @@ pub record IsLast (s at : List ℕ) (bucket n k : ℕ) : Type 0 where
 
 -- an index of n entries of a book
 pub record Index (s : List ℕ) (n : ℕ) (at next heads : List ℕ) : Type 0 where
-  pub room : n ≤ 4096
-  pub places : length at ≡ 4096
-  pub nexts : length next ≡ 4096
-  pub buckets : length heads ≡ 4096
+  pub room : n ≤ mostKept
+  pub places : length at ≡ mostKept
+  pub nexts : length next ≡ mostKept
+  pub buckets : length heads ≡ mostKept
   pub inside : (j : ℕ) → j < n → getD at j 0 + 71 ≤ length s
-  pub last : (h : ℕ) → h < 4096 → IsLast s at h n (getD heads h 0)
+  pub last : (h : ℕ) → h < mostKept → IsLast s at h n (getD heads h 0)
   pub before : (j : ℕ) → j < n → IsLast s at (bucketOf (idOf s at j)) j (getD next j 0)
 
 -- the entry that was found has the id, or none has it

@@ -5,6 +5,7 @@ use point::PointId;
 ghost use mathlib.Core.Path.{_≡_};
 ghost use Prim.Native.Nat.{_+_, _≤_, _<_, _^_};
 ghost use lib.ListN.{length, set};
+ghost use Rattle.parts.specs.Limits.{mostKept};
 ghost use Rattle.point.specs.Point.{sameId};
 ghost use Rattle.point.specs.Reading.{pointIdAt, pointIdOf};
 ghost use Rattle.index.specs.Index.{bucketOf, Index, FoundAt};
@@ -15,14 +16,11 @@ pub enum Place {
     Absent,
 }
 
-// So many entries and so many buckets an index has room for.
-pub const MOST: usize = 4096;
-
 fn bucket(id: PointId) -> usize
-    ensures { λ r. ⌜ (r ≡ bucketOf (pointIdOf id)) × (r < 4096) ⌝ }
+    ensures { λ r. ⌜ (r ≡ bucketOf (pointIdOf id)) × (r < mostKept) ⌝ }
 {
     let digest = id.digest;
-    digest.d as usize % MOST
+    digest.d as usize % parts::MOST_KEPT
 }
 
 // Whether the record at a place has an id.
@@ -59,7 +57,7 @@ pub fn insert(
     heads: &mut [u16],
 )
     requires { ⌜ Index (now book) n (now at) (now next) (now heads) ⌝ }
-    requires { ⌜ (n < 4096) × ((place < 2 ^ 32) × (place + 71 ≤ length (now book))) ⌝ }
+    requires { ⌜ (n < mostKept) × ((place < 2 ^ 32) × (place + 71 ≤ length (now book))) ⌝ }
     ensures { λ r. ⌜ Index (now (book .entry)) (n + 1) (now (at .exit)) (now (next .exit)) (now (heads .exit)) ⌝ }
     ensures { λ r. ⌜ now (at .exit) ≡ set (now (at .entry)) n place ⌝ }
 {

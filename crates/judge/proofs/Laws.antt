@@ -4,11 +4,11 @@ use native.Mathlib.Omega.{arith}
 use mathlib.Core.Path.{_≡_, refl, ap, sym, _∙_}
 use mathlib.Core.Bool.{Bool, true, false, not, _&&_}
 use mathlib.Core.Option.{Option, none, some}
-use mathlib.Core.List.{List, [], _∷_}
-use lib.ListN.{length}
-use lib.Dec.{eqb, ltb}
-use borrow.Author.Tests.{lt-ltb, eq-eqb, ne-eqb, le-leb}
+use mathlib.Core.List.{List}
+use lib.Dec.{eqb}
+use borrow.Author.Tests.{eq-eqb, ne-eqb, le-leb}
 use Rattle.base.specs.Base.{pick, isSome, isEmpty}
+use Rattle.base.proofs.Impossible.{impossible}
 use Rattle.point.specs.Point.{PointInfo, prevId}
 use Rattle.point.specs.declared.data.PointMap.the-variants as case-map
 use Rattle.schedule.specs.Settings.{Settings}
@@ -42,7 +42,7 @@ module _ (c : Settings) (required : Bool) (p : PointInfo) where
   Over o j = j ≡ judgedWith c required p o
 
   pub was-read : (o : Option (List Listed)) (j : Judged) → Over o (some j) → isSome o ≡ true
-  was-read none j h = let z : _≡_ {A = ℕ} 0 1 = cc in absurd (omega arith)
+  was-read none j h = impossible (cc)
   was-read (some l) j h = refl
 
   over-is : (l : List Listed) (j : Judged) → Over (some l) (some j) →
@@ -59,16 +59,16 @@ module _ (c : Settings) (required : Bool) (p : PointInfo) where
 module _ (c : Settings) (required : Bool) (presence : ℕ) (p : PointInfo) where
   pub answer-unread : (o : Option (List Listed)) → Over c required p o none → Number 7 ≡ overList c required presence p o
   answer-unread none h = refl
-  answer-unread (some l) h = let z : _≡_ {A = ℕ} 0 1 = cc in absurd (omega arith)
+  answer-unread (some l) h = impossible (cc)
 
   pub answer-mismatch : (o : Option (List Listed)) (j : Judged) → Over c required p o (some j) → Mismatch presence p o true →
       Number 8 ≡ overList c required presence p o
-  answer-mismatch none j h m = let z : _≡_ {A = ℕ} 0 1 = cc in absurd (omega arith)
+  answer-mismatch none j h m = impossible (cc)
   answer-mismatch (some l) j h m = rw (sym (m l refl))
 
   pub answer-uncovered : (o : Option (List Listed)) (j : Judged) → Over c required p o (some j) →
       Mismatch presence p o false → j .uncovered ≡ true → Number 9 ≡ overList c required presence p o
-  answer-uncovered none j h m u = let z : _≡_ {A = ℕ} 0 1 = cc in absurd (omega arith)
+  answer-uncovered none j h m u = impossible (cc)
   answer-uncovered (some l) j h m u = rw (sym (m l refl), is-uncovered c required p l j h, u)
 
   -- past the numbers
@@ -88,13 +88,13 @@ module _ (c : Settings) (required : Bool) (presence : ℕ) (p : PointInfo) where
     pub answer-witness : (o : Option (List Listed)) (j : Judged) → Over c required p o (some j) →
         Mismatch presence p o false → j .uncovered ≡ false → true ≡ (eqb presence 2 && not (isEmpty (p .witness))) →
         Given (ofResult (isInvalid (NoRoundInDag case-map.Witness))) ≡ overList c required presence p o
-    answer-witness none j h m u n = let z : _≡_ {A = ℕ} 0 1 = cc in absurd (omega arith)
+    answer-witness none j h m u n = impossible (cc)
     answer-witness (some l) j h m u n =
         ap (λ r. Given (ofResult r)) (sym (by-witness true (directs l) (indirects l) n)) ∙ answer-judged l j h m u
 
     pub answer-verdict : (o : Option (List Listed)) (j : Judged) → Over c required p o (some j) →
         Mismatch presence p o false → j .uncovered ≡ false → false ≡ (eqb presence 2 && not (isEmpty (p .witness))) → Given (j .verdict) ≡ overList c required presence p o
-    answer-verdict none j h m u n = let z : _≡_ {A = ℕ} 0 1 = cc in absurd (omega arith)
+    answer-verdict none j h m u n = impossible (cc)
     answer-verdict (some l) j h m u n =
         ap (λ (k : Judged). Given (k .verdict)) (over-is c required p l j h)
         ∙ (ap (λ q. Given (ofResult q)) (sym (by-witness false (directs l) (indirects l) n)) ∙ answer-judged l j h m u)
@@ -160,7 +160,3 @@ module _ (leader presence : ℕ) (list : List ℕ) where
       Answered t a old new
   unfolding judgeWith
   answer-taken t i a b old new h e f g = rw h (f ∙ ap (judgeFrom (i .settings) presence (i .point) list) e, g)
-
-pub filled : {A : Type 0} (l : List A) → ltb 0 (length l) ≡ not (isEmpty l)
-filled [] = refl
-filled (x ∷ l) = lt-ltb 0 (length (x ∷ l)) (omega arith)

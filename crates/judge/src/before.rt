@@ -12,6 +12,7 @@ ghost use mathlib.Core.Option.{none, some};
 ghost use Prim.Native.Nat.{ℕ, _≤_};
 ghost use lib.ListN.{length};
 ghost use lib.Dec.{eqb};
+ghost use Rattle.parts.specs.Limits.{peersRoom};
 ghost use Rattle.point.specs.Reading.{pointOf, readPoint};
 ghost use Rattle.schedule.specs.Settings.{settingsOf};
 ghost use Rattle.schedule.specs.Schedule.{readSchedule, scheduleOf};
@@ -89,7 +90,7 @@ pub fn before_list(
 ) -> Before
     requires { ⌜ readSchedule (now schedule) ≡ some (scheduleOf (now schedule) spans) ⌝ }
     requires { ⌜ readPoint (now rec) ≡ some (pointOf (now rec) info) ⌝ }
-    requires { ⌜ 8160 ≤ length (now peers) ⌝ }
+    requires { ⌜ peersRoom ≤ length (now peers) ⌝ }
     ensures { λ r. ⌜ beforeOf r ≡ before (settingsOf conf) (scheduleOf (now (schedule .entry)) spans) «is_leader» (pointOf (now (rec .entry)) info) ⌝ }
     ensures { λ r. ⌜ now (peers .exit) ≡ bufferWith (scheduled (settingsOf conf) (scheduleOf (now (schedule .entry)) spans) (pointOf (now (rec .entry)) info)) (pointOf (now (rec .entry)) info) (verify (settingsOf conf) (scheduleOf (now (schedule .entry)) spans) (pointOf (now (rec .entry)) info)) (now (peers .entry)) ⌝ }
 {

@@ -125,7 +125,7 @@ pub fn judge(
     if !are_in_domain(rec, info, leader, presence) {
         return JudgeAnswer::Number(4);
     }
-    if peers.len() < 8160 {
+    if peers.len() < parts::PEERS_ROOM {
         return JudgeAnswer::Number(5);
     }
     let known = before::before_list(conf, schedule, spans, rec, info, leader == 1, peers);

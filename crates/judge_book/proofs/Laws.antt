@@ -1,23 +1,25 @@
 -- Laws of judging over a book: marks, the entry of an id, dependencies that are no versions, and the lists one behind the other.
-use Prim.Native.Nat.{ℕ, zero, suc, _+_, _-_, _≤_, _<_}
+use Prim.Native.Nat.{ℕ, _+_, _-_, _≤_, _<_}
 use native.Mathlib.Omega.{arith}
 use mathlib.Core.Path.{_≡_, refl, ap, sym, _∙_, subst}
-use mathlib.Core.Logic.{_⊎_, inl, inr}
 use mathlib.Core.Bool.{Bool, true, false, not, _&&_, and-false, or-false}
-use mathlib.Core.Option.{Option, none, some}
-use mathlib.Core.List.{List, [], _∷_, _++_, List·Memᴰ, List·Memᴰ·head, List·Memᴰ·tail, List·Memᴰ·not-nil, List·Memᴰ·cases-cons}
+use mathlib.Core.Option.{Option, none, some, Option·map}
+use mathlib.Core.List.{List, [], _∷_, _++_}
 use lib.ListN.{length, getD, drop, drop-of-length-le}
 use lib.Seq.{drop-cons}
 use native.Mathlib.Numerals.{add-one}
 use lib.Dec.{eqb, leb}
-use borrow.Author.Tests.{eqb-true, eq-eqb, ne-eqb, leb-true}
+use borrow.Author.Tests.{eqb-true, ne-eqb, leb-true}
 use Rattle.base.specs.Base.{pick, isSome}
-use Rattle.base.proofs.Laws.{and-left}
+use Rattle.base.proofs.Bool.{and-left, clash, last-false}
+use Rattle.base.proofs.Lists.{member-at}
 use Rattle.map.specs.Rows.{Pair, get, peersOf, pairsOf, digests}
 use Rattle.map.proofs.Laws.{peersOf-length, pairsOf-length, peers-pairsOf, peers-at, digests-at}
+use Rattle.map.proofs.Pairs.{get-there}
 use Rattle.point.specs.Point.{PointId, Through, PointInfo, AnchorLink, Indirect, prevDigest, prevId, anchorLink, sameId, inDomain}
 use Rattle.point.specs.declared.data.AnchorStageRole.{AnchorStageRole}
 use Rattle.point.specs.declared.data.AnchorStageRole.the-variants.{Proof, Trigger}
+use Rattle.point.proofs.Ids.{same-sym}
 use Rattle.schedule.specs.Settings.{Settings}
 use Rattle.reasons.specs.Verdict.{Verdict}
 use Rattle.verifier.specs.DagPoint.{DagPoint, NotFound, Entry, IndirectEntry, entryId, PointView, pointView}
@@ -26,26 +28,13 @@ use Rattle.validate.specs.Validated.{Judging, start, directStep, indirectStep, 
 use Rattle.validate.proofs.Laws.{fold-over-lists}
 use Rattle.mismatch.specs.Walk.{noPair}
 use Rattle.mismatch.specs.Mismatch.{pairId, isVersion, isId}
-use Rattle.mismatch.proofs.Rows.{clash, last-false, same-sym}
-use Rattle.plain_book.specs.Kept.{Status, Valid, TransInvalid, Invalid, IllFormed, Kept, Book, find, markOne, mark, markPrev}
-use Rattle.plain_book.specs.Lists.{dagPoint, firstValid, keptEntry, entryWith, lookup, lookups, versions, directList, targetEntry, isTriggerFirst, indirectList}
-use Rattle.plain_book.proofs.Clear.{find-id}
+use Rattle.plain_book.specs.Kept.{Kept, Book, find, markOne, mark, markPrev}
+use Rattle.plain_book.specs.Lists.{firstValid, keptEntry, entryWith, lookup, lookups, versions, directList, targetEntry, isTriggerFirst, indirectList}
+use Rattle.plain_book.proofs.Clear.{lookup-id}
+use Rattle.plain_book.proofs.Find.{find-id, find-marked}
 use Rattle.judge_book.specs.JudgeBook.{marked, overBook, shown, NoVersions}
 
 -- ---- the previous point is marked: an entry that is marked differs in its mark alone
-
-abbrev foundMarked : PointId → Option Kept → Option Kept
-foundMarked i none = none
-foundMarked i (some k) = some (markOne i k)
-
-find-marked : (i : PointId) (b : Book) (j : PointId) → find (mark i b) j ≡ foundMarked i (find b j)
-unfolding find mark markOne
-find-marked i [] j = refl
-find-marked i (k ∷ b) j = go (sameId (k .point .id) j) (find-marked i b j)
-  where
-    go : (t : Bool) → find (mark i b) j ≡ foundMarked i (find b j) → pick t (some (markOne i k)) (find (mark i b) j) ≡ foundMarked i (pick t (some k) (find b j))
-    go true h = refl
-    go false h = h
 
 -- what the book shows of an id, but for whether it is first valid
 abbrev pub Shows : Kept → Bool → Entry → Type 0
@@ -67,7 +56,7 @@ module _ (b : Book) (q : PointInfo) (i : PointId) where
     where
       go : (o : Option PointId) → Shows k (isId o i) (entryWith (markPrev o b) q i (find (markPrev o b) i))
       go none = rw h (kept-shows b k)
-      go (some j) = rw (find-marked j b i ∙ ap (foundMarked j) h) (marked-shows (mark j b) k j i (find-id b i k h))
+      go (some j) = rw (find-marked j b i ∙ ap (Option·map (markOne j)) h) (marked-shows (mark j b) k j i (find-id b i k h))
 
   -- an id that is not kept counts as certified as the previous point
   pub looked-absent : find b i ≡ none → lookup (marked q b) q i ≡ record { state = NotFound i; certified = isId (prevId q) i; firstValid = false }
@@ -76,22 +65,7 @@ module _ (b : Book) (q : PointInfo) (i : PointId) where
     where
       go : (o : Option PointId) → find (markPrev o b) i ≡ none
       go none = h
-      go (some j) = find-marked j b i ∙ ap (foundMarked j) h
-
-dag-id : (q : PointInfo) (x : Status) → entryId (dagPoint q x) ≡ q .id
-dag-id q Valid = refl
-dag-id q (TransInvalid d) = refl
-dag-id q (Invalid n) = refl
-dag-id q (IllFormed n) = refl
-
--- what is looked up has the id
-pub looked-id : (b : Book) (q : PointInfo) (i : PointId) → entryId (lookup b q i .state) ≡ i
-unfolding lookup keptEntry
-looked-id b q i = go (find b i) refl
-  where
-    go : (o : Option Kept) → find b i ≡ o → entryId (entryWith b q i o .state) ≡ i
-    go none h = refl
-    go (some k) h = dag-id (k .point) (k .status) ∙ find-id b i k h
+      go (some j) = find-marked j b i ∙ ap (Option·map (markOne j)) h
 
 -- ---- a dependency that is no version is judged the same, first valid or not
 
@@ -140,22 +114,12 @@ pub step-looked : (c : Settings) (required : Bool) (p : PointView) (b : Book) (q
     p ≡ pointView q → isVersion q i ≡ false → entry d certified (lookup b q i .firstValid) ≡ lookup b q i →
     x ≡ directStep c required p j (entry d certified false) → x ≡ directStep c required p j (lookup b q i)
 step-looked c required p b q i j x d certified v n e h =
-    let id : entryId d ≡ i = ap (λ (y : Entry). entryId (y .state)) e ∙ looked-id b q i in
+    let id : entryId d ≡ i = ap (λ (y : Entry). entryId (y .state)) e ∙ lookup-id b q i in
     h
     ∙ step-first c required p d certified false (lookup b q i .firstValid) j (rw (v, id) (taken-version q i ∙ n))
     ∙ ap (directStep c required p j) e
 
 -- ---- the point's own maps hold no version
-
-get-member : (l : List Pair) (x : Pair) → List·Memᴰ x l → isSome (get l (x .peer)) ≡ true
-unfolding get
-get-member [] x m = absurd (List·Memᴰ·not-nil m)
-get-member (y ∷ l) x m = go (eqb (y .peer) (x .peer)) refl (get-member l x) (List·Memᴰ·cases-cons m)
-  where
-    go : (t : Bool) → eqb (y .peer) (x .peer) ≡ t → (List·Memᴰ x l → isSome (get l (x .peer)) ≡ true) → (x ≡ y) ⊎ List·Memᴰ x l → isSome (pick t (some (y .digest)) (get l (x .peer))) ≡ true
-    go true h rec o = refl
-    go false h rec (inl e) = clash (eqb (y .peer) (x .peer)) (eq-eqb _ _ (ap (λ (z : Pair). z .peer) (sym e))) h
-    go false h rec (inr n) = rec n
 
 module _ (q : PointInfo) where
   pub includes-none : NoVersions q (q .id .round - 1) (q .includes)
@@ -163,7 +127,7 @@ module _ (q : PointInfo) where
   includes-none x m = go (eqb (x .peer) (q .id .author)) refl
     where
       go : (t : Bool) → eqb (x .peer) (q .id .author) ≡ t → (not (isSome (get (q .includes) (q .id .author))) && (eqb (q .id .round - 1) (q .id .round - 1) && t)) ≡ false
-      go true h = rw (rw (eqb-true (x .peer) (q .id .author) h) at (get-member (q .includes) x m))
+      go true h = rw (rw (eqb-true (x .peer) (q .id .author) h) at (get-there (q .includes) x m))
       go false h = last-false (not (isSome (get (q .includes) (q .id .author)))) _ (and-false (eqb (q .id .round - 1) (q .id .round - 1)))
 
   pub witness-none : inDomain q ≡ true → (l : List Pair) → NoVersions q (q .id .round - 2) l
@@ -171,11 +135,6 @@ module _ (q : PointInfo) where
   witness-none h l x m =
       let least : 4 ≤ q .id .round = leb-true 4 (q .id .round) (and-left (leb 4 (q .id .round)) _ h) in
       rw (ne-eqb (q .id .round - 2) (q .id .round - 1) (λ e. omega arith)) (last-false (not (isSome (prevDigest q))) false refl)
-
-member-at : {A : Type 0} (l : List A) (i : ℕ) (d : A) → i < length l → List·Memᴰ (getD l i d) l
-member-at [] i d h = absurd (omega arith)
-member-at (x ∷ l) zero d h = List·Memᴰ·head refl
-member-at (x ∷ l) (suc i) d h = List·Memᴰ·tail (member-at l i d (omega arith))
 
 module _ (c : Settings) (required : Bool) (p : PointView) (b : Book) (q : PointInfo) (round : ℕ) (l : List Pair) where
   -- judging so far, over the dependencies from i on, gives what judging over all gives

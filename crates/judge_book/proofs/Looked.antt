@@ -1,11 +1,12 @@
 -- Laws of what was looked up: an entry that was read at a place is the one that stands there.
 use Prim.Native.Nat.{ℕ, _+_, _-_, _≤_}
 use native.Mathlib.Omega.{arith}
-use mathlib.Core.Path.{refl, _≡_, ap, sym, _∙_, subst}
+use mathlib.Core.Path.{_≡_, ap, sym, _∙_, subst}
 use mathlib.Core.Bool.{Bool, false, _||_}
-use mathlib.Core.Option.{none, some}
+use mathlib.Core.Option.{some}
 use mathlib.Core.List.{List}
 use lib.ListN.{length, getD, take, drop, length-drop}
+use Rattle.base.proofs.Option.{none-some}
 use Rattle.check_valid.specs.Views.{pointViewOf}
 use Rattle.point.specs.Point.{PointId, Through, AnchorLink, Indirect, PointInfo, prevId, anchorLink}
 use Rattle.point.specs.declared.data.AnchorStageRole.{AnchorStageRole}
@@ -50,7 +51,7 @@ module _ (s : List ℕ) (place : ℕ) (part : List ℕ) (e : part ≡ drop place
   pub looked-none : r ≡ case-read.Unreadable → LookedAt s place covered (record { state = case-point.Dropped; certified = false; place = place; end = place })
   looked-none g = (
     record { ordered = omega arith; inside = inside; read = tt },
-    λ y f. let h : none ≡ some y = ap (readKeptOf part) (sym g) ∙ (front ∙ (ap keptFront e ∙ f)) in let z : _≡_ {A = ℕ} 0 1 = cc in absurd (omega arith),
+    λ y f. none-some (ap (readKeptOf part) (sym g) ∙ (front ∙ (ap keptFront e ∙ f))),
   )
 
   module _ (k : code-kept.Kept) (g : r ≡ case-read.Kept k) (placed : KeptPlaced part r) where
@@ -80,12 +81,9 @@ module _ (s : List ℕ) (place : ℕ) (part : List ℕ) (e : part ≡ drop place
 pub found-there : (s : List ℕ) (n : ℕ) (at : List ℕ) (i : PointId) (r x : Place) → r ≡ x → FoundAt s n at i r → FoundAt s n at i x
 found-there s n at i r x e h = rw e at h
 
-prev-in : (q : PointInfo) → prevIn (pointView q) ≡ prevId q
-unfolding pointView prevId
-prev-in q = refl
-
 covered-prev : (v : PointView) (q : PointInfo) (i : PointId) (covered : Bool) → v ≡ pointView q → covered ≡ isId (prevIn v) i → covered ≡ isId (prevId q) i
-covered-prev v q i covered e h = h ∙ ap (λ (o : _). isId o i) (ap prevIn e ∙ prev-in q)
+unfolding pointView prevId
+covered-prev v q i covered e h = h ∙ ap (λ (o : _). isId o i) (ap prevIn e)
 
 abbrev absent : PointId → Bool → Entry
 absent i covered = record { state = NotFound i; certified = covered; firstValid = false }

@@ -1,6 +1,5 @@
 -- Laws of the versions of an author: the first one that is Valid in the book's order is the first valid one, since no id stands twice.
 use Prim.Native.Nat.{ℕ, _+_, _-_, _≤_}
-use native.Mathlib.Omega.{arith}
 use mathlib.Core.Path.{_≡_, refl, ap, sym, _∙_}
 use mathlib.Core.Bool.{Bool, true, false, not, _&&_, _||_, and-false, or-false}
 use mathlib.Core.Option.{Option, none, some}
@@ -10,16 +9,17 @@ use lib.Seq.{drop-drop}
 use lib.Dec.{eqb}
 use borrow.Author.Tests.{eqb-true}
 use Rattle.base.specs.Base.{pick, isSome}
-use Rattle.base.proofs.Laws.{and-left, and-right}
+use Rattle.base.proofs.Bool.{and-left, and-right, clash}
+use Rattle.base.proofs.Option.{none-some}
 use Rattle.point.specs.Point.{PointId, PointInfo, sameId}
+use Rattle.point.proofs.Ids.{same-sym, same-refl, eq-same, differ}
 use Rattle.schedule.specs.Settings.{Settings}
 use Rattle.verifier.specs.DagPoint.{Entry, PointView}
 use Rattle.validate.specs.Validated.{Judging, directStep, directFold}
 use Rattle.mismatch.specs.Mismatch.{isId}
-use Rattle.mismatch.proofs.Rows.{clash, or-left, or-right, same-sym, same-refl}
 use Rattle.plain_book.specs.Kept.{Status, Valid, TransInvalid, Invalid, IllFormed, Kept, Book, find, isTwice}
 use Rattle.plain_book.specs.Lists.{dagPoint, isValid, isOf, firstValid, keptEntry, versions}
-use Rattle.plain_book.proofs.Clear.{eq-same, differ}
+use Rattle.plain_book.proofs.Find.{absent-first, once-first, once-rest}
 use Rattle.judge_book.specs.JudgeBook.{shown, isValidState, Versions, isFirst, versionStep}
 
 -- over the entries of a book
@@ -28,35 +28,13 @@ unfolding versionStep
 versionsFold c required p w [] = w
 versionsFold c required p w (k ∷ l) = versionsFold c required p (versionStep c required p w k) l
 
--- ---- no id stands twice
-
-unfound : (o : Option Kept) → isSome o ≡ false → o ≡ none
-unfound none h = refl
-unfound (some k) h = clash true refl h
-
-find-behind : (k : Kept) (l : Book) (i : PointId) → find (k ∷ l) i ≡ none → (sameId (k .point .id) i ≡ false) × (find l i ≡ none)
-unfolding find
-find-behind k l i h = go (sameId (k .point .id) i) refl h
-  where
-    go : (t : Bool) → sameId (k .point .id) i ≡ t → pick t (some k) (find l i) ≡ none → (sameId (k .point .id) i ≡ false) × (find l i ≡ none)
-    go true q e = let z : _≡_ {A = ℕ} 0 1 = cc in absurd (omega arith)
-    go false q e = (q, e)
-
-find-other : (k : Kept) (l : Book) → isTwice (k ∷ l) ≡ false → find l (k .point .id) ≡ none
-unfolding isTwice
-find-other k l h = unfound (find l (k .point .id)) (or-left (isSome (find l (k .point .id))) (isTwice l) h)
-
-once-behind : (k : Kept) (l : Book) → isTwice (k ∷ l) ≡ false → isTwice l ≡ false
-unfolding isTwice
-once-behind k l h = or-right (isSome (find l (k .point .id))) (isTwice l) h
-
 -- ---- the first that is Valid is the first valid one
 
 module _ (round author : ℕ) where
   -- the first valid one is kept
   first-kept : (l : Book) (i : PointId) → firstValid l round author ≡ some i → isSome (find l i) ≡ true
   unfolding firstValid find
-  first-kept [] i h = let z : _≡_ {A = ℕ} 0 1 = cc in absurd (omega arith)
+  first-kept [] i h = none-some h
   first-kept (k ∷ l) i h = go (isValid (k .status) && isOf round author k) (sameId (k .point .id) i) refl (first-kept l i) h
     where
       go : (t u : Bool) → sameId (k .point .id) i ≡ u → (firstValid l round author ≡ some i → isSome (find l i) ≡ true) →
@@ -74,27 +52,27 @@ module _ (round author : ℕ) where
   come-other : (seen : Bool) (o : Option PointId) (k : Kept) (l : List Kept) → isOf round author k ≡ false → ToCome seen o (k ∷ l) → ToCome seen o l
   unfolding firstValid
   come-other false o k l h t = t ∙ rw (h, and-false (isValid (k .status)))
-  come-other true o k l h t = λ i e. find-behind k l i (t i e) .1
+  come-other true o k l h t = λ i e. absent-first k l i (t i e) .1
 
   module _ (k : Kept) (l : List Kept) where
     -- the first valid one stood before, or comes behind: then it is another
     other-before : (o : Option PointId) → ToCome true o (k ∷ l) → isId o (k .point .id) ≡ false
     other-before none t = refl
-    other-before (some i) t = same-sym i (k .point .id) ∙ find-behind k l i (t i refl) .0
+    other-before (some i) t = same-sym i (k .point .id) ∙ absent-first k l i (t i refl) .0
 
     other-behind : isTwice (k ∷ l) ≡ false → (o : Option PointId) → o ≡ firstValid l round author → isId o (k .point .id) ≡ false
     other-behind once none e = refl
     other-behind once (some i) e =
-        differ i (k .point .id) (λ same. clash (isSome (find l i)) (first-kept l i (sym e)) (rw same (ap (λ (x : Option Kept). isSome x) (find-other k l once))))
+        differ i (k .point .id) (λ same. clash (isSome (find l i)) (first-kept l i (sym e)) (rw same (ap (λ (x : Option Kept). isSome x) (once-first k l once))))
 
     -- an entry of the author and round is the first valid one if it is Valid and none before it was
     come-own : (seen valid : Bool) (o : Option PointId) → isTwice (k ∷ l) ≡ false → isOf round author k ≡ true → isValid (k .status) ≡ valid → ToCome seen o (k ∷ l) →
         ((valid && not seen) ≡ isId o (k .point .id)) × ToCome (seen || (valid && not seen)) o l
     unfolding firstValid
-    come-own true valid o once h v t = (and-false valid ∙ sym (other-before o t), λ i e. find-behind k l i (t i e) .1)
+    come-own true valid o once h v t = (and-false valid ∙ sym (other-before o t), λ i e. absent-first k l i (t i e) .1)
     come-own false true o once h v t =
         let e : o ≡ some (k .point .id) = t ∙ rw (v, h) in
-        (rw e (sym (same-refl (k .point .id))), λ i f. let same : k .point .id ≡ i = cc in rw same at (find-other k l once))
+        (rw e (sym (same-refl (k .point .id))), λ i f. let same : k .point .id ≡ i = cc in rw same at (once-first k l once))
     come-own false false o once h v t = let e : o ≡ firstValid l round author = t ∙ rw v in (sym (other-behind once o e), e)
 
   shown-kept : (b : Book) (k : Kept) (first : Bool) → isOf round author k ≡ true → first ≡ isId (firstValid b round author) (k .point .id) → shown k false first ≡ keptEntry b k
@@ -112,7 +90,7 @@ module _ (c : Settings) (required : Bool) (p : PointView) (b : Book) where
   versions-judged : (l : List Kept) (w : Versions) → isTwice l ≡ false → Left w l → versionsFold c required p w l .judging ≡ directFold c required p (w .judging) (versionsIn l)
   unfolding versionsFold versionStep versions directFold
   versions-judged [] w once t = refl
-  versions-judged (k ∷ l) w once t = go (isOf (p .id .round - 1) (p .id .author) k) refl (λ x. versions-judged l x (once-behind k l once))
+  versions-judged (k ∷ l) w once t = go (isOf (p .id .round - 1) (p .id .author) k) refl (λ x. versions-judged l x (once-rest k l once))
     where
       next : Versions
       next =

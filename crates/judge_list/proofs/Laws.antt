@@ -1,7 +1,7 @@
 -- Laws of judging over a list: the previous point, and the walk.
 use Prim.Native.Nat.{ℕ, zero, suc, _-_, _≤_, _<_}
 use mathlib.Core.Path.{_≡_, refl, ap, _∙_}
-use mathlib.Core.Bool.{Bool, true, false, _&&_, _||_}
+use mathlib.Core.Bool.{Bool, true, false, _||_, and-false, and-true}
 use mathlib.Core.Option.{Option, none, some}
 use mathlib.Core.List.{List}
 use lib.ListN.{length, drop}
@@ -33,10 +33,6 @@ use Rattle.judge_list.specs.declared.Next.the-variants as case-next
 use Rattle.judge_list.specs.declared.Walk as code-walk
 use Rattle.judge_list.specs.Walk.{NextWithin, Walk, Viewed, viewed, stepAs, prevIn, walkStep, walkFold, Next, nextWith, walkWith, viewedOf}
 
-pub and-false : (b : Bool) → (b && false) ≡ false
-and-false true = refl
-and-false false = refl
-
 -- ---- the previous point
 
 pub prev-other-round : (i j : PointId) (o : Option ℕ) → eqb (i .round - 1) (j .round) ≡ false → isId (prevIdWith i o) j ≡ false
@@ -54,10 +50,6 @@ pub prev-digest : (i j : PointId) (d : ℕ) →
     eqb (i .round - 1) (j .round) ≡ true → eqb (i .author) (j .author) ≡ true → isId (prevIdWith i (some d)) j ≡ eqb d (j .digest)
 unfolding sameId
 prev-digest i j d h g = rw (h, g, and-true (eqb d (j .digest)))
-  where
-    and-true : (b : Bool) → (b && true) ≡ b
-    and-true true = refl
-    and-true false = refl
 
 -- ---- the walk
 

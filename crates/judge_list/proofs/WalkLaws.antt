@@ -1,10 +1,11 @@
 -- Laws: the walk over a list gives what the definitions say of its direct and indirect entries.
 use Prim.Native.Nat.{ℕ}
-use native.Mathlib.Omega.{arith}
-use mathlib.Core.Path.{_≡_, refl, ap, _∙_}
-use mathlib.Core.Bool.{Bool, true, false, _||_}
+use mathlib.Core.Path.{_≡_, refl, ap, sym, _∙_}
+use mathlib.Core.Bool.{Bool, true, false, _||_, or-false}
 use mathlib.Core.Option.{Option, none, some}
 use mathlib.Core.List.{List, [], _∷_}
+use Rattle.base.proofs.Option.{none-some}
+use Rattle.base.proofs.Impossible.{impossible}
 use Rattle.point.specs.Point.{PointInfo, prevId}
 use Rattle.point.specs.declared.data.AnchorStageRole.{AnchorStageRole}
 use Rattle.point.specs.declared.data.AnchorStageRole.the-variants.{Proof, Trigger}
@@ -25,10 +26,6 @@ prev-in : (p : PointInfo) → prevIn (pointView p) ≡ prevId p
 unfolding pointView prevId
 prev-in p = refl
 
-or-none : (a : Bool) → a ≡ (a || (false || false))
-or-none true = refl
-or-none false = refl
-
 -- an entry stands before the direct ones, or before the indirect ones
 or-direct : (a u d i : Bool) → ((a || u) || (d || i)) ≡ (a || ((u || d) || i))
 or-direct true u d i = refl
@@ -45,7 +42,7 @@ module _ (c : Settings) (required : Bool) (v : Viewed) where
   walk-uncovered : (l : List Listed) (w : Walk) →
       walkFold c required v w l .uncovered ≡ (w .uncovered || uncovered (prevIn (v .view)) (directs l) (indirects l))
   unfolding walkFold walkStep uncovered anyUncovers entriesIn directs indirects
-  walk-uncovered [] w = or-none (w .uncovered)
+  walk-uncovered [] w = sym (or-false (w .uncovered))
   walk-uncovered (x ∷ l) w = walk-uncovered l (walkStep c required v w x) ∙ go (x .aim)
     where
       go : (aim : Option AnchorStageRole) →
@@ -96,11 +93,11 @@ module _ (c : Settings) (required : Bool) (p : PointInfo) where
   -- what the walk came to, over a list that could be read or not
   pub judged-unread : (o : Option (List Listed)) → none ≡ walkWith c required (viewed p) walkStart o → none ≡ judgedWith c required p o
   judged-unread none h = refl
-  judged-unread (some l) h = let z : _≡_ {A = ℕ} 0 1 = cc in absurd (omega arith)
+  judged-unread (some l) h = none-some h
 
   pub judged-walked : (s : List ℕ) (o : Option (List Listed)) (w : Walk) (v : Verdict) → readList s ≡ o → some w ≡ walkWith c required (viewed p) walkStart o →
       v ≡ ofResult (resultOf (w .judging)) → _≡_ {A = Option Judged} (some (record { verdict = v; uncovered = w .uncovered })) (judgedWith c required p o)
-  judged-walked s none w v r h e = let z : _≡_ {A = ℕ} 0 1 = cc in absurd (omega arith)
+  judged-walked s none w v r h e = impossible (cc)
   judged-walked s (some l) w v r h e =
       let k : w ≡ walkFold c required (viewed p) walkStart l = cc in
       rw (e, k, walked-result s l r, walked-uncovered l)

@@ -3,7 +3,7 @@ use Prim.Native.Nat.{ℕ, zero, suc, _+_, _*_, _-_, _≤_, _<_}
 use native.Mathlib.Omega.{arith}
 use native.Mathlib.Numerals.{add-one, add-two}
 use mathlib.Core.Path.{_≡_, refl, ap, sym, _∙_}
-use mathlib.Core.Bool.{Bool, true, false, _&&_}
+use mathlib.Core.Bool.{Bool, true, false, _&&_, and-assoc}
 use mathlib.Core.Option.{Option, none, some}
 use mathlib.Core.List.{List, [], _∷_, _++_, append-assoc}
 use lib.ListN.{length, getD, set, take, drop, take-append-drop, drop-of-length-le, length-take, length-drop}
@@ -11,7 +11,8 @@ use lib.Seq.{drop-cons, drop-drop, length-take-le}
 use lib.Dec.{leb, eqb}
 use borrow.Author.Tests.{le-leb, lt-leb, eq-eqb, ne-eqb}
 use Rattle.base.specs.Base.{pick, isSome}
-use Rattle.base.proofs.Laws.{picked}
+use Rattle.base.proofs.Option.{picked, none-some}
+use Rattle.base.proofs.Impossible.{impossible}
 use Rattle.parts.specs.Bytes.{little, littleAt, bigAt, littleBytes, bigBytes, putAt}
 use Rattle.write.proofs.Laws.{put-is}
 use Rattle.record.specs.Record.{fieldRow, fieldOk, recordEnd}
@@ -22,21 +23,17 @@ use Rattle.point.specs.declared.info.PointInfo as code-info
 use Rattle.reasons.specs.Invalid.{dagRound}
 use Rattle.answer.proofs.Laws.{put-three}
 use Rattle.plain_book.specs.Kept.{Status, Valid, TransInvalid, Invalid, IllFormed, Kept}
-use Rattle.plain_book.specs.Layout.{idBytes, throughBytes, statusBytes, isZeros, throughAt, isRootOk, readStatus, isKeepable, keptWith, readKept, keptFront, sized}
+use Rattle.plain_book.specs.Layout.{idBytes, isZeros, throughAt, isRootOk, readStatus, isKeepable, keptWith, readKept, keptFront, sized}
 use Rattle.layout.specs.Values.{entryOf, EntryFrom, readKeptOf, KeptPlaced, EntryTo}
 use Rattle.layout.specs.declared.read.ReadKept as code-read-kept
 use Rattle.layout.specs.declared.read.ReadKept.the-variants as case-read-kept
 
 -- ---- zeros
 
-and-group : (a b c : Bool) → (a && (b && c)) ≡ ((a && b) && c)
-and-group true b c = refl
-and-group false b c = refl
-
 zeros-append : (l m : List ℕ) → isZeros (l ++ m) ≡ (isZeros l && isZeros m)
 unfolding isZeros
 zeros-append [] m = refl
-zeros-append (x ∷ l) m = ap (λ b. eqb x 0 && b) (zeros-append l m) ∙ and-group (eqb x 0) (isZeros l) (isZeros m)
+zeros-append (x ∷ l) m = ap (λ b. eqb x 0 && b) (zeros-append l m) ∙ sym (and-assoc (eqb x 0) (isZeros l) (isZeros m))
 
 -- bytes are zeros exactly if their number is 0
 little-zeros : (l : List ℕ) → eqb (little l) 0 ≡ isZeros l
@@ -207,7 +204,7 @@ module _ (bytes : List ℕ) (q : PointInfo) (t : List ℕ) where
   entry-whose k h = whose (eqb (getD t 1 0) 1) (readStatus t) (picked (leb (getD t 1 0) 1) _ k h .1)
     where
       whose : (c : Bool) (o : Option Status) → keptWith bytes q c o ≡ some k → (k .bytes ≡ bytes) × (k .point ≡ q)
-      whose c none g = let z : _≡_ {A = ℕ} 0 1 = cc in absurd (omega arith)
+      whose c none g = none-some g
       whose c (some x) g = let e = picked (isKeepable q x) _ k g .1 in (cc, cc)
 
 -- ---- the entry at the front of a slice
@@ -253,13 +250,13 @@ module _ (s part : List ℕ) (n : ℕ) (e : recordEnd s ≡ some n) (p : part �
         where
           go : (o : Option Kept) → isSome o ≡ false → sized (n + 108) o ≡ none
           go none d = refl
-          go (some k) d = let z : _≡_ {A = ℕ} 0 1 = cc in absurd (omega arith)
+          go (some k) d = impossible (cc)
 
       pub front-entry-to : isSome (readKept part q tag) ≡ true → EntryTo s n
       front-entry-to d = go (readKept part q tag) refl d
         where
           go : (o : Option Kept) → readKept part q tag ≡ o → isSome o ≡ true → EntryTo s n
-          go none e d = let z : _≡_ {A = ℕ} 0 1 = cc in absurd (omega arith)
+          go none e d = impossible (cc)
           go (some k) e d =
               let w = entry-whose part q tag k e in
               record { kept = k; front = front-read ∙ rw e; bytes = w .0 ∙ p; read = rw (← p, w .1) h; inside = tag-inside n s f }
@@ -302,15 +299,3 @@ put-right l at xs ys zs m n e f h = put-three l at xs ys zs m n e f h ∙ ap (pu
 pub id-length : (i : PointId) → length (idBytes i) ≡ 68
 unfolding littleBytes bigBytes
 id-length i = refl
-
-pub through-length : (t : Through) → length (throughBytes t) ≡ 33
-unfolding bigBytes
-through-length (Includes x) = refl
-through-length (Witness x) = refl
-
-pub status-length : (s : Status) (certified : Bool) → length (statusBytes s certified) ≡ 105
-unfolding statusBytes
-status-length Valid certified = refl
-status-length (TransInvalid d) certified = rw (through-length (d .through))
-status-length (Invalid n) certified = refl
-status-length (IllFormed n) certified = refl

@@ -4,6 +4,7 @@ use mathlib.Core.Path.{_≡_}
 use mathlib.Core.Option.{Option, none, some}
 use mathlib.Core.List.{List, [], _∷_}
 use lib.ListN.{length, take}
+use Rattle.parts.specs.Limits.{tag33Length}
 use Rattle.record.specs.declared.End.{End}
 use Rattle.record.specs.declared.End.the-variants.{At, Unreadable}
 use Rattle.point.specs.Point.{PointInfo}
@@ -59,12 +60,12 @@ EntryFrom bytes i case-read-kept.Unreadable = Unit
 
 -- of the slice at whose front an entry stands
 abbrev pub readKeptOf : List ℕ → code-read-kept.ReadKept → Option KeptFront
-readKeptOf s (case-read-kept.Kept k) = some (record { kept = keptOf (take (k .place) s) k; size = k .place + 108 })
+readKeptOf s (case-read-kept.Kept k) = some (record { kept = keptOf (take (k .place) s) k; size = k .place + tag33Length })
 readKeptOf s case-read-kept.Unreadable = none
 
 -- the record and tag 33 lie in the slice, and the point is what the record says
 pub record Placed (s : List ℕ) (k : code-kept.Kept) : Type 0 where
-  pub inside : k .place + 108 ≤ length s
+  pub inside : k .place + tag33Length ≤ length s
   pub read : readPoint (take (k .place) s) ≡ some (pointOf (take (k .place) s) (k .info))
 
 abbrev pub KeptPlaced : List ℕ → code-read-kept.ReadKept → Type 0
@@ -74,10 +75,10 @@ KeptPlaced s case-read-kept.Unreadable = Unit
 -- the entry at the front of a slice, whose record takes n bytes
 pub record EntryTo (s : List ℕ) (n : ℕ) : Type 0 where
   pub kept : Kept
-  pub front : keptFront s ≡ some (record { kept = kept; size = n + 108 })
+  pub front : keptFront s ≡ some (record { kept = kept; size = n + tag33Length })
   pub bytes : kept .bytes ≡ take n s
   pub read : readPoint (take n s) ≡ some (kept .point)
-  pub inside : n + 108 ≤ length s
+  pub inside : n + tag33Length ≤ length s
 
 abbrev pub KeptEnd : List ℕ → End → Type 0
 KeptEnd s (At n) = EntryTo s n

@@ -11,6 +11,7 @@ ghost use Prim.Native.Nat.{_+_, _≤_};
 ghost use lib.ListN.{length, replicate};
 ghost use Rattle.parts.specs.Bytes.{bigBytes, putAt};
 ghost use Rattle.parts.specs.Parts.{number};
+ghost use Rattle.parts.specs.Limits.{tag33Length};
 ghost use Rattle.point.specs.Point as point;
 ghost use Rattle.point.specs.Reading.{pointIdOf, throughOf};
 ghost use Rattle.reasons.specs.Invalid.{dependencyOf};
@@ -93,7 +94,7 @@ fn put_status(out: &mut [u8], at: usize, status: Status)
 
 // Writes the entry of a record, uncertified, at a place.
 pub fn put_kept(out: &mut [u8], at: usize, rec: &[u8], status: Status)
-    requires { ⌜ at + length (now rec) + 108 ≤ length (now out) ⌝ }
+    requires { ⌜ at + length (now rec) + tag33Length ≤ length (now out) ⌝ }
     ensures { λ r. ⌜ ((q : point.PointInfo) → now (out .exit) ≡ putAt (now (out .entry)) at (keptBytes (keptAs (now (rec .entry)) q (statusOf status)))) ⌝ }
 {
     write::put_slice(out, at, rec);

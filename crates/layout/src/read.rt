@@ -46,10 +46,10 @@ fn is_root(t: &[u8]) -> bool
     ensures { λ r. ⌜ r ≡ isRootOk (now (t .entry)) ⌝ }
 {
     let round = parts::u32_at(t, 3);
-    if round < 4 {
+    if round < parts::FIRST_ROUND {
         return false;
     }
-    if 2147483647 < round {
+    if parts::LAST_ROUND < round {
         return false;
     }
     if !entries::is_reason(t[71]) {
@@ -211,7 +211,7 @@ pub fn kept_end(s: &[u8]) -> End
     if !record::field_ok(s, n, TAG) {
         return End::Unreadable;
     }
-    if !is_entry(rec, info, &s[n + 3..n + 108]) {
+    if !is_entry(rec, info, &s[n + 3..n + parts::TAG33_LENGTH]) {
         return End::Unreadable;
     }
     End::At(n)
@@ -232,5 +232,5 @@ pub fn read_kept(s: &[u8]) -> ReadKept
     if !record::field_ok(s, n, TAG) {
         return ReadKept::Unreadable;
     }
-    entry_of(rec, info, &s[n + 3..n + 108])
+    entry_of(rec, info, &s[n + 3..n + parts::TAG33_LENGTH])
 }

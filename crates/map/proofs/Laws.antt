@@ -13,7 +13,8 @@ use lib.Seq.{drop-cons}
 use lib.Dec.{ltb, eqb}
 use borrow.Author.Tests.{ltb-true, eqb-true, eq-eqb, ne-eqb}
 use Rattle.base.specs.Base.{tabulate}
-use Rattle.base.proofs.Laws.{tabulate-length, tabulate-at}
+use Rattle.base.proofs.Lists.{tabulate-length, tabulate-at}
+use Rattle.base.proofs.Impossible.{impossible}
 use Rattle.map.specs.Rows.{Pair, peerAt, pairAt, peersOf, pairsOf, rising, wellRowed, findFrom, find, peers, digests, get}
 
 -- ---- rows of any width
@@ -182,12 +183,12 @@ module _ (l : List ℕ) (x : ℕ) where
   pub find-some : (n : ℕ) → find l x ≡ some n → First l x n
   find-some n e = ⊎-elim
       (λ f. let q = find-first (f .0) (f .1) in let g : f .0 ≡ n = cc in rw g at (f .1))
-      (λ b. let q = find-nowhere b in let z : _≡_ {A = ℕ} 0 1 = cc in absurd (omega arith))
+      (λ b. let q = find-nowhere b in impossible (cc))
       (place l x)
 
   pub find-none : find l x ≡ none → Nowhere l x
   find-none e = ⊎-elim
-      (λ f. let q = find-first (f .0) (f .1) in let z : _≡_ {A = ℕ} 0 1 = cc in absurd (omega arith))
+      (λ f. let q = find-first (f .0) (f .1) in impossible (cc))
       (λ b. b)
       (place l x)
 

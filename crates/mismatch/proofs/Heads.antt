@@ -6,59 +6,29 @@ use mathlib.Core.Bool.{Bool, true, false, _&&_}
 use mathlib.Core.Option.{Option, none, some}
 use mathlib.Core.List.{List, [], _∷_}
 use lib.ListN.{length, getD, take, drop, length-drop}
-use lib.Seq.{take-all, take-take, getD-drop, drop-drop}
+use lib.Seq.{getD-drop, drop-drop}
 use lib.Dec.{leb, eqb}
 use borrow.Author.Tests.{eq-eqb, ne-eqb}
 use Rattle.base.specs.Base.{pick, isSome}
-use Rattle.base.proofs.Laws.{and-left, picked}
-use Rattle.parts.specs.Bytes.{bytesAt, littleAt, bigAt}
-use Rattle.record.specs.Record.{fieldRow, fieldOk, rows, rowOf, nextAt, contentAt, startOf, contentOf, recordEnd, wellShaped}
+use Rattle.base.proofs.Bool.{and-left}
+use Rattle.base.proofs.Option.{picked, some-of, none-some}
+use Rattle.base.proofs.Lists.{rest}
+use Rattle.base.proofs.Impossible.{impossible}
+use Rattle.record.specs.Record.{fieldRow, fieldOk, rows, rowOf, nextAt, contentAt, startOf, contentOf, recordEnd}
 use Rattle.record.proofs.Laws.{fitting, front-field, end-within, front-content}
-use Rattle.point.specs.Point.{PointId, PointInfo, AnchorLink}
-use Rattle.point.specs.Reading.{pointIdAt, readLink, readRole, mapsOk, pointWith, readPoint}
+use Rattle.point.specs.Point.{PointId, PointInfo}
+use Rattle.point.specs.Reading.{pointIdAt, readPoint}
 use Rattle.point.specs.declared.data.AnchorStageRole.{AnchorStageRole}
 use Rattle.point.specs.declared.data.AnchorStageRole.the-variants.{Trigger}
-use Rattle.point.specs.declared.data.PointRole.{PointRole}
+use Rattle.point.proofs.Ids.{id-front, id-shift}
+use Rattle.point.proofs.Laws.{parts-of}
 use Rattle.verifier.specs.DagPoint.{DagPoint, Valid, TransInvalid, Invalid, IllFormed, NotFound, Dropped, Entry, entryId, isDropped}
 use Rattle.entries.specs.Entries.{RecordFront, Stated, Listed, isListable, frontWith, frontTo, recordFront, statedWith, recordAt, idAt17, isRoot, readState, listedWith, entryAt, roleOf, readEntry, isInOrder, listThen, listFrom, listWith, readList, directs, indirects}
 use Rattle.reasons.specs.Invalid.{dagRound}
+use Rattle.entries.proofs.Order.{in-order, behind-target}
 use Rattle.mismatch.specs.Head.{Head, headOf, headFrom, flagsAt, aimAt, idPlace, idBehind, placedAt, endIn, endBehind, listed}
 
--- ---- an id at a place
-
--- a part of a front is a part of the whole
-part-front : (e n at : ℕ) (s : List ℕ) → at + n ≤ e → bytesAt n (take e s) at ≡ bytesAt n s at
-part-front e n zero s h = take-take n e s (omega arith)
-part-front zero n (suc at) s h = absurd (omega arith)
-part-front (suc e) n (suc at) [] h = refl
-part-front (suc e) n (suc at) (x ∷ s) h = part-front e n at s (omega arith)
-
-id-front : (e at : ℕ) (s : List ℕ) → at + 68 ≤ e → pointIdAt (take e s) at ≡ pointIdAt s at
-unfolding pointIdAt littleAt bigAt
-id-front e at s h =
-    rw (part-front e 4 at s (omega arith), part-front e 32 (at + 4) s (omega arith), part-front e 32 (at + 36) s (omega arith))
-
--- an id in what is left of a list
-id-shift : (k at : ℕ) (s : List ℕ) → pointIdAt (drop k s) at ≡ pointIdAt s (k + at)
-unfolding pointIdAt littleAt bigAt
-id-shift k at s =
-    let e : k + at + 4 ≡ k + (at + 4) = omega arith in
-    let f : k + at + 36 ≡ k + (at + 36) = omega arith in
-    rw (drop-drop at k s, drop-drop (at + 4) k s, drop-drop (at + 36) k s, e, f)
-
 -- ---- the record at the front
-
-id-of : (s : List ℕ) (a b : Option AnchorLink) (r : Option PointRole) (p : PointInfo) → pointWith s a b r ≡ some p → p .id ≡ pointIdAt (contentOf s 0) 0
-id-of s none b r p e = let z : _≡_ {A = ℕ} 0 1 = cc in absurd (omega arith)
-id-of s (some x) none r p e = let z : _≡_ {A = ℕ} 0 1 = cc in absurd (omega arith)
-id-of s (some x) (some y) none p e = let z : _≡_ {A = ℕ} 0 1 = cc in absurd (omega arith)
-id-of s (some x) (some y) (some r) p e = cc
-
-read-id : (s : List ℕ) (p : PointInfo) → readPoint s ≡ some p → p .id ≡ pointIdAt (contentOf s 0) 0
-unfolding readPoint
-read-id s p h =
-    id-of s (readLink (contentOf s 5)) (readLink (contentOf s 6)) (readRole (contentOf s 7)) p
-    (picked (wellShaped s && mapsOk s) _ p h .1)
 
 -- what a record that was read at the front of a list gives
 record FrontIs (s : List ℕ) (x : RecordFront) : Type 0 where
@@ -79,7 +49,7 @@ module _ (s : List ℕ) (n : ℕ) (h : recordEnd s ≡ some n) where
       rw (front-content s n h 0 (omega arith), e, id-front 68 0 (drop 3 s) (omega arith)) (id-shift 3 0 s)
 
   front-at : (o : Option PointInfo) (x : RecordFront) → o ≡ readPoint (take n s) → frontWith n o ≡ some x → FrontIs s x
-  front-at none x e g = let z : _≡_ {A = ℕ} 0 1 = cc in absurd (omega arith)
+  front-at none x e g = none-some g
   front-at (some q) x e g =
       let p = picked (isListable q) (some (record { point = q; size = n })) x g .1 in
       let size : x .size ≡ n = cc in
@@ -88,11 +58,11 @@ module _ (s : List ℕ) (n : ℕ) (h : recordEnd s ≡ some n) where
         end = rw size h;
         room = first-field .0;
         small = rw size (end-within s n h);
-        id = rw point (read-id (take n s) q (sym e) ∙ first-id);
+        id = rw point (parts-of (take n s) q (sym e) .id ∙ first-id);
       }
 
 front-to : (s : List ℕ) (o : Option ℕ) (x : RecordFront) → o ≡ recordEnd s → frontTo s o ≡ some x → FrontIs s x
-front-to s none x e g = let z : _≡_ {A = ℕ} 0 1 = cc in absurd (omega arith)
+front-to s none x e g = none-some g
 front-to s (some n) x e g = front-at s n (sym e) (readPoint (take n s)) x refl g
 
 front-is : (s : List ℕ) (x : RecordFront) → recordFront s ≡ some x → FrontIs s x
@@ -129,7 +99,7 @@ recorded s k x h =
 
 stated : (state : PointInfo → DagPoint) (front : ℕ) (o : Option RecordFront) (y : Stated) → statedWith state front o ≡ some y →
     (x : RecordFront) × (o ≡ some x) × (y .point ≡ state (x .point)) × (y .size ≡ front + x .size)
-stated state front none y h = let z : _≡_ {A = ℕ} 0 1 = cc in absurd (omega arith)
+stated state front none y h = none-some h
 stated state front (some x) y h = (x, refl, cc, cc)
 
 id-17 : (state : PointId → DagPoint) (s : List ℕ) (k : ℕ) (y : Stated) → idAt17 state (drop k s) ≡ some y →
@@ -210,7 +180,7 @@ state-is (suc (suc (suc (suc (suc (suc n)))))) reason s k y g h =
     let none-there : _≡_ {A = Option Stated} none (some y) =
     simp (ne-eqb m 0 (λ e. omega arith), ne-eqb m 1 (λ e. omega arith), ne-eqb m 2 (λ e. omega arith), ne-eqb m 3 (λ e. omega arith), ne-eqb m 4 (λ e. omega arith), ne-eqb m 5 (λ e. omega arith)) at h
     in
-    let z : _≡_ {A = ℕ} 0 1 = cc in absurd (omega arith)
+    none-some none-there
 
 -- ---- an entry whose flags start at f
 
@@ -226,7 +196,7 @@ pub record EntryIs (aim : Option AnchorStageRole) (f : ℕ) (s : List ℕ) (x : 
 
 listed-with : (aim : Option AnchorStageRole) (f : ℕ) (t : List ℕ) (o : Option Stated) (x : Listed) → listedWith aim f t o ≡ some x →
     (y : Stated) × (o ≡ some y) × (x .aim ≡ aim) × (x .entry .state ≡ y .point) × (x .size ≡ f + 7 + y .size)
-listed-with aim f t none x h = let z : _≡_ {A = ℕ} 0 1 = cc in absurd (omega arith)
+listed-with aim f t none x h = none-some h
 listed-with aim f t (some y) x h =
     let e : x .entry ≡ record { state = y .point; certified = eqb (getD t 4 0) 1; firstValid = eqb (getD t 5 0) 1 } = cc in
     (y, refl, cc, ap (λ (z : Entry). z .state) e, cc)
@@ -265,17 +235,13 @@ head-is s x h =
     entry-is (aimAt s) (flagsAt s) s x
     (entry-from (eqb (getD s 0 0) 19) (fieldOk (fieldRow 19 1 1) s 0 && leb (getD s 3 0) 1) (roleOf (getD s 3 0)) s x h)
 
-pub some-of {ℓ} : {A : Type ℓ} (o : Option A) → isSome o ≡ true → (x : A) × (o ≡ some x)
-some-of none h = let z : _≡_ {A = ℕ} 0 1 = cc in absurd (omega arith)
-some-of (some x) h = (x, refl)
-
 -- a record that ends has its start inside
 pub end-inside : (at : ℕ) (s : List ℕ) → isSome (endIn at s) ≡ true → at ≤ length s
 unfolding endIn
 end-inside at s h = inside (recordEnd (drop at s)) refl h
   where
     inside : (o : Option ℕ) → o ≡ recordEnd (drop at s) → isSome (placedAt at o) ≡ true → at ≤ length s
-    inside none e g = let z : _≡_ {A = ℕ} 0 1 = cc in absurd (omega arith)
+    inside none e g = impossible (cc)
     inside (some n) e g = omega (arith, length-drop at s, first-field (drop at s) n (sym e) .0)
 
 -- where a record ends is known where `record_end` says it
@@ -318,10 +284,6 @@ head-made s x aim dropped id size e a d i z = same a d i z ∙ ap headFrom (sym 
         some (record { aim = aim; dropped = dropped; id = id; size = size }) ≡ some (headOf x)
     same a d i z = rw (a, d, i, z)
 
--- the part of a slice from a place on
-pub tail : (at : ℕ) (s : List ℕ) → take (length s - at) (drop at s) ≡ drop at s
-tail at s = take-all (length s - at) (drop at s) (omega (arith, length-drop at s))
-
 -- ---- lists that read
 
 -- a direct entry stands first among the direct ones, an indirect one among the others
@@ -342,7 +304,7 @@ unfolding indirects
 indirects-behind x l e = rw e
 
 then-of : (x : Listed) (o : Option (List Listed)) (l : List Listed) → listThen x o ≡ some l → (r : List Listed) × (o ≡ some r) × (l ≡ x ∷ r)
-then-of x none l h = let z : _≡_ {A = ℕ} 0 1 = cc in absurd (omega arith)
+then-of x none l h = none-some h
 then-of x (some r) l h = (r, refl, cc)
 
 list-zero : (c : Bool) (s : List ℕ) → listFrom zero c s ≡ pick (eqb (length s) 0) (some []) none
@@ -361,7 +323,7 @@ turn false m k l f h = f h
 -- with one entry more allowed
 more-with : (f g : Bool → List ℕ → Option (List Listed)) (c : Bool) (s : List ℕ) (o : Option Listed) (l : List Listed) →
     ((c : Bool) (s : List ℕ) (l : List Listed) → f c s ≡ some l → g c s ≡ some l) → listWith f c s o ≡ some l → listWith g c s o ≡ some l
-more-with f g c s none l more h = let z : _≡_ {A = ℕ} 0 1 = cc in absurd (omega arith)
+more-with f g c s none l more h = none-some h
 more-with f g c s (some x) l more h =
     let p = picked (isInOrder c (x .aim)) (listThen x (f (isSome (x .aim)) (drop (x .size) s))) l h in
     let q = then-of x (f (isSome (x .aim)) (drop (x .size) s)) l (p .1) in
@@ -369,7 +331,7 @@ more-with f g c s (some x) l more h =
 
 list-more : (n : ℕ) (c : Bool) (s : List ℕ) (l : List Listed) → listFrom n c s ≡ some l → listFrom (suc n) c s ≡ some l
 list-more zero c s l h =
-    list-suc zero c s ∙ turn (eqb (length s) 0) none _ l (λ e. let z : _≡_ {A = ℕ} 0 1 = cc in absurd (omega arith)) (sym (list-zero c s) ∙ h)
+    list-suc zero c s ∙ turn (eqb (length s) 0) none _ l (λ e. none-some e) (sym (list-zero c s) ∙ h)
 list-more (suc n) c s l h =
     list-suc (suc n) c s
     ∙ turn (eqb (length s) 0) _ _ l (more-with (listFrom n) (listFrom (suc n)) c s (readEntry s) l (list-more n)) (sym (list-suc n c s) ∙ h)
@@ -377,45 +339,17 @@ list-more (suc n) c s l h =
 -- what may stand behind an indirect entry may stand anywhere
 any-with : (f : Bool → List ℕ → Option (List Listed)) (c : Bool) (s : List ℕ) (o : Option Listed) (l : List Listed) →
     listWith f c s o ≡ some l → listWith f false s o ≡ some l
-any-with f c s none l h = let z : _≡_ {A = ℕ} 0 1 = cc in absurd (omega arith)
+any-with f c s none l h = none-some h
 any-with f c s (some x) l h = picked (isInOrder c (x .aim)) (listThen x (f (isSome (x .aim)) (drop (x .size) s))) l h .1
 
 any-order : (n : ℕ) (c : Bool) (s : List ℕ) (l : List Listed) → listFrom (suc n) c s ≡ some l → listFrom (suc n) false s ≡ some l
 any-order n c s l h =
     list-suc n false s ∙ turn (eqb (length s) 0) _ _ l (any-with (listFrom n) c s (readEntry s) l) (sym (list-suc n c s) ∙ h)
 
--- behind an indirect entry stands no direct one
-behind-with : (f : Bool → List ℕ → Option (List Listed)) (s : List ℕ) (x : Listed) (a : Option AnchorStageRole) (l : List Listed) →
-    ((s : List ℕ) (l : List Listed) → f true s ≡ some l → directs l ≡ []) →
-    x .aim ≡ a → isInOrder true a ≡ true → listThen x (f (isSome a) (drop (x .size) s)) ≡ some l → directs l ≡ []
-behind-with f s x none l ih e i h = let z : _≡_ {A = ℕ} 0 1 = cc in absurd (omega arith)
-behind-with f s x (some g) l ih e i h =
-    let q = then-of x (f true (drop (x .size) s)) l h in
-    ap directs (q .2) ∙ (directs-behind x (q .0) g e ∙ ih (drop (x .size) s) (q .0) (q .1))
-
-behind-from : (f : Bool → List ℕ → Option (List Listed)) (s : List ℕ) (o : Option Listed) (l : List Listed) →
-    ((s : List ℕ) (l : List Listed) → f true s ≡ some l → directs l ≡ []) → listWith f true s o ≡ some l → directs l ≡ []
-behind-from f s none l ih h = let z : _≡_ {A = ℕ} 0 1 = cc in absurd (omega arith)
-behind-from f s (some x) l ih h =
-    let p = picked (isInOrder true (x .aim)) (listThen x (f (isSome (x .aim)) (drop (x .size) s))) l h in
-    behind-with f s x (x .aim) l ih refl (p .0) (p .1)
-
--- a list reads as none, or as what its front gives
-ended : (b : Bool) (m : Option (List Listed)) (l : List Listed) → (m ≡ some l → directs l ≡ []) → pick b (some []) m ≡ some l → directs l ≡ []
-unfolding directs
-ended true m l f h = let e : l ≡ [] = cc in rw e
-ended false m l f h = f h
-
-behind-target : (n : ℕ) (s : List ℕ) (l : List Listed) → listFrom n true s ≡ some l → directs l ≡ []
-behind-target zero s l h =
-    ended (eqb (length s) 0) none l (λ e. let z : _≡_ {A = ℕ} 0 1 = cc in absurd (omega arith)) (sym (list-zero true s) ∙ h)
-behind-target (suc n) s l h =
-    ended (eqb (length s) 0) _ l (behind-from (listFrom n) s (readEntry s) l (behind-target n)) (sym (list-suc n true s) ∙ h)
-
 -- the first entry of a list that reads
 first-with : (f : Bool → List ℕ → Option (List Listed)) (s : List ℕ) (o : Option Listed) (l : List Listed) → listWith f false s o ≡ some l →
     (x : Listed) × (r : List Listed) × (o ≡ some x) × (l ≡ x ∷ r) × (f (isSome (x .aim)) (drop (x .size) s) ≡ some r)
-first-with f s none l h = let z : _≡_ {A = ℕ} 0 1 = cc in absurd (omega arith)
+first-with f s none l h = none-some h
 first-with f s (some x) l h = let q = then-of x (f (isSome (x .aim)) (drop (x .size) s)) l h in (x, q .0, refl, q .2, q .1)
 
 first-from : (n : ℕ) (s : List ℕ) (l : List Listed) → 0 < length s → listFrom (suc n) false s ≡ some l →
@@ -446,7 +380,7 @@ left-from n s l g h =
     let f = first-from n s l g h in
     let b = isSome (f .0 .aim) in
     let t = drop (f .0 .size) s in
-    (f .0, f .1, f .2, f .3, any-order n b t (f .1) (list-more n b t (f .1) (f .4)), λ e. behind-target n t (f .1) (ap (λ (c : Bool). listFrom n c t) (sym e) ∙ f .4))
+    (f .0, f .1, f .2, f .3, any-order n b t (f .1) (list-more n b t (f .1) (f .4)), λ e. behind-target (f .1) (in-order n true t (f .1) (ap (λ (c : Bool). listFrom n c t) (sym e) ∙ f .4)))
 
 next-with : (s t : List ℕ) (l r : List Listed) (x : Listed) → t ≡ drop (x .size) s → readList s ≡ some l → readList t ≡ some r → readEntry s ≡ some x → l ≡ x ∷ r →
     (isSome (x .aim) ≡ true → directs r ≡ []) → Next s x
@@ -515,10 +449,10 @@ pub record Reads (s : List ℕ) (at : ℕ) : Type 0 where
 module _ (s : List ℕ) (at : ℕ) where
   pub reads-front : Reads s at → at < length s → (h : Head) → some h ≡ headFrom (readEntry (take (length s - at) (drop at s))) → Front (drop at s) h
   reads-front r g h e =
-      front-of (drop at s) h (r .left) (omega (arith, length-drop at s)) (e ∙ ap (λ (t : List ℕ). headFrom (readEntry t)) (tail at s))
+      front-of (drop at s) h (r .left) (omega (arith, length-drop at s)) (e ∙ ap (λ (t : List ℕ). headFrom (readEntry t)) (rest at s))
 
   pub reads-head : Reads s at → at < length s → isSome (readEntry (take (length s - at) (drop at s))) ≡ true
-  reads-head r g = ap (λ (t : List ℕ). isSome (readEntry t)) (tail at s) ∙ head-reads (drop at s) (r .left) (omega (arith, length-drop at s))
+  reads-head r g = ap (λ (t : List ℕ). isSome (readEntry t)) (rest at s) ∙ head-reads (drop at s) (r .left) (omega (arith, length-drop at s))
 
   pub reads-end : length s ≤ at → listed (drop at s) ≡ []
   reads-end h = listed-end (drop at s) (omega (arith, length-drop at s))

@@ -14,18 +14,20 @@ use lib.Seq.{getD-set-same, getD-set-other}
 use lib.Dec.{ltb, eqb}
 use borrow.Author.Tests.{eq-eqb, ne-eqb, lt-ltb, le-ltb, not-true, not-false}
 use Rattle.base.specs.Base.{pick, isSome, isEmpty}
-use Rattle.base.proofs.Laws.{and-left, and-right}
+use Rattle.base.proofs.Bool.{and-left, and-right, never, clash, or-left, or-right, or-cases, or-swap, cases, first-false, last-false}
+use Rattle.base.proofs.Impossible.{impossible}
 use Rattle.map.specs.Rows.{Pair}
 use Rattle.point.specs.Point.{PointId, PointInfo, AnchorLink, Direct, Indirect, anchorLink, sameId}
 use Rattle.point.specs.declared.data.AnchorStageRole.{AnchorStageRole}
 use Rattle.point.specs.declared.data.AnchorStageRole.the-variants.{Proof, Trigger}
+use Rattle.point.proofs.Ids.{same-sym, same-refl}
 use Rattle.verifier.specs.DagPoint.{DagPoint, Entry, IndirectEntry, entryId, isDropped}
 use Rattle.entries.specs.Entries.{Listed, readList, directs, indirects}
 use Rattle.mismatch.specs.Head.{Head, listed}
 use Rattle.mismatch.proofs.Heads.{Front, Reads, next-of, listed-is, directs-here, indirects-here, reads-start, reads-next, reads-end, directs-behind, directs-next, directs-last, indirects-same, indirects-next, listed-next}
 use Rattle.mismatch.specs.Mismatch.{isTargetOf, sameRole, stoodBefore, allTargets, mismatch, hasId, pairId, isAmong, isVersion, hasPlace, allPlaced, idsOf, droppedIn, lackingIn, lacking}
 use Rattle.mismatch.specs.Walk.{roundIn, pairsIn, mapsIn, noPair, standsFor, isNewVersion, isTargetWith, Placed, Found, Marked, zerosIn, zeros}
-use Rattle.mismatch.proofs.Rows.{amongTo, Maps, among-at, among-not, among-to-same, cases, clash, first-false, has-first, has-next, has-none, has-same, last-false, never, or-cases, or-left, or-right, or-swap, row-once, same-refl, same-sym, stood}
+use Rattle.mismatch.proofs.Rows.{amongTo, Maps, among-at, among-not, among-to-same, has-first, has-next, has-none, has-same, row-once, stood}
 
 -- ---- the marks while one entry's id goes through the maps
 
@@ -531,11 +533,11 @@ module _ (s : List ℕ) (at : ℕ) (h : Head) (f : Front (drop at s) h) (g : Anc
 stood-proof : (g : AnchorStageRole) (proof trigger : Bool) → g ≡ Proof →
     (stoodBefore g proof trigger ≡ proof) × ((proof || sameRole g Proof) ≡ true) × ((trigger || sameRole g Trigger) ≡ trigger)
 stood-proof Proof proof trigger e = (refl, or-true proof, or-false trigger)
-stood-proof Trigger proof trigger e = let z : _≡_ {A = ℕ} 0 1 = cc in absurd (omega arith)
+stood-proof Trigger proof trigger e = impossible (cc)
 
 stood-trigger : (g : AnchorStageRole) (proof trigger : Bool) → g ≡ Trigger →
     (stoodBefore g proof trigger ≡ trigger) × ((proof || sameRole g Proof) ≡ proof) × ((trigger || sameRole g Trigger) ≡ true)
-stood-trigger Proof proof trigger e = let z : _≡_ {A = ℕ} 0 1 = cc in absurd (omega arith)
+stood-trigger Proof proof trigger e = impossible (cc)
 stood-trigger Trigger proof trigger e = (refl, or-false proof, or-true trigger)
 
 module _ (s : List ℕ) (at : ℕ) (h : Head) (f : Front (drop at s) h) (g : AnchorStageRole) (e : h .aim ≡ some g) (p : PointInfo) (proof trigger : Bool) where
@@ -568,7 +570,7 @@ targets-left s at p proof trigger h =
 
 -- where no direct entry is left none stands first
 pub no-direct {ℓ} : {A : Type ℓ} (s : List ℕ) (at : ℕ) (h : Head) → Front (drop at s) h → h .aim ≡ none → directs (listed (drop at s)) ≡ [] → A
-no-direct s at h f e n = let d = directs-next s at h f e in let z : _≡_ {A = ℕ} 0 1 = cc in absurd (omega arith)
+no-direct s at h f e n = let d = directs-next s at h f e in impossible (cc)
 
 -- ---- the walk in the list's bytes
 
@@ -674,7 +676,7 @@ found-false presence p s seen false dropped end e w = w
 none-at : (s : List ℕ) (x : Listed) (l : List Listed) → listed s ≡ x ∷ l → directs (listed s) ≡ [] → isEmpty (indirects (listed s)) ≡ false
 none-at s x l e d =
     ⊎-elim
-    (λ a. let n = ap directs e ∙ directs-here x l a in let z : _≡_ {A = ℕ} 0 1 = cc in absurd (omega arith))
+    (λ a. let n = ap directs e ∙ directs-here x l a in impossible (cc))
     (λ a. ap isEmpty (ap indirects e ∙ indirects-here x l (a .0) (a .1)))
     (aim-cases (x .aim))
 

@@ -1,21 +1,22 @@
 -- Laws of ids, of the rows of a map that have them, and of versions.
 use Prim.Native.Nat.{ℕ, zero, suc, _-_, _≤_, _<_}
 use native.Mathlib.Omega.{arith}
-use native.Mathlib.Decide.{decLt, ℕ-discrete}
+use native.Mathlib.Decide.{decLt}
 use mathlib.Core.Path.{_≡_, refl, ap, sym, _∙_}
-use mathlib.Core.Logic.{_⊎_, inl, inr}
 use mathlib.Core.Bool.{Bool, true, false, not, _&&_, _||_, or-true}
 use mathlib.Core.Option.{Option, none, some}
 use mathlib.Core.List.{List, [], _∷_}
 use lib.ListN.{length, getD}
 use lib.Dec.{eqb}
-use borrow.Author.Tests.{eqb-true, eq-eqb, ne-eqb}
+use borrow.Author.Tests.{eq-eqb, ne-eqb}
 use Rattle.base.specs.Base.{pick, isSome}
-use Rattle.base.proofs.Laws.{and-left, and-right}
+use Rattle.base.proofs.Bool.{never, clash, last-false}
+use Rattle.base.proofs.Option.{some-none, none-some}
 use Rattle.map.specs.Rows.{Pair, peersOf, pairsOf, rising, find, peers, digests}
 use Rattle.map.proofs.Laws.{peers-pairsOf, peers-length, peers-at, digests-at, rising-less, find-some, find-none, find-rising}
 use Rattle.point.specs.Point.{PointId, PointInfo, prevDigest, sameId}
 use Rattle.point.proofs.Laws.{MapOf, Readable}
+use Rattle.point.proofs.Ids.{same-fields, fields-same, same-refl}
 use Rattle.mismatch.specs.Mismatch.{hasId, pairId, isAmong, isVersion}
 use Rattle.mismatch.specs.Walk.{roundIn, pairsIn, mapIn, mapsIn, noPair, IsRow}
 
@@ -26,73 +27,11 @@ amongTo (suc m) p i = isAmong (roundIn p m) (pairsIn p m) i || amongTo m p i
 
 -- ---- tests
 
-pub never : (b : Bool) → (b ≡ true → ⊥) → b ≡ false
-never true f = absurd (f refl)
-never false f = refl
-
-pub clash {ℓ} : {A : Type ℓ} (b : Bool) → b ≡ true → b ≡ false → A
-clash b t f = let z : _≡_ {A = ℕ} 0 1 = cc in absurd (omega arith)
-
-pub or-left : (a b : Bool) → (a || b) ≡ false → a ≡ false
-or-left true b h = h
-or-left false b h = refl
-
-pub or-right : (a b : Bool) → (a || b) ≡ false → b ≡ false
-or-right true b h = clash true refl h
-or-right false b h = h
-
-pub or-cases : (a b : Bool) → (a || b) ≡ true → (a ≡ true) ⊎ (b ≡ true)
-or-cases true b h = inl refl
-or-cases false b h = inr h
-
-pub or-swap : (a b c : Bool) → ((a || b) || c) ≡ (b || (a || c))
-or-swap true true c = refl
-or-swap true false c = refl
-or-swap false b c = refl
-
-pub cases : (b : Bool) → (b ≡ true) ⊎ (b ≡ false)
-cases true = inl refl
-cases false = inr refl
-
 pub stood : (a b c : Bool) → b ≡ true → ((a && not b) && c) ≡ false
 stood true b c h = rw h
 stood false b c h = refl
 
-pub first-false : (a b c : Bool) → a ≡ false → ((a && b) && c) ≡ false
-first-false a b c h = rw h
-
-pub last-false : (a c : Bool) → c ≡ false → (a && c) ≡ false
-last-false true c h = h
-last-false false c h = refl
-
 -- ---- ids
-
-eqb-sym : (m n : ℕ) → eqb m n ≡ eqb n m
-eqb-sym m n = elim (ℕ-discrete m n) [
-  | yes e ↦ eq-eqb m n e ∙ sym (eq-eqb n m (sym e))
-  | no d ↦ ne-eqb m n d ∙ sym (ne-eqb n m (λ e. d (sym e)))
-]
-
-module _ (a b : PointId) where
-  same-fields : sameId a b ≡ true → (a .round ≡ b .round) × (a .digest ≡ b .digest) × (a .author ≡ b .author)
-  unfolding sameId
-  same-fields h =
-      let r = and-right (eqb (a .round) (b .round)) _ h in (
-        eqb-true _ _ (and-left (eqb (a .round) (b .round)) _ h),
-        eqb-true _ _ (and-left (eqb (a .digest) (b .digest)) _ r),
-        eqb-true _ _ (and-right (eqb (a .digest) (b .digest)) _ r),
-      )
-
-  fields-same : a .round ≡ b .round → a .digest ≡ b .digest → a .author ≡ b .author → sameId a b ≡ true
-  unfolding sameId
-  fields-same r d q = rw (eq-eqb _ _ r, eq-eqb _ _ d, eq-eqb _ _ q)
-
-  pub same-sym : sameId a b ≡ sameId b a
-  unfolding sameId
-  same-sym = rw (eqb-sym (a .round) (b .round), eqb-sym (a .digest) (b .digest), eqb-sym (a .author) (b .author))
-
-pub same-refl : (a : PointId) → sameId a a ≡ true
-same-refl a = fields-same a a refl refl refl
 
 -- the same id in another's place
 module _ (a b : PointId) (h : sameId a b ≡ true) where
@@ -178,12 +117,12 @@ module _ (round : ℕ) (l : List Pair) (i : PointId) where
 
 pub row-some : (round : ℕ) (l : List Pair) (i : PointId) (o : Option ℕ) (k : ℕ) → o ≡ some k → IsRow round l i o →
     (k < length l) × (sameId (pairId round (getD l k noPair)) i ≡ true)
-row-some round l i none k e h = let z : _≡_ {A = ℕ} 0 1 = cc in absurd (omega arith)
+row-some round l i none k e h = none-some e
 row-some round l i (some n) k e h = let same : n ≡ k = cc in rw same at h
 
 pub row-none : (round : ℕ) (l : List Pair) (i : PointId) (o : Option ℕ) → o ≡ none → IsRow round l i o → isAmong round l i ≡ false
 row-none round l i none e h = h
-row-none round l i (some n) e h = let z : _≡_ {A = ℕ} 0 1 = cc in absurd (omega arith)
+row-none round l i (some n) e h = some-none e
 
 -- in a rising map an id has one row
 pub row-once : (round : ℕ) (l : List Pair) (i : PointId) (j k : ℕ) → rising (peers l) ≡ true → j < length l → k < length l → (j ≡ k → ⊥) →

@@ -8,10 +8,10 @@ use mathlib.Core.Path.{_≡_, refl, ap, sym, _∙_}
 use mathlib.Core.List.{List, [], _∷_, _++_}
 use mathlib.Core.Bool.{false}
 use lib.ListN.{length, getD, take, drop, length-append, length-take, length-drop, List·getD-eq-default}
-use lib.Seq.{drop-cons, take-add, drop-drop, length-take-le, getD-take, getD-drop}
-use lib.Dec.{ltb, eqb}
+use lib.Seq.{drop-cons, take-add, take-take, drop-drop, length-take-le, getD-take, getD-drop}
+use lib.Dec.{eqb}
 use borrow.Author.Tests.{lt-ltb, le-ltb, eq-eqb, ne-eqb}
-use Rattle.parts.specs.Bytes.{little, big, bytesAt, littleAt, bigAt, littleBytes}
+use Rattle.parts.specs.Bytes.{little, big, bytesAt, littleAt, bigAt, littleBytes, Bytes}
 use Rattle.parts.specs.Parts.{number, order, orderThen, orderOfRest, orderOfBytes}
 use Rattle.parts.specs.declared.Id.{Id}
 use Rattle.parts.specs.declared.Order.{Order}
@@ -27,6 +27,13 @@ at-length n s at h = length-take-le n (drop at s) (simp length-drop (omega arith
 
 pub at-one : (s : List ℕ) (at : ℕ) → at < length s → bytesAt 1 s at ≡ getD s at 0 ∷ []
 at-one s at h = rw (drop-cons s at 0 h)
+
+-- a part of a front is a part of the whole
+pub part-front : (e n at : ℕ) (s : List ℕ) → at + n ≤ e → bytesAt n (take e s) at ≡ bytesAt n s at
+part-front e n zero s h = take-take n e s (omega arith)
+part-front zero n (suc at) s h = absurd (omega arith)
+part-front (suc e) n (suc at) [] h = refl
+part-front (suc e) n (suc at) (x ∷ s) h = part-front e n at s (omega arith)
 
 little-append : (l m : List ℕ) → little (l ++ m) ≡ little l + 256 ^ length l * little m
 unfolding little
@@ -155,11 +162,7 @@ digits-same k a b c d hb hd h = elim (three a c) [
 
 -- ---- byte strings
 
--- each element is a byte
-abbrev pub Bytes : List ℕ → Type 0
-Bytes s = (k : ℕ) → getD s k 0 < 256
-
-big-below : (s : List ℕ) → Bytes s → big s < 256 ^ length s
+pub big-below : (s : List ℕ) → Bytes s → big s < 256 ^ length s
 unfolding big
 big-below [] b = omega arith
 big-below (x ∷ s) b =
@@ -224,13 +227,13 @@ module _ (x y : Id) (wx : Words x) (wy : Words y) where
 
 -- ---- ids at places: their words in turn
 
-at-bytes : (n : ℕ) (s : List ℕ) (at : ℕ) → Bytes s → Bytes (bytesAt n s at)
+pub at-bytes : (n : ℕ) (s : List ℕ) (at : ℕ) → Bytes s → Bytes (bytesAt n s at)
 at-bytes n s at b k = elim (decLt k n) [
   | yes h ↦ rw (getD-take n (drop at s) k 0 h, getD-drop at s k 0) (b (at + k))
   | no h ↦ (let e : getD (bytesAt n s at) k 0 ≡ 0 = List·getD-eq-default (bytesAt n s at) 0 (simp length-take (omega arith)) in omega arith)
 ]
 
-big-fits : (n : ℕ) (s : List ℕ) (at : ℕ) → Bytes s → at + n ≤ length s → bigAt n s at < 256 ^ n
+pub big-fits : (n : ℕ) (s : List ℕ) (at : ℕ) → Bytes s → at + n ≤ length s → bigAt n s at < 256 ^ n
 unfolding bigAt
 big-fits n s at b h = rw (at-length n s at h) at (big-below (bytesAt n s at) (at-bytes n s at b))
 

@@ -1,7 +1,11 @@
 -- The numbers that bytes stand for, and a list with some of its elements replaced.
-use Prim.Native.Nat.{ℕ, zero, suc, _+_, _*_, _/_, _%_, _^_}
+use Prim.Native.Nat.{ℕ, zero, suc, _+_, _*_, _/_, _%_, _^_, _<_}
 use mathlib.Core.List.{List, [], _∷_, _++_}
-use lib.ListN.{length, take, drop}
+use lib.ListN.{length, getD, take, drop}
+
+-- a byte is below 256
+abbrev pub Bytes : List ℕ → Type 0
+Bytes s = (k : ℕ) → getD s k 0 < 256
 
 -- document 01: "Multi-byte numbers are little-endian"
 unfoldable pub little : List ℕ → ℕ

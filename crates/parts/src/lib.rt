@@ -26,6 +26,23 @@ pub const NO_ID: Id = Id {
 // WAVE_ROUNDS of wave.rs.
 pub const WAVE_ROUNDS: u32 = 4;
 
+// The limits of document 01, as specs/Limits.antt has them.
+pub const FIRST_ROUND: u32 = 4;
+
+pub const LAST_ROUND: u32 = 2147483647;
+
+pub const PEERS_ROOM: usize = 8160;
+
+pub const SETTINGS_LENGTH: usize = 47;
+
+pub const ENTRIES_START: usize = SETTINGS_LENGTH;
+
+pub const TAG33_LENGTH: usize = 108;
+
+pub const MOST_KEPT: usize = 4096;
+
+pub const LONGEST_BOOK: usize = 16777216;
+
 // How one id stands to another.
 pub enum Order {
     Less,

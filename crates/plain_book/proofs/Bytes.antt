@@ -3,21 +3,19 @@ use Prim.Native.Nat.{ℕ, zero, suc, _+_, _-_, _≤_, _<_}
 use native.Mathlib.Nat.{suc-add, zero-add, sub-zero, zero-sub, suc-sub-suc}
 use native.Mathlib.Omega.{arith}
 use mathlib.Core.Path.{_≡_, refl, ap, sym, _∙_}
-use mathlib.Core.Bool.{Bool, true, false, _||_}
-use mathlib.Core.Option.{Option, none, some}
+use mathlib.Core.Bool.{Bool, true, false, or-false, or-true}
+use mathlib.Core.Option.{none}
 use mathlib.Core.List.{List, [], _∷_, _++_, append-assoc, append-nil}
 use lib.ListN.{length, drop, set, replicate, length-append}
 use lib.Seq.{set-append-left}
-use Rattle.base.specs.Base.{pick, isSome}
 use Rattle.parts.specs.Bytes.{putAt}
 use Rattle.write.proofs.Laws.{put-behind}
 use Rattle.point.specs.Point.{PointId, sameId}
-use Rattle.mismatch.proofs.Rows.{or-left, or-right, same-sym}
 use Rattle.plain_book.specs.Kept.{Status, Valid, TransInvalid, Invalid, IllFormed, Kept, Book, find, isTwice, markOne, mark}
 use Rattle.plain_book.specs.Offer.{used}
 use Rattle.plain_book.specs.Layout.{statusBytes, keptBytes, entriesBytes, bookBytes}
-use Rattle.plain_book.proofs.Clear.{same-eq, unfound}
 use Rattle.plain_book.proofs.RoundTrip.{kept-length, entries-length}
+use Rattle.plain_book.proofs.Find.{once-around, absent-first}
 
 -- ---- books one behind the other
 
@@ -48,14 +46,6 @@ mark-used i (k ∷ b) = ap (λ (n : ℕ). length (k .bytes) + 108 + n) (mark-use
 
 -- ---- a mark of an id that no entry has changes nothing
 
-unpicked : (t : Bool) (k : Kept) (o : Option Kept) → pick t (some k) o ≡ none → (t ≡ false) × (o ≡ none)
-unpicked true k o h = let z : _≡_ {A = ℕ} 0 1 = cc in absurd (omega arith)
-unpicked false k o h = (refl, h)
-
-or-false : (b : Bool) → (b || false) ≡ b
-or-false true = refl
-or-false false = refl
-
 unmarked : (i : PointId) (k : Kept) → sameId (k .point .id) i ≡ false → markOne i k ≡ k
 unfolding markOne
 unmarked i k h = rw (h, or-false (k .certified))
@@ -64,37 +54,16 @@ pub mark-absent : (i : PointId) (b : Book) → find b i ≡ none → mark i b �
 unfolding mark find
 mark-absent i [] h = refl
 mark-absent i (k ∷ b) h =
-    let p = unpicked (sameId (k .point .id) i) k (find b i) h in
+    let p = absent-first k b i h in
     rw (unmarked i k (p .0), mark-absent i b (p .1))
 
 -- ---- no id twice: the other entries have other ids
 
--- an id that a list does not have, none of its entries has
-absent-other : (front : Book) (k : Kept) (back : Book) (i : PointId) → find (front ++ k ∷ back) i ≡ none → sameId (k .point .id) i ≡ false
-unfolding find
-absent-other [] k back i h = unpicked (sameId (k .point .id) i) k (find back i) h .0
-absent-other (x ∷ front) k back i h =
-    absent-other front k back i (unpicked (sameId (x .point .id) i) x (find (front ++ k ∷ back) i) h .1)
-
 module _ (i : PointId) (k : Kept) (back : Book) (t : sameId (k .point .id) i ≡ true) where
-  once-behind : isTwice (k ∷ back) ≡ false → find back i ≡ none
-  unfolding isTwice
-  once-behind h = unfound (find back i) (rw (same-eq (k .point .id) i t) at (or-left (isSome (find back (k .point .id))) _ h))
-
-  -- the entry of an id is the only one
-  pub once-around : (front : Book) → isTwice (front ++ k ∷ back) ≡ false → (find front i ≡ none) × (find back i ≡ none)
-  unfolding isTwice find
-  once-around [] h = (refl, once-behind h)
-  once-around (x ∷ front) h =
-      let p = once-around front (or-right (isSome (find (front ++ k ∷ back) (x .point .id))) _ h) in
-      let u = unfound _ (or-left (isSome (find (front ++ k ∷ back) (x .point .id))) _ h) in
-      let d : sameId (x .point .id) i ≡ false = same-sym (x .point .id) i ∙ rw (same-eq (k .point .id) i t) at (absent-other front k back (x .point .id) u) in
-      (rw (d, p .0), p .1)
-
   pub mark-once : (front : Book) → isTwice (front ++ k ∷ back) ≡ false → mark i (front ++ k ∷ back) ≡ front ++ markOne i k ∷ back
   unfolding mark
   mark-once front h =
-      let p = once-around front h in
+      let p = once-around i k back t front h in
       mark-append i front (k ∷ back) ∙ rw (mark-absent i front (p .0), mark-absent i back (p .1))
 
 -- ---- a mark is one byte
@@ -110,10 +79,6 @@ flag-set Valid c = refl
 flag-set (TransInvalid d) c = refl
 flag-set (Invalid n) c = refl
 flag-set (IllFormed n) c = refl
-
-or-true : (b : Bool) → (b || true) ≡ true
-or-true true = refl
-or-true false = refl
 
 module _ (i : PointId) (k : Kept) (t : sameId (k .point .id) i ≡ true) where
   kept-marked : set (keptBytes k) (length (k .bytes) + 4) 1 ≡ keptBytes (markOne i k)

@@ -14,11 +14,13 @@ use lib.Seq.{take-all, take-add, drop-cons, drop-drop, length-take-le}
 use lib.Dec.{leb, eqb}
 use borrow.Author.Tests.{leb-true, eqb-true}
 use Rattle.base.specs.Base.{pick, isSome}
-use Rattle.base.proofs.Laws.{and-left, and-right, picked}
-use Rattle.parts.specs.Bytes.{bytesAt, littleAt, idAt, bigBytes}
-use Rattle.parts.proofs.Laws.{Bytes, at-split, little-split, little-one}
+use Rattle.base.proofs.Bool.{and-left, and-right}
+use Rattle.base.proofs.Option.{picked, IfSome, pick-has, has}
+use Rattle.parts.specs.Bytes.{bytesAt, littleAt, idAt, bigBytes, Bytes}
+use Rattle.parts.proofs.Laws.{at-split, little-split, little-one, at-bytes, big-fits}
 use Rattle.record.specs.Record.{fieldRow, fieldOk, recordEnd}
 use Rattle.record.proofs.Laws.{Fitting, fitting, end-within}
+use Rattle.write.proofs.Numbers.{little-fits, rest-bytes, little-of, big-of}
 use Rattle.point.specs.Point.{Includes, Witness, PointInfo, throughPeer, inDomain}
 use Rattle.point.specs.Reading.{pointIdAt, readPoint}
 use Rattle.schedule.specs.Settings.{Settings, readSettings}
@@ -28,23 +30,8 @@ use Rattle.plain_book.specs.Kept.{Status, Valid, TransInvalid, Invalid, 
 use Rattle.plain_book.specs.Lists.{dagPoint}
 use Rattle.plain_book.specs.Offer.{used, isStateOk}
 use Rattle.plain_book.specs.Layout.{flagByte, idBytes, throughBytes, statusBytes, keptBytes, entriesBytes, bookBytes, isZeros, throughAt, rootAt, isRootOk, readStatus, isKeepable, keptWith, readKept, KeptFront, sized, frontWith, frontTo, keptFront, bookThen, entriesWith, entriesFrom, Opened, openedWith, readBook}
-use Rattle.plain_book.proofs.Numbers.{part-bytes, rest-bytes, little-of, big-of, little-fits, big-fits}
 use Rattle.plain_book.proofs.Shape.{RootFits, StatusShape, KeptShape, Shape}
 use Rattle.plain_book.proofs.RoundTrip.{settings-length}
-
--- ---- what holds of a value that was read
-
-abbrev IfSome : {A : Type 0} → (A → Type 0) → Option A → Type 0
-IfSome P none = Unit
-IfSome P (some x) = P x
-
-module _ {A : Type 0} (P : A → Type 0) where
-  pick-has : (b : Bool) (o p : Option A) → (b ≡ true → IfSome P o) → IfSome P p → IfSome P (pick b o p)
-  pick-has true o p f g = f refl
-  pick-has false o p f g = g
-
-  has : (o : Option A) (x : A) → IfSome P o → o ≡ some x → P x
-  has o x h e = rw e at h
 
 -- ---- tag 33
 
@@ -252,7 +239,7 @@ module _ (s : List ℕ) (b : Bytes s) (n : ℕ) (e : recordEnd s ≡ some n) whe
       let l = end-within s n e in
       record {
         bytes = take-add n 108 s ∙ rw (three s n b f, h .whose, h .written);
-        shape = record { bytes = rw (h .whose) (part-bytes n s 0 b); read = rw (h .whose, h .point) p; domain = h .domain; status = h .status };
+        shape = record { bytes = rw (h .whose) (at-bytes n s 0 b); read = rw (h .whose, h .point) p; domain = h .domain; status = h .status };
         size = rw (h .whose, length-take-le n s l);
         within = omega (arith, f .end, f .least);
       }
@@ -263,7 +250,7 @@ module _ (s : List ℕ) (b : Bytes s) (n : ℕ) (e : recordEnd s ≡ some n) whe
   front-with q p (some k) r f =
       let t = take 105 (drop (n + 3) s) in
       let l : length t ≡ 105 = length-take-le 105 (drop (n + 3) s) (omega (arith, length-drop (n + 3) s, f .end, f .least)) in
-      front-kept q k p f (has (KeptOf (take n s) q t) (readKept (take n s) q t) k (kept-of (take n s) q t (part-bytes 105 s (n + 3) b) l) r)
+      front-kept q k p f (has (KeptOf (take n s) q t) (readKept (take n s) q t) k (kept-of (take n s) q t (at-bytes 105 s (n + 3) b) l) r)
 
   front-point : (o : Option PointInfo) → readPoint (take n s) ≡ o → IfSome (FrontOf s) (frontWith s n o)
   front-point none p = tt

@@ -4,83 +4,33 @@ use Prim.Native.Nat.{ℕ, zero, _-_, _≤_, _<_}
 use native.Mathlib.Omega.{arith}
 use mathlib.Core.Path.{_≡_, refl, ap, sym, _∙_, subst}
 use mathlib.Core.Logic.{_⊎_, inl, inr}
-use mathlib.Core.Bool.{Bool, true, false, not, _&&_, _||_}
+use mathlib.Core.Bool.{Bool, true, false, not, _&&_, _||_, not-and-self, and-false}
 use mathlib.Core.Option.{Option, none, some}
 use mathlib.Core.List.{List, [], _∷_, _++_, List·Memᴰ, List·Memᴰ·head, List·Memᴰ·tail, List·Memᴰ·not-nil, List·Memᴰ·cases-cons, List·Memᴰ·append-cases, Memᴰ·append-left, Memᴰ·append-right}
-use lib.Dec.{ltb, eqb}
-use borrow.Author.Tests.{eqb-true, eq-eqb, ltb-true, le-ltb}
+use lib.Dec.{eqb}
+use borrow.Author.Tests.{eqb-true, eq-eqb, le-ltb}
 use Rattle.base.specs.Base.{pick, isSome}
-use Rattle.base.proofs.Laws.{and-left, and-right}
+use Rattle.base.proofs.Bool.{and-left, and-right, clash, and-both, or-first, or-second, or-none}
 use Rattle.map.specs.Rows.{Pair, rising, peers, get}
+use Rattle.map.proofs.Pairs.{rising-tail, rising-below, get-there}
 use Rattle.point.specs.Point.{PointId, Through, AnchorLink, Direct, Indirect, PointInfo, prevDigest, prevId, anchorLink, sameId}
 use Rattle.point.specs.declared.data.AnchorStageRole.{AnchorStageRole}
 use Rattle.point.specs.declared.data.AnchorStageRole.the-variants.{Proof, Trigger}
+use Rattle.point.proofs.Ids.{same-sym, same-refl, eq-same, differ}
 use Rattle.verifier.specs.DagPoint.{Entry, IndirectEntry, entryId, isDropped}
 use Rattle.verifier.specs.Validate.{validate, ofResult}
 use Rattle.schedule.specs.Settings.{Settings}
 use Rattle.judge.specs.Judge.{Given}
 use Rattle.mismatch.specs.Mismatch.{hasId, pairId, isAmong, isVersion, hasPlace, allPlaced, idThen, idsOf, droppedIn, lackingIn, lacking, isTargetOf, sameRole, stoodBefore, allTargets, mismatch, isId, uncovers, anyUncovers, entriesIn, uncovered}
-use Rattle.mismatch.proofs.Rows.{never, clash, or-left, or-right, same-sym, same-refl, has-next, has-none}
+use Rattle.mismatch.proofs.Rows.{has-next, has-none}
 use Rattle.plain_book.specs.Kept.{Status, Valid, TransInvalid, Invalid, IllFormed, Kept, Book, find, isTwice, markOne, mark, markPrev}
 use Rattle.plain_book.specs.Lists.{dagPoint, isOf, keptEntry, entryWith, lookup, lookups, versions, directList, targetEntry, isTriggerFirst, indirectList}
 use Rattle.plain_book.specs.Offer.{isStateOk, areStatesOk, overLists}
-
--- ---- tests and ids
-
-pub and-both : (a b : Bool) → a ≡ true → b ≡ true → (a && b) ≡ true
-and-both true b h g = g
-and-both false b h g = h
-
-or-first : (a b : Bool) → a ≡ true → (a || b) ≡ true
-or-first true b h = refl
-or-first false b h = clash false h refl
-
-or-second : (a b : Bool) → b ≡ true → (a || b) ≡ true
-or-second true b h = refl
-or-second false b h = h
-
-pub or-none : (a b : Bool) → a ≡ false → b ≡ false → (a || b) ≡ false
-or-none true b h g = h
-or-none false b h g = g
-
-pub same-eq : (a b : PointId) → sameId a b ≡ true → a ≡ b
-unfolding sameId
-same-eq a b h =
-    let r = and-right (eqb (a .round) (b .round)) _ h in
-    let er : a .round ≡ b .round = eqb-true _ _ (and-left (eqb (a .round) (b .round)) _ h) in
-    let ed : a .digest ≡ b .digest = eqb-true _ _ (and-left (eqb (a .digest) (b .digest)) _ r) in
-    let ea : a .author ≡ b .author = eqb-true _ _ (and-right (eqb (a .digest) (b .digest)) _ r) in
-    λ i. record { round = er i; digest = ed i; author = ea i }
-
-pub eq-same : (a b : PointId) → a ≡ b → sameId a b ≡ true
-eq-same a b e = subst (λ (x : PointId). sameId a x ≡ true) e (same-refl a)
-
-pub differ : (a b : PointId) → (a ≡ b → ⊥) → sameId a b ≡ false
-differ a b d = never (sameId a b) (λ t. d (same-eq a b t))
-
--- ---- the entry of an id
-
-pub find-id : (b : Book) (i : PointId) (k : Kept) → find b i ≡ some k → k .point .id ≡ i
-unfolding find
-find-id [] i k h = let z : _≡_ {A = ℕ} 0 1 = cc in absurd (omega arith)
-find-id (x ∷ b) i k h = go (sameId (x .point .id) i) refl (find-id b i k) h
-  where
-    go : (t : Bool) → sameId (x .point .id) i ≡ t → (find b i ≡ some k → k .point .id ≡ i) → pick t (some x) (find b i) ≡ some k → k .point .id ≡ i
-    go true q rec e = let f : x ≡ k = cc in ap (λ (y : Kept). y .point .id) (sym f) ∙ same-eq (x .point .id) i q
-    go false q rec e = rec e
-
-pub find-member : (b : Book) (i : PointId) (k : Kept) → find b i ≡ some k → List·Memᴰ k b
-unfolding find
-find-member [] i k h = let z : _≡_ {A = ℕ} 0 1 = cc in absurd (omega arith)
-find-member (x ∷ b) i k h = go (sameId (x .point .id) i) (find-member b i k) h
-  where
-    go : (t : Bool) → (find b i ≡ some k → List·Memᴰ k b) → pick t (some x) (find b i) ≡ some k → List·Memᴰ k (x ∷ b)
-    go true rec e = let f : x ≡ k = cc in List·Memᴰ·head (sym f)
-    go false rec e = List·Memᴰ·tail (rec e)
+use Rattle.plain_book.proofs.Find.{find-id, find-member, absent-first, once-first, once-rest}
 
 -- ---- the ids of the direct list
 
-dag-id : (q : PointInfo) (x : Status) → entryId (dagPoint q x) ≡ q .id
+pub dag-id : (q : PointInfo) (x : Status) → entryId (dagPoint q x) ≡ q .id
 dag-id q Valid = refl
 dag-id q (TransInvalid d) = refl
 dag-id q (Invalid n) = refl
@@ -95,6 +45,15 @@ dag-there q (IllFormed n) = refl
 kept-then : (b : Book) (k : Kept) (l : List PointId) → idThen (keptEntry b k .state) l ≡ k .point .id ∷ l
 unfolding keptEntry
 kept-then b k l = rw (dag-there (k .point) (k .status), dag-id (k .point) (k .status))
+
+-- an entry that is looked up has the id that was asked for
+pub lookup-id : (b : Book) (p : PointInfo) (i : PointId) → entryId (lookup b p i .state) ≡ i
+unfolding lookup keptEntry
+lookup-id b p i = go (find b i) refl
+  where
+    go : (o : Option Kept) → find b i ≡ o → entryId (entryWith b p i o .state) ≡ i
+    go none h = refl
+    go (some k) h = dag-id (k .point) (k .status) ∙ find-id b i k h
 
 lookup-then : (b : Book) (p : PointInfo) (i : PointId) (l : List PointId) → idThen (lookup b p i .state) l ≡ i ∷ l
 unfolding lookup
@@ -291,24 +250,6 @@ distinct-append (i ∷ a) b da db h =
     go j e (inl m) = da .0 j m e
     go j e (inr m) = h i (List·Memᴰ·head refl) j m e
 
--- a peer stands below those behind it
-rising-tail : (x : ℕ) (l : List ℕ) → rising (x ∷ l) ≡ true → rising l ≡ true
-unfolding rising
-rising-tail x [] r = refl
-rising-tail x (y ∷ l) r = and-right (ltb x y) _ r
-
-rising-below : (x : ℕ) (l : List Pair) (q : Pair) → rising (x ∷ peers l) ≡ true → List·Memᴰ q l → x < q .peer
-unfolding peers rising
-rising-below x [] q r m = absurd (List·Memᴰ·not-nil m)
-rising-below x (y ∷ l) q r m = go (λ n. rising-below (y .peer) l q (and-right (ltb x (y .peer)) _ r) n) (List·Memᴰ·cases-cons m)
-  where
-    less : x < y .peer
-    less = ltb-true x (y .peer) (and-left (ltb x (y .peer)) _ r)
-
-    go : (List·Memᴰ q l → y .peer < q .peer) → (q ≡ y) ⊎ List·Memᴰ q l → x < q .peer
-    go rec (inl e) = rw e less
-    go rec (inr n) = let h = rec n in omega (arith, less)
-
 pairs-distinct : (round : ℕ) (l : List Pair) → rising (peers l) ≡ true → Distinct (pairIds round l)
 unfolding pairIds peers
 pairs-distinct round [] r = tt
@@ -338,40 +279,20 @@ own-distinct b p d = go (isSome (prevDigest p))
     go true = tt
     go false = versions-distinct (p .id .round - 1) (p .id .author) b d
 
--- a peer of a rising map is found there
-get-there : (l : List Pair) (q : Pair) → List·Memᴰ q l → isSome (get l (q .peer)) ≡ true
-unfolding get
-get-there [] q m = absurd (List·Memᴰ·not-nil m)
-get-there (x ∷ l) q m = go (eqb (x .peer) (q .peer)) refl (get-there l q) (List·Memᴰ·cases-cons m)
-  where
-    go : (t : Bool) → eqb (x .peer) (q .peer) ≡ t → (List·Memᴰ q l → isSome (get l (q .peer)) ≡ true) → (q ≡ x) ⊎ List·Memᴰ q l →
-        isSome (pick t (some (x .digest)) (get l (q .peer))) ≡ true
-    go true h rec w = refl
-    go false h rec (inl e) = clash (eqb (x .peer) (q .peer)) (eq-eqb (x .peer) (q .peer) (ap (λ (z : Pair). z .peer) (sym e))) h
-    go false h rec (inr n) = rec n
-
 -- an id that is not found stands nowhere
 absent : (b : Book) (i : PointId) → find b i ≡ none → Apart i (bookIds b)
-unfolding find bookIds
+unfolding bookIds
 absent [] i h j m e = List·Memᴰ·not-nil m
-absent (k ∷ b) i h j m e = go (sameId (k .point .id) i) refl h (λ f n. absent b i f j n e) (List·Memᴰ·cases-cons m)
+absent (k ∷ b) i h j m e = let p = absent-first k b i h in go (p .0) (λ n. absent b i (p .1) j n e) (List·Memᴰ·cases-cons m)
   where
-    go : (t : Bool) → sameId (k .point .id) i ≡ t → pick t (some k) (find b i) ≡ none → (find b i ≡ none → List·Memᴰ j (bookIds b) → ⊥) →
-        (j ≡ k .point .id) ⊎ List·Memᴰ j (bookIds b) → ⊥
-    go true q f rec w = let z : _≡_ {A = ℕ} 0 1 = cc in absurd (omega arith)
-    go false q f rec (inl u) = clash (sameId (k .point .id) i) (eq-same (k .point .id) i (sym (e ∙ u))) q
-    go false q f rec (inr n) = rec f n
-
-pub unfound : (o : Option Kept) → isSome o ≡ false → o ≡ none
-unfound none h = refl
-unfound (some k) h = let z : _≡_ {A = ℕ} 0 1 = cc in absurd (omega arith)
+    go : sameId (k .point .id) i ≡ false → (List·Memᴰ j (bookIds b) → ⊥) → (j ≡ k .point .id) ⊎ List·Memᴰ j (bookIds b) → ⊥
+    go q rec (inl u) = clash (sameId (k .point .id) i) (eq-same (k .point .id) i (sym (e ∙ u))) q
+    go q rec (inr n) = rec n
 
 pub once-distinct : (b : Book) → isTwice b ≡ false → Distinct (bookIds b)
 unfolding isTwice bookIds
 once-distinct [] h = tt
-once-distinct (k ∷ b) h =
-    let here : isSome (find b (k .point .id)) ≡ false = or-left _ _ h in
-    (absent b (k .point .id) (unfound (find b (k .point .id)) here), once-distinct b (or-right (isSome (find b (k .point .id))) (isTwice b) h))
+once-distinct (k ∷ b) h = (absent b (k .point .id) (once-first k b h), once-distinct b (once-rest k b h))
 
 module _ (b : Book) (p : PointInfo) (d : Distinct (bookIds b)) (ri : rising (peers (p .includes)) ≡ true) (rwi : rising (peers (p .witness)) ≡ true)
     (two : 2 ≤ p .id .round) where
@@ -590,10 +511,6 @@ InDomain b = (k : Kept) → List·Memᴰ k b → isStateOk (dagPoint (k .point) 
 abbrev Covered : Option PointId → Book → Type 0
 Covered prev b = (k : Kept) → List·Memᴰ k b → (not (k .certified) && isId prev (k .point .id)) ≡ false
 
-not-both : (a : Bool) → (not a && a) ≡ false
-not-both true = refl
-not-both false = refl
-
 module _ (b : Book) (p : PointInfo) where
   no-state-out : InDomain b → (areStatesOk (directList b p) && areStatesOk (entriesIn (indirectList b p))) ≡ true
   no-state-out h =
@@ -609,7 +526,7 @@ module _ (b : Book) (p : PointInfo) where
       (none-uncovers (prevId p) (entriesIn (indirectList b p)) (each-indirect (λ e. uncovers (prevId p) e ≡ false) b p lost kept))
     where
       lost : (i : PointId) → uncovers (prevId p) (entryWith b p i none) ≡ false
-      lost i = unfold uncovers in not-both (isId (prevId p) i)
+      lost i = unfold uncovers in not-and-self (isId (prevId p) i)
 
       kept : (k : Kept) → List·Memᴰ k b → uncovers (prevId p) (keptEntry b k) ≡ false
       kept k m = unfold uncovers keptEntry in rw (dag-there (k .point) (k .status), dag-id (k .point) (k .status)) (h k m)
@@ -622,7 +539,7 @@ mark-covers j (x ∷ b) k m = go (mark-covers j b k) (List·Memᴰ·cases-cons m
   where
     either : (a t : Bool) → (not (a || t) && t) ≡ false
     either true t = refl
-    either false t = not-both t
+    either false t = not-and-self t
 
     go : (List·Memᴰ k (mark j b) → (not (k .certified) && sameId j (k .point .id)) ≡ false) → (k ≡ markOne j x) ⊎ List·Memᴰ k (mark j b) →
         (not (k .certified) && sameId j (k .point .id)) ≡ false
@@ -632,11 +549,7 @@ mark-covers j (x ∷ b) k m = go (mark-covers j b k) (List·Memᴰ·cases-cons m
     go rec (inr n) = rec n
 
 pub prev-covers : (prev : Option PointId) (b : Book) → Covered prev (markPrev prev b)
-prev-covers none b k m = both-false (not (k .certified))
-  where
-    both-false : (a : Bool) → (a && false) ≡ false
-    both-false true = refl
-    both-false false = refl
+prev-covers none b k m = and-false (not (k .certified))
 prev-covers (some j) b k m = mark-covers j b k m
 
 -- ---- so demand 2 over the lists is the verdict

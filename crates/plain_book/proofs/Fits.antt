@@ -8,19 +8,19 @@ use mathlib.Core.List.{List}
 use lib.ListN.{length, getD}
 use lib.Dec.{eqb}
 use Rattle.base.specs.Base.{pick}
-use Rattle.base.proofs.Laws.{and-left, picked}
-use Rattle.parts.specs.Bytes.{idAt}
-use Rattle.parts.proofs.Laws.{Bytes}
-use Rattle.record.specs.Record.{rows, rowOf, nextAt, contentAt, startOf, contentOf, wellShaped}
+use Rattle.base.proofs.Option.{none-some}
+use Rattle.parts.specs.Bytes.{idAt, Bytes}
+use Rattle.parts.proofs.Laws.{at-bytes, big-fits}
+use Rattle.record.specs.Record.{rows, rowOf, nextAt, contentAt, startOf, contentOf}
 use Rattle.record.proofs.Laws.{content-least}
+use Rattle.write.proofs.Numbers.{little-fits}
 use Rattle.point.specs.Point.{PointId, Through, Includes, Witness, AnchorLink, Direct, Indirect, PointInfo, throughPeer, through}
-use Rattle.point.specs.Reading.{pointIdAt, readThrough, linkWith, readLink, readRole, mapsOk, pointWith, readPoint}
-use Rattle.point.specs.declared.data.PointRole.{PointRole}
-use Rattle.plain_book.proofs.Numbers.{part-bytes, big-fits, little-fits}
+use Rattle.point.specs.Reading.{pointIdAt, readThrough, linkWith, readLink, readPoint}
+use Rattle.point.proofs.Laws.{readable, parts-of}
 
 pub content-bytes : (s : List ℕ) (k : ℕ) → Bytes s → Bytes (contentOf s k)
 unfolding contentOf contentAt
-content-bytes s k b = part-bytes (nextAt s (startOf s k) - (startOf s k + 3)) s (startOf s k + 3) b
+content-bytes s k b = at-bytes (nextAt s (startOf s k) - (startOf s k + 3)) s (startOf s k + 3) b
 
 -- ---- a point
 
@@ -51,37 +51,28 @@ through-is s t e = go (eqb (getD s 1 0) 0) (eqb (getD s 1 0) 1) e
     go : (a b : Bool) → pick a (some (Includes (idAt s 2))) (pick b (some (Witness (idAt s 2))) none) ≡ some t → throughPeer t ≡ idAt s 2
     go true b h = let f : Includes (idAt s 2) ≡ t = cc in ap throughPeer (sym f)
     go false true h = let f : Witness (idAt s 2) ≡ t = cc in ap throughPeer (sym f)
-    go false false h = let z : _≡_ {A = ℕ} 0 1 = cc in absurd (omega arith)
+    go false false h = none-some h
 
 link-through : (s : List ℕ) (o : Option Through) (l : AnchorLink) → linkWith s o ≡ some l → o ≡ some (through l)
-link-through s none l e = let z : _≡_ {A = ℕ} 0 1 = cc in absurd (omega arith)
+link-through s none l e = none-some e
 link-through s (some t) l e = go (eqb (length s) 34 && eqb (getD s 0 0) 0) (eqb (length s) 102 && eqb (getD s 0 0) 1) e
   where
     go : (a b : Bool) → pick a (some (Direct t)) (pick b (some (Indirect (pointIdAt s 34) t)) none) ≡ some l → some t ≡ some (through l)
     go true b h = let f : Direct t ≡ l = cc in ap (λ (x : AnchorLink). some (through x)) f
     go false true h = let f : Indirect (pointIdAt s 34) t ≡ l = cc in ap (λ (x : AnchorLink). some (through x)) f
-    go false false h = let z : _≡_ {A = ℕ} 0 1 = cc in absurd (omega arith)
+    go false false h = none-some h
 
 link-fits : (s : List ℕ) (l : AnchorLink) → Bytes s → 34 ≤ length s → readLink s ≡ some l → throughPeer (through l) < 256 ^ 32
 unfolding readLink
 link-fits s l b h e = rw (through-is s (through l) (link-through s (readThrough s) l e)) (big-fits 32 s 2 b (omega arith))
 
--- what a point has of its record
-parts : (s : List ℕ) (a b : Option AnchorLink) (r : Option PointRole) (p : PointInfo) → pointWith s a b r ≡ some p →
-    (p .id ≡ pointIdAt (contentOf s 0) 0) × (a ≡ some (p .anchorProof)) × (b ≡ some (p .anchorTrigger))
-parts s none b r p e = let z : _≡_ {A = ℕ} 0 1 = cc in absurd (omega arith)
-parts s (some x) none r p e = let z : _≡_ {A = ℕ} 0 1 = cc in absurd (omega arith)
-parts s (some x) (some y) none p e = let z : _≡_ {A = ℕ} 0 1 = cc in absurd (omega arith)
-parts s (some x) (some y) (some r) p e = (cc, cc, cc)
-
 pub point-fits : (s : List ℕ) (p : PointInfo) → Bytes s → readPoint s ≡ some p → PointFits p
 unfolding readPoint rowOf rows
 point-fits s p b h =
-    let all = picked (wellShaped s && mapsOk s) _ p h in
-    let w = and-left (wellShaped s) (mapsOk s) (all .0) in
-    let m = parts s (readLink (contentOf s 5)) (readLink (contentOf s 6)) (readRole (contentOf s 7)) p (all .1) in
+    let w = readable s p h .shaped in
+    let m = parts-of s p h in
     record {
-      id = rw (m .0) (id-fits (contentOf s 0) (content-bytes s 0 b) (content-least s w 0 (omega arith)));
-      proof = link-fits (contentOf s 5) (p .anchorProof) (content-bytes s 5 b) (content-least s w 5 (omega arith)) (m .1);
-      trigger = link-fits (contentOf s 6) (p .anchorTrigger) (content-bytes s 6 b) (content-least s w 6 (omega arith)) (m .2);
+      id = rw (m .id) (id-fits (contentOf s 0) (content-bytes s 0 b) (content-least s w 0 (omega arith)));
+      proof = link-fits (contentOf s 5) (p .anchorProof) (content-bytes s 5 b) (content-least s w 5 (omega arith)) (m .proof);
+      trigger = link-fits (contentOf s 6) (p .anchorTrigger) (content-bytes s 6 b) (content-least s w 6 (omega arith)) (m .trigger);
     }

@@ -1,4 +1,4 @@
-pub mod Numbers
+pub mod Find
 pub mod Fits
 pub mod Clear
 pub mod Named

@@ -1,6 +1,5 @@
 -- The direct links of a point that passed verification name peers of its maps, so the book may keep it in states 0 to 2.
 use Prim.Native.Nat.{ℕ}
-use native.Mathlib.Omega.{arith}
 use mathlib.Core.Path.{_≡_, refl}
 use mathlib.Core.Bool.{Bool, true, false, not, _||_}
 use mathlib.Core.Option.{Option, none, some}
@@ -8,7 +7,9 @@ use mathlib.Core.List.{List, [], _∷_}
 use lib.Dec.{eqb}
 use borrow.Author.Tests.{eqb-true, not-false}
 use Rattle.base.specs.Base.{pick, concat, firstOf, isSome}
-use Rattle.base.proofs.Laws.{all-none, row-none}
+use Rattle.base.proofs.Tables.{all-none, row-none, first-none}
+use Rattle.base.proofs.Bool.{or-left, or-right}
+use Rattle.base.proofs.Impossible.{impossible}
 use Rattle.map.specs.Rows.{get}
 use Rattle.point.specs.Point.{Includes, Witness, AnchorLink, Direct, Indirect, PointInfo, digestSafe, prevDigest, inDomain}
 use Rattle.schedule.specs.Settings.{Settings}
@@ -17,16 +18,10 @@ use Rattle.reasons.specs.declared.ill_formed.StructureIssue.{StructureIssue}
 use Rattle.reasons.specs.declared.ill_formed.VerifyError.{VerifyError}
 use Rattle.verifier.specs.Verify.{linksOwn, isZero, genesisStructureRows, badLink, linkRows, structureRows, structure, genesisRows, aboveRows, wellFormedRows, peerRows, scheduled, newRows, faults, verify}
 use Rattle.entries.specs.Entries.{isNamed, isListable}
-use Rattle.mismatch.proofs.Rows.{or-left, or-right}
 
-first-none : {A : Type 0} (l : List A) → firstOf l ≡ none → l ≡ []
-unfolding firstOf
-first-none [] e = refl
-first-none (x ∷ l) e = let z : _≡_ {A = ℕ} 0 1 = cc in absurd (omega arith)
-
-no-issue : (o : Option StructureIssue) → structure o ≡ [] → o ≡ none
+pub no-issue : (o : Option StructureIssue) → structure o ≡ [] → o ≡ none
 no-issue none e = refl
-no-issue (some i) e = let z : _≡_ {A = ℕ} 0 1 = cc in absurd (omega arith)
+no-issue (some i) e = impossible (cc)
 
 module _ (p : PointInfo) where
   -- above genesis: PointData::check_non_genesis_structure found the peer
@@ -43,7 +38,7 @@ module _ (p : PointInfo) where
   named-own : (l : AnchorLink) → isZero (prevDigest p) ≡ true → linksOwn (p .id .author) l ≡ true → isNamed p l ≡ true
   unfolding linksOwn digestSafe prevDigest
   named-own (Direct (Includes x)) z h = rw (eqb-true x (p .id .author) h) (zero-there (get (p .includes) (p .id .author)) z)
-  named-own (Direct (Witness x)) z h = let z : _≡_ {A = ℕ} 0 1 = cc in absurd (omega arith)
+  named-own (Direct (Witness x)) z h = impossible (cc)
   named-own (Indirect to t) z h = refl
 
   above : (c : Settings) → concat (aboveRows c p) ≡ [] → (isNamed p (p .anchorProof) ≡ true) × (isNamed p (p .anchorTrigger) ≡ true)

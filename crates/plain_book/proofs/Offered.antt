@@ -3,7 +3,7 @@
 use Prim.Native.Nat.{ℕ, _+_, _-_, _≤_, _<_}
 use native.Mathlib.Omega.{arith}
 use mathlib.Core.Path.{_≡_, refl, ap, sym, _∙_, subst}
-use mathlib.Core.Logic.{_⊎_, inl, inr}
+use mathlib.Core.Logic.{inl, inr}
 use mathlib.Core.Bool.{Bool, true, false, not, _&&_}
 use mathlib.Core.Option.{Option, none, some}
 use mathlib.Core.List.{List, [], _∷_, _++_, append-nil}
@@ -12,8 +12,10 @@ use lib.Dec.{leb, ltb, eqb}
 use borrow.Author.Tests.{leb-true, le-leb, leb-false, ltb-false}
 use Rattle.verifier.specs.Validate.{ofResult}
 use Rattle.base.specs.Base.{pick, isSome}
-use Rattle.base.proofs.Laws.{and-right}
-use Rattle.parts.proofs.Laws.{Bytes}
+use Rattle.base.proofs.Bool.{and-right, or-left, or-right, and-both}
+use Rattle.base.proofs.Option.{unfound}
+use Rattle.base.proofs.Impossible.{impossible}
+use Rattle.parts.specs.Bytes.{Bytes}
 use Rattle.point.specs.Point.{PointId, PointInfo, prevId, inDomain}
 use Rattle.point.specs.Reading.{readPoint}
 use Rattle.schedule.specs.Settings.{Settings}
@@ -32,14 +34,12 @@ use Rattle.check_ill_formed.specs.WaveChecked.{waveChecked}
 use Rattle.check_ill_formed.specs.declared.WaveChecked.{WaveChecked}
 use Rattle.check_ill_formed.specs.declared.WaveChecked.the-variants as case-wave
 use Rattle.entries.specs.Entries.{isListable}
-use Rattle.mismatch.proofs.Rows.{or-left, or-right}
 use Rattle.judge.specs.Judge.{JudgeAnswer, Number, Given, Before, answered, needed, beforeWith, before}
 use Rattle.plain_book.specs.Kept.{Status, Valid, TransInvalid, Invalid, IllFormed, Book, find, markPrev}
 use Rattle.plain_book.specs.Lists.{directList, indirectList}
 use Rattle.plain_book.specs.Offer.{AreBytes, Offer, used, isFull, testedRoom, offerTested, markedBy, answerWith, keptAs, leftFrom, beforeIn, markedIn, answerIn, offerWith, offer, after}
 use Rattle.plain_book.specs.Calls.{IsOfferNumber}
 use Rattle.plain_book.proofs.Fits.{point-fits}
-use Rattle.plain_book.proofs.Clear.{and-both, unfound}
 use Rattle.plain_book.proofs.Named.{listable}
 use Rattle.plain_book.proofs.Roots.{Recorded, reason-fits, validated}
 use Rattle.plain_book.proofs.Bytes.{used-append, mark-used}
@@ -59,8 +59,8 @@ pub record Accepted (c : Settings) (len : ℕ) (b : Book) (o : Offer) (i : Input
 
 with-taken : (c : Settings) (s : Option Schedule) (p : Option PointInfo) (others : Bool) (size : ℕ) (i : Input) → testedWith (some c) s p others size ≡ taken i →
     (i .settings ≡ c) × (s ≡ some (i .schedule)) × (p ≡ some (i .point)) × (inDomain (i .point) ≡ true)
-with-taken c none p others size i h = let z : _≡_ {A = ℕ} 0 1 = cc in absurd (omega arith)
-with-taken c (some s) none others size i h = let z : _≡_ {A = ℕ} 0 1 = cc in absurd (omega arith)
+with-taken c none p others size i h = impossible (cc)
+with-taken c (some s) none others size i h = impossible (cc)
 with-taken c (some s) (some p) others size i h = go (inDomain p) refl others (ltb size 8160) h
   where
     j : Input
@@ -68,22 +68,22 @@ with-taken c (some s) (some p) others size i h = go (inDomain p) refl others (lt
 
     go : (d : Bool) → inDomain p ≡ d → (t u : Bool) → pick (not (d && t)) (refused 4) (pick u (refused 5) (taken j)) ≡ taken i →
         (i .settings ≡ c) × (some s ≡ some (i .schedule)) × (some p ≡ some (i .point)) × (inDomain (i .point) ≡ true)
-    go true e true true k = let z : _≡_ {A = ℕ} 0 1 = cc in absurd (omega arith)
+    go true e true true k = impossible (cc)
     go true e true false k =
         let f : j ≡ i = cc in
         subst (λ (x : Input). (x .settings ≡ c) × (some s ≡ some (x .schedule)) × (some p ≡ some (x .point)) × (inDomain (x .point) ≡ true)) f (refl, refl, refl, e)
-    go true e false u k = let z : _≡_ {A = ℕ} 0 1 = cc in absurd (omega arith)
-    go false e t u k = let z : _≡_ {A = ℕ} 0 1 = cc in absurd (omega arith)
+    go true e false u k = impossible (cc)
+    go false e t u k = impossible (cc)
 
 room-taken : (len : ℕ) (b : Book) (bytes : List ℕ) (t : Tested) (i : Input) → testedRoom len b bytes t ≡ taken i →
     (t ≡ taken i) × (isSome (find b (i .point .id)) ≡ false) × (isFull len b bytes ≡ false)
-room-taken len b bytes (refused n) i h = let z : _≡_ {A = ℕ} 0 1 = cc in absurd (omega arith)
+room-taken len b bytes (refused n) i h = impossible (cc)
 room-taken len b bytes (taken j) i h = go (isSome (find b (j .point .id))) refl (isFull len b bytes) refl h
   where
     go : (x : Bool) → isSome (find b (j .point .id)) ≡ x → (y : Bool) → isFull len b bytes ≡ y → pick x (refused 11) (pick y (refused 12) (taken j)) ≡ taken i →
         (taken j ≡ taken i) × (isSome (find b (i .point .id)) ≡ false) × (isFull len b bytes ≡ false)
-    go true e y f k = let z : _≡_ {A = ℕ} 0 1 = cc in absurd (omega arith)
-    go false e true f k = let z : _≡_ {A = ℕ} 0 1 = cc in absurd (omega arith)
+    go true e y f k = impossible (cc)
+    go false e true f k = impossible (cc)
     go false e false f k =
         let g : j ≡ i = cc in (k, subst (λ (x : Input). isSome (find b (x .point .id)) ≡ false) g e, f)
 
@@ -158,8 +158,8 @@ module _ (c : Settings) (bytes : List ℕ) (p : PointInfo) (b : Book) (h : Shape
   number-with : (x : Before) → BeforeSix x → (n : ℕ) → answerWith c p (markedBy p b x) x ≡ Number n →
       (n ≡ 6) × (markedBy p b x ++ leftFrom bytes p (answerWith c p (markedBy p b x) x) ≡ b)
   number-with (answered (Number m)) s n e = let f : m ≡ n = cc in (sym f ∙ s, append-nil b)
-  number-with (answered (Given v)) s n e = let z : _≡_ {A = ℕ} 0 1 = cc in absurd (omega arith)
-  number-with (needed required) s n e = let w = whole c required bytes p b h r d in let z : _≡_ {A = ℕ} 0 1 = cc in absurd (omega arith)
+  number-with (answered (Given v)) s n e = impossible (cc)
+  number-with (needed required) s n e = let w = whole c required bytes p b h r d in impossible (cc)
 
 module _ (c : Settings) (len : ℕ) (b : Book) (o : Offer) (h : Shape b) where
   -- an offer that gets a number: which one, and that it leaves the book as it was
@@ -335,7 +335,7 @@ after-shape c len b (o ∷ l) w h = after-shape c len (offer c len b o .book) l 
 
 -- ---- the entries fit the slice behind the settings
 
-marked-used : (p : PointInfo) (b : Book) (x : Before) → used (markedBy p b x) ≡ used b
+pub marked-used : (p : PointInfo) (b : Book) (x : Before) → used (markedBy p b x) ≡ used b
 marked-used p b (answered a) = refl
 marked-used p b (needed required) = go (prevId p)
   where

@@ -1,14 +1,14 @@
 -- An offer to any bytes never gets the number 1 nor one of 7 to 9; and one that gets a number changes no lent byte, neither the book's
 -- nor the peer buffer's.
 use Prim.Native.Nat.{ℕ}
-use native.Mathlib.Omega.{arith}
 use mathlib.Core.Path.{_≡_, refl, ap, sym, _∙_}
 use mathlib.Core.Logic.{_⊎_, inl, inr}
-use mathlib.Core.Bool.{Bool, true, false}
+use mathlib.Core.Bool.{Bool}
 use mathlib.Core.Option.{Option, none, some}
-use mathlib.Core.List.{List, []}
+use mathlib.Core.List.{List}
 use lib.ListN.{length}
-use Rattle.parts.specs.Bytes.{putAt}
+use Rattle.base.proofs.Impossible.{impossible}
+use Rattle.parts.specs.Bytes.{putAt, Bytes}
 use Rattle.point.specs.Point.{PointInfo}
 use Rattle.schedule.specs.Settings.{Settings}
 use Rattle.reasons.specs.declared.ill_formed.VerifyError.{VerifyError}
@@ -16,11 +16,11 @@ use Rattle.unknown.specs.Unknown.{peerBytes}
 use Rattle.verifier.specs.Verify.{verify}
 use Rattle.verify.specs.Call.{Input, Tested, refused, taken, verifyBuffer}
 use Rattle.check_ill_formed.specs.declared.WaveChecked.{WaveChecked}
-use Rattle.judge.specs.Judge.{JudgeAnswer, Number, Given, ofError, beforeWith, before}
+use Rattle.judge.specs.Judge.{Number, beforeWith, before}
 use Rattle.plain_book.specs.Kept.{Book}
-use Rattle.plain_book.specs.Offer.{Bytes, Offer, offerTested, answerWith, beforeIn, answerIn, markedIn, offerWith, offer}
+use Rattle.plain_book.specs.Offer.{Offer, offerTested, answerWith, beforeIn, answerIn, offerWith, offer}
 use Rattle.plain_book.specs.Layout.{bookBytes, Opened, readBook}
-use Rattle.plain_book.specs.Calls.{Result, offerTo, offerBytes, IsOfferNumber}
+use Rattle.plain_book.specs.Calls.{offerTo, offerBytes, IsOfferNumber}
 use Rattle.plain_book.proofs.Offered.{numbers, kept-by-number}
 use Rattle.plain_book.proofs.Canonical.{book-again}
 
@@ -28,7 +28,7 @@ use Rattle.plain_book.proofs.Canonical.{book-again}
 passed : (c : Settings) (p : PointInfo) (b : Book) (v : Option VerifyError) (g : Bool) (w : WaveChecked) (n : ℕ) →
     answerWith c p b (beforeWith v g w) ≡ Number n → v ≡ none
 passed c p b none g w n h = refl
-passed c p b (some e) g w n h = let z : _≡_ {A = ℕ} 0 1 = cc in absurd (omega arith)
+passed c p b (some e) g w n h = impossible (cc)
 
 -- then no peer is unknown
 unwritten : (i : Input) (v : Option VerifyError) (buffer : List ℕ) → v ≡ verify (i .settings) (i .schedule) (i .point) → v ≡ none →

@@ -8,6 +8,7 @@ use mathlib.Core.Option.{Option, none, some}
 use mathlib.Core.List.{List, [], _∷_}
 use lib.Dec.{leb, eqb}
 use Rattle.base.specs.Base.{pick, lastOf, isSome, isEmpty}
+use Rattle.base.proofs.Impossible.{impossible}
 use Rattle.point.specs.Point.{PointId, Through, Includes, Witness, PointInfo, throughPeer, through, anchorLink}
 use Rattle.point.specs.declared.data.AnchorStageRole.{AnchorStageRole}
 use Rattle.point.specs.declared.data.AnchorStageRole.the-variants.{Proof, Trigger}
@@ -30,7 +31,7 @@ pub record Root (i : PointId) (n : ℕ) : Type 0 where
 -- a number that counts a reason fits its byte
 pub reason-fits : (n : ℕ) → isSome (dagRound n) ≡ true → n < 256
 reason-fits n h = elim (decLt 20 n) [
-  | yes g ↦ (let f : isSome (dagRound n) ≡ false = rw (no-reason-above n g) in let z : _≡_ {A = ℕ} 0 1 = cc in absurd (omega arith))
+  | yes g ↦ (let f : isSome (dagRound n) ≡ false = rw (no-reason-above n g) in impossible (cc))
   | no g ↦ omega arith
 ]
 

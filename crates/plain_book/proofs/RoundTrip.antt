@@ -10,11 +10,13 @@ use lib.ListN.{length, getD, take, drop, replicate, length-append, length-replic
 use lib.Seq.{take-append-seam, take-at, drop-at, drop-append-add, getD-append-seam}
 use lib.Dec.{leb, eqb}
 use borrow.Author.Tests.{le-leb, leb-true, eqb-true}
-use Rattle.base.proofs.Laws.{and-left, and-right, picked, pick-true, pick-false}
+use Rattle.base.proofs.Bool.{and-left, and-right, pick-true, pick-false}
+use Rattle.base.proofs.Option.{picked}
 use Rattle.parts.specs.Bytes.{little, littleAt, bigAt, idAt, bigBytes, littleBytes}
 use Rattle.record.specs.Record.{fieldRow, fieldOk, lengthAt, rowOf, rows, startOf, recordEnd, wellShaped}
 use Rattle.record.proofs.Laws.{append-end, field-last, front-field}
 use Rattle.write.proofs.Laws.{bytes-length, big-bytes}
+use Rattle.write.proofs.Numbers.{little-back}
 use Rattle.point.specs.Point.{Through, Includes, Witness, PointInfo, throughPeer}
 use Rattle.point.specs.Reading.{pointIdAt, readPoint}
 use Rattle.point.proofs.Laws.{readable}
@@ -24,13 +26,12 @@ use Rattle.entries.specs.Entries.{isListable}
 use Rattle.plain_book.specs.Kept.{Status, Valid, TransInvalid, Invalid, IllFormed, Kept, Book, isTwice}
 use Rattle.plain_book.specs.Offer.{used}
 use Rattle.plain_book.specs.Layout.{flagByte, throughBytes, statusBytes, keptBytes, entriesBytes, bookBytes, isZeros, throughAt, rootAt, isRootOk, readStatus, readKept, KeptFront, frontWith, frontTo, keptFront, entriesWith, entriesFrom, openedWith, readBook}
-use Rattle.plain_book.proofs.Numbers.{little-back}
 use Rattle.plain_book.proofs.Roots.{Recorded}
 use Rattle.plain_book.proofs.Shape.{StatusShape, KeptShape, Shape}
 
 -- ---- tag 33
 
-through-length : (t : Through) → length (throughBytes t) ≡ 33
+pub through-length : (t : Through) → length (throughBytes t) ≡ 33
 through-length (Includes x) = ap suc (bytes-length 32 x)
 through-length (Witness x) = ap suc (bytes-length 32 x)
 

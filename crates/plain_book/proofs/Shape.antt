@@ -5,16 +5,16 @@ use Prim.Native.Nat.{ℕ, suc, _^_, _≤_, _<_}
 use native.Mathlib.Omega.{arith}
 use mathlib.Core.Path.{_≡_, refl, ap, sym, _∙_, subst}
 use mathlib.Core.Logic.{_⊎_, inl, inr}
-use mathlib.Core.Bool.{Bool, true, false, _&&_, _||_}
+use mathlib.Core.Bool.{Bool, true, false, _&&_}
 use mathlib.Core.Option.{Option, none, some}
 use mathlib.Core.List.{List, [], _∷_, _++_, List·Memᴰ, List·Memᴰ·head, List·Memᴰ·tail, List·Memᴰ·not-nil, List·Memᴰ·cases-cons, List·Memᴰ·append-cases, List·Memᴰ·eq-of-singleton}
 use lib.ListN.{length, length-append}
 use lib.Dec.{leb}
 use borrow.Author.Tests.{leb-true}
-use Rattle.base.specs.Base.{pick, isSome}
-use Rattle.base.proofs.Laws.{and-left, and-right}
-use Rattle.parts.proofs.Laws.{Bytes}
-use Rattle.point.specs.Point.{PointId, PointInfo, throughPeer, prevId, sameId, inDomain}
+use Rattle.base.specs.Base.{isSome}
+use Rattle.base.proofs.Bool.{and-left, and-right}
+use Rattle.parts.specs.Bytes.{Bytes}
+use Rattle.point.specs.Point.{PointId, PointInfo, throughPeer, prevId, inDomain}
 use Rattle.point.specs.Reading.{readPoint}
 use Rattle.point.proofs.Laws.{readable}
 use Rattle.schedule.specs.Settings.{Settings}
@@ -22,15 +22,15 @@ use Rattle.reasons.specs.Invalid.{InvalidDependency, dagRound}
 use Rattle.verifier.specs.Validate.{validate, ofResult}
 use Rattle.entries.specs.Entries.{isListable}
 use Rattle.mismatch.specs.Mismatch.{entriesIn}
-use Rattle.mismatch.proofs.Rows.{or-left, or-right, same-sym}
 use Rattle.judge.specs.Judge.{Given}
 use Rattle.plain_book.specs.Kept.{Status, Valid, TransInvalid, Invalid, IllFormed, Kept, Book, find, isTwice, markOne, mark, markPrev}
 use Rattle.plain_book.specs.Lists.{dagPoint, keptEntry, directList, indirectList}
 use Rattle.plain_book.specs.Offer.{isStateOk, overLists}
 use Rattle.plain_book.specs.Layout.{isKeepable}
 use Rattle.plain_book.proofs.Fits.{IdFits, PointFits, point-fits}
-use Rattle.plain_book.proofs.Clear.{All, unfound, once-distinct, each-direct, each-indirect, prev-covers, clear}
+use Rattle.plain_book.proofs.Clear.{All, once-distinct, each-direct, each-indirect, prev-covers, clear}
 use Rattle.plain_book.proofs.Roots.{Root, Rooted, RootedEntry}
+use Rattle.plain_book.proofs.Find.{once-more, marked-found}
 
 -- a root cause fits "root id, root's reason, map and peer it came through"
 pub record RootFits (d : InvalidDependency) : Type 0 where
@@ -92,19 +92,10 @@ module _ (i : PointId) where
       go rec (inl e) = subst KeptShape (sym e) (mark-one x (f x (List·Memᴰ·head refl)))
       go rec (inr n) = rec n
 
-  mark-found : (b : Book) (j : PointId) → isSome (find (mark i b) j) ≡ isSome (find b j)
-  unfolding mark markOne find
-  mark-found [] j = refl
-  mark-found (k ∷ b) j = go (sameId (k .point .id) j) (mark-found b j)
-    where
-      go : (t : Bool) → isSome (find (mark i b) j) ≡ isSome (find b j) → isSome (pick t (some (markOne i k)) (find (mark i b) j)) ≡ isSome (pick t (some k) (find b j))
-      go true h = refl
-      go false h = h
-
   mark-twice : (b : Book) → isTwice (mark i b) ≡ isTwice b
   unfolding mark markOne isTwice
   mark-twice [] = refl
-  mark-twice (k ∷ b) = rw (mark-found b (k .point .id), mark-twice b)
+  mark-twice (k ∷ b) = rw (marked-found i b (k .point .id), mark-twice b)
 
   mark-length : (b : Book) → length (mark i b) ≡ length b
   unfolding mark
@@ -117,7 +108,7 @@ module _ (prev : Option PointId) (b : Book) where
     where
       go : (o : Option PointId) → isSome (find (markPrev o b) j) ≡ isSome (find b j)
       go none = refl
-      go (some i) = mark-found i b j
+      go (some i) = marked-found i b j
 
   pub prev-length : length (markPrev prev b) ≡ length b
   prev-length = go prev
@@ -135,33 +126,10 @@ module _ (prev : Option PointId) (b : Book) where
 
 -- ---- a new entry keeps the shape
 
-find-append : (b : Book) (k : Kept) (i : PointId) → find b i ≡ none → sameId (k .point .id) i ≡ false → find (b ++ (k ∷ [])) i ≡ none
-unfolding find
-find-append [] k i h g = rw g
-find-append (x ∷ b) k i h g = go (sameId (x .point .id) i) (find-append b k i) h
-  where
-    go : (t : Bool) → (find b i ≡ none → sameId (k .point .id) i ≡ false → find (b ++ (k ∷ [])) i ≡ none) → pick t (some x) (find b i) ≡ none →
-        pick t (some x) (find (b ++ (k ∷ [])) i) ≡ none
-    go true rec e = let z : _≡_ {A = ℕ} 0 1 = cc in absurd (omega arith)
-    go false rec e = rec e g
-
-append-twice : (b : Book) (k : Kept) → isTwice b ≡ false → find b (k .point .id) ≡ none → isTwice (b ++ (k ∷ [])) ≡ false
-unfolding isTwice find
-append-twice [] k h g = refl
-append-twice (x ∷ b) k h g =
-    go (sameId (x .point .id) (k .point .id)) refl (append-twice b k (or-right (isSome (find b (x .point .id))) (isTwice b) h)) g
-  where
-    go : (t : Bool) → sameId (x .point .id) (k .point .id) ≡ t → (find b (k .point .id) ≡ none → isTwice (b ++ (k ∷ [])) ≡ false) → pick t (some x) (find b (k .point .id)) ≡ none →
-        (isSome (find (b ++ (k ∷ [])) (x .point .id)) || isTwice (b ++ (k ∷ []))) ≡ false
-    go true e rec f = let z : _≡_ {A = ℕ} 0 1 = cc in absurd (omega arith)
-    go false e rec f =
-        let new = unfound (find b (x .point .id)) (or-left (isSome (find b (x .point .id))) (isTwice b) h) in
-        rw (find-append b k (x .point .id) new (same-sym (k .point .id) (x .point .id) ∙ e)) (rec f)
-
 pub append-shape : (b : Book) (k : Kept) → Shape b → KeptShape k → find b (k .point .id) ≡ none → length b < 4096 → Shape (b ++ (k ∷ []))
 append-shape b k h s new few = record {
   entries = λ x m. either x (List·Memᴰ·append-cases b m);
-  once = append-twice b k (h .once) new;
+  once = once-more b k (h .once) new;
   few = rw (length-append b (k ∷ [])) (omega arith);
 }
   where

@@ -7,6 +7,7 @@ use mathlib.Core.List.{List, [], _∷_}
 use lib.ListN.{length}
 use lib.Dec.{ltb}
 use Rattle.base.specs.Base.{pick}
+use Rattle.parts.specs.Limits.{entriesStart, longestBook}
 use Rattle.schedule.specs.Settings.{Settings, readSettings}
 use Rattle.judge.specs.Judge.{JudgeAnswer, Number}
 use Rattle.plain_book.specs.Offer.{Offer, Outcome, offer}
@@ -16,7 +17,7 @@ use Rattle.plain_book.specs.Layout.{bookBytes, Opened, readBook}
 
 abbrev pub openNumberWith : Option Settings → ℕ → ℕ
 openNumberWith none len = 1
-openNumberWith (some c) len = pick (ltb len 47 || ltb 16777216 len) 5 0
+openNumberWith (some c) len = pick (ltb len entriesStart || ltb longestBook len) 5 0
 
 unfoldable pub openNumber : List ℕ → ℕ → ℕ
 unfolding readSettings

@@ -8,6 +8,7 @@ use lib.ListN.{length, getD, take, drop, replicate}
 use lib.Dec.{leb, eqb}
 use Rattle.base.specs.Base.{pick, isSome}
 use Rattle.parts.specs.Bytes.{idAt, bigBytes, littleBytes}
+use Rattle.parts.specs.Limits.{firstRound, lastRound, settingsLength, entriesStart, tag33Length, mostKept, longestBook}
 use Rattle.record.specs.Record.{fieldRow, fieldOk, recordEnd}
 use Rattle.point.specs.Point.{PointId, Through, Includes, Witness, PointInfo, inDomain}
 use Rattle.point.specs.Reading.{pointIdAt, readPoint}
@@ -54,7 +55,7 @@ entriesBytes (k ∷ b) = keptBytes k ++ entriesBytes b
 -- a book in a slice so long, its 47 bytes of settings first
 unfoldable pub bookBytes : List ℕ → ℕ → Book → List ℕ
 unfolding entriesBytes used
-bookBytes settings len b = settings ++ (entriesBytes b ++ replicate (len - 47 - used b) 0)
+bookBytes settings len b = settings ++ (entriesBytes b ++ replicate (len - entriesStart - used b) 0)
 
 -- ---- what bytes mean; those that mean no book are number 10
 
@@ -72,8 +73,8 @@ rootAt t = record { to = pointIdAt t 3; reason = getD t 71 0; through = throughA
 unfoldable pub isRootOk : List ℕ → Bool
 unfolding pointIdAt dagRound
 isRootOk t =
-    leb 4 (pointIdAt t 3 .round)
-    && (leb (pointIdAt t 3 .round) 2147483647
+    leb firstRound (pointIdAt t 3 .round)
+    && (leb (pointIdAt t 3 .round) lastRound
     && (isSome (dagRound (getD t 71 0))
     && leb (getD t 72 0) 1))
 
@@ -118,7 +119,7 @@ sized n (some k) = some (record { kept = k; size = n })
 abbrev pub frontWith : List ℕ → ℕ → Option PointInfo → Option KeptFront
 frontWith s n none = none
 frontWith s n (some q) =
-    pick (fieldOk (fieldRow 33 105 105) s n) (sized (n + 108) (readKept (take n s) q (take 105 (drop (n + 3) s)))) none
+    pick (fieldOk (fieldRow 33 105 105) s n) (sized (n + tag33Length) (readKept (take n s) q (take 105 (drop (n + 3) s)))) none
 
 abbrev pub frontTo : List ℕ → Option ℕ → Option KeptFront
 frontTo s none = none
@@ -161,4 +162,6 @@ openedWith s (some c) (some b) = pick (isTwice b) none (some (record { bytes = s
 unfoldable pub readBook : List ℕ → Option Opened
 unfolding readSettings entriesFrom isTwice
 readBook s =
-    pick (leb (length s) 16777216) (openedWith (take 47 s) (readSettings (take 47 s)) (entriesFrom 4096 (drop 47 s))) none
+    pick (leb (length s) longestBook)
+    (openedWith (take settingsLength s) (readSettings (take settingsLength s)) (entriesFrom mostKept (drop entriesStart s)))
+    none

@@ -1,12 +1,14 @@
 -- What an offer does to the plain book (document 01, "The book"): "It is fed each offer's schedule, leader flag, record and peer
 -- buffer alone, and gives the table's number, or demand 2's verdict, reason and unknown peers over the lists built of its entries".
-use Prim.Native.Nat.{ℕ, _+_, _-_, _<_}
+use Prim.Native.Nat.{ℕ, _+_, _-_}
 use mathlib.Core.Bool.{Bool, true, false, _&&_, _||_}
 use mathlib.Core.Option.{some}
 use mathlib.Core.List.{List, [], _∷_, _++_}
-use lib.ListN.{length, getD}
+use lib.ListN.{length}
 use lib.Dec.{leb, ltb, eqb}
 use Rattle.base.specs.Base.{pick, isSome}
+use Rattle.parts.specs.Bytes.{Bytes}
+use Rattle.parts.specs.Limits.{firstRound, lastRound, entriesStart, tag33Length, mostKept}
 use Rattle.point.specs.Point.{PointInfo, prevId}
 use Rattle.point.specs.Reading.{readPoint}
 use Rattle.schedule.specs.Settings.{Settings}
@@ -35,12 +37,12 @@ pub record Offer : Type 0 where
 -- the bytes that the entries take: "the point record and tag 33 (105 bytes)", which has 3 bytes before its content
 unfoldable pub used : Book → ℕ
 used [] = 0
-used (k ∷ b) = length (k .bytes) + 108 + used b
+used (k ∷ b) = length (k .bytes) + tag33Length + used b
 
 -- 12: "4,096 entries, or record plus 108 bytes exceeds the rest" of a slice so long
 unfoldable pub isFull : ℕ → Book → List ℕ → Bool
 unfolding used
-isFull len b bytes = leb 4096 (length b) || ltb (len - 47 - used b) (length bytes + 108)
+isFull len b bytes = leb mostKept (length b) || ltb (len - entriesStart - used b) (length bytes + tag33Length)
 
 abbrev pub testedRoom : ℕ → Book → List ℕ → Tested → Tested
 testedRoom len b bytes (refused n) = refused n
@@ -66,7 +68,7 @@ markedBy p b (needed required) = markPrev (prevId p) b
 abbrev pub isStateOk : DagPoint → Bool
 isStateOk (dag.Valid q) = isListable q
 isStateOk (dag.TransInvalid q root n) =
-    isListable q && (leb 4 (root .round) && (leb (root .round) 2147483647 && isSome (dagRound n)))
+    isListable q && (leb firstRound (root .round) && (leb (root .round) lastRound && isSome (dagRound n)))
 isStateOk (dag.Invalid q n) = isListable q && isSome (dagRound n)
 isStateOk (dag.IllFormed i n) = leb 1 n && leb n 16
 isStateOk (dag.NotFound i) = true
@@ -156,10 +158,6 @@ unfoldable pub buffers : Settings → ℕ → Book → List Offer → List (List
 unfolding offer
 buffers c len b [] = []
 buffers c len b (o ∷ l) = offer c len b o .peers ∷ buffers c len (offer c len b o .book) l
-
--- a byte is below 256
-abbrev pub Bytes : List ℕ → Type 0
-Bytes s = (k : ℕ) → getD s k 0 < 256
 
 -- the records of all offers are bytes, as those of every call are
 abbrev pub AreBytes : List Offer → Type 0

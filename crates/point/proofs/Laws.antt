@@ -7,13 +7,13 @@ use mathlib.Core.Option.{Option, none, some}
 use mathlib.Core.List.{List}
 use lib.ListN.{length}
 use Rattle.base.specs.Base.{pick}
-use Rattle.base.proofs.Laws.{picked}
+use Rattle.base.proofs.Option.{picked, none-some}
 use Rattle.map.specs.Rows.{Pair, peersOf, pairsOf, peers, rising, wellRowed}
 use Rattle.map.proofs.Laws.{peersOf-length, pairsOf-length, peers-pairsOf, wellRowed-rising, wellRowed-whole}
 use Rattle.record.specs.Record.{rows, rowOf, contentOf, wellShaped}
 use Rattle.record.proofs.Laws.{content-greatest}
 use Rattle.point.specs.Point.{PointId, Through, AnchorLink, PointInfo, throughRound, throughPeer, digestSafe, isAnchorStage, through, anchorLink, orZero, source, target, top, anchor, isWaveLinkOk}
-use Rattle.point.specs.Reading.{readLink, readRole, mapsOk, pointWith, readPoint, pointOf, linkIn}
+use Rattle.point.specs.Reading.{pointIdAt, readLink, readRole, mapsOk, pointWith, readPoint, pointOf, linkIn}
 use Rattle.point.specs.declared.data.PointRole.{PointRole}
 use Rattle.point.specs.declared.data.PointRole.the-variants.{AnchorProof}
 use Rattle.point.specs.declared.data.AnchorStageRole.{AnchorStageRole}
@@ -53,13 +53,24 @@ set-of s l e w h =
     let n = wellRowed-whole 32 s w in
     record { are = e; rise = rw e (wellRowed-rising 32 s w); few = rw e (omega arith); whole = rw e (sym n) }
 
--- whatever its links and its role, a point's maps are parts of its record
-maps : (s : List ℕ) (a b : Option AnchorLink) (r : Option PointRole) (p : PointInfo) → pointWith s a b r ≡ some p →
-    (p .includes ≡ pairsOf (contentOf s 2)) × (p .witness ≡ pairsOf (contentOf s 3)) × (p .evidence ≡ peersOf 32 (contentOf s 4))
-maps s none b r p e = let z : _≡_ {A = ℕ} 0 1 = cc in absurd (omega arith)
-maps s (some x) none r p e = let z : _≡_ {A = ℕ} 0 1 = cc in absurd (omega arith)
-maps s (some x) (some y) none p e = let z : _≡_ {A = ℕ} 0 1 = cc in absurd (omega arith)
-maps s (some x) (some y) (some r) p e = (cc, cc, cc)
+-- what a point has of its record, whatever its links and its role
+pub record PartsOf (s : List ℕ) (a b : Option AnchorLink) (p : PointInfo) : Type 0 where
+  pub id : p .id ≡ pointIdAt (contentOf s 0) 0
+  pub includes : p .includes ≡ pairsOf (contentOf s 2)
+  pub witness : p .witness ≡ pairsOf (contentOf s 3)
+  pub evidence : p .evidence ≡ peersOf 32 (contentOf s 4)
+  pub proof : a ≡ some (p .anchorProof)
+  pub trigger : b ≡ some (p .anchorTrigger)
+
+parts-with : (s : List ℕ) (a b : Option AnchorLink) (r : Option PointRole) (p : PointInfo) → pointWith s a b r ≡ some p → PartsOf s a b p
+parts-with s none b r p e = none-some e
+parts-with s (some x) none r p e = none-some e
+parts-with s (some x) (some y) none p e = none-some e
+parts-with s (some x) (some y) (some r) p e = record { id = cc; includes = cc; witness = cc; evidence = cc; proof = cc; trigger = cc }
+
+pub parts-of : (s : List ℕ) (p : PointInfo) → readPoint s ≡ some p → PartsOf s (readLink (contentOf s 5)) (readLink (contentOf s 6)) p
+unfolding readPoint
+parts-of s p h = parts-with s _ _ (readRole (contentOf s 7)) p (picked (wellShaped s && mapsOk s) _ p h .1)
 
 pub readable : (s : List ℕ) (p : PointInfo) → readPoint s ≡ some p → Readable s p
 unfolding readPoint mapsOk rowOf rows
@@ -68,12 +79,12 @@ readable s p h =
     let w = and-eq-true-iff (wellShaped s) _ .0 (all .0) in
     let i = and-eq-true-iff (wellRowed 64 (contentOf s 2)) _ .0 (w .1) in
     let j = and-eq-true-iff (wellRowed 64 (contentOf s 3)) _ .0 (i .1) in
-    let m = maps s (readLink (contentOf s 5)) (readLink (contentOf s 6)) (readRole (contentOf s 7)) p (all .1) in
+    let m = parts-of s p h in
     record {
       shaped = w .0;
-      includes = map-of _ _ (m .0) (i .0) (content-greatest s (w .0) 2 (omega arith));
-      witness = map-of _ _ (m .1) (j .0) (content-greatest s (w .0) 3 (omega arith));
-      evidence = set-of _ _ (m .2) (j .1) (content-greatest s (w .0) 4 (omega arith));
+      includes = map-of _ _ (m .includes) (i .0) (content-greatest s (w .0) 2 (omega arith));
+      witness = map-of _ _ (m .witness) (j .0) (content-greatest s (w .0) 3 (omega arith));
+      evidence = set-of _ _ (m .evidence) (j .1) (content-greatest s (w .0) 4 (omega arith));
     }
 
 -- ---- steps of the code

@@ -6,6 +6,7 @@ use mathlib.Core.Option.{Option, none, some}
 use mathlib.Core.List.{List}
 use lib.Dec.{leb, ltb, eqb}
 use Rattle.base.specs.Base.{pick}
+use Rattle.parts.specs.Limits.{firstRound, lastRound}
 use Rattle.map.specs.Rows.{Pair, get}
 use Rattle.point.specs.declared.data.PointRole.{PointRole}
 use Rattle.point.specs.declared.data.PointRole.the-variants.{Regular, AnchorProof, AnchorTrigger, Genesis}
@@ -53,8 +54,8 @@ pub record PointInfo : Type 0 where
 -- "point .. rounds 4 to 2,147,483,647; times up to 2^63 − 1"
 unfoldable pub inDomain : PointInfo → Bool
 inDomain p =
-    leb 4 (p .id .round)
-    && (leb (p .id .round) 2147483647
+    leb firstRound (p .id .round)
+    && (leb (p .id .round) lastRound
     && (leb (p .time) 9223372036854775807
     && leb (p .anchorTime) 9223372036854775807))
 

@@ -72,10 +72,10 @@ pub fn is_in_domain(rec: &[u8], info: PointInfo) -> bool
     ensures { λ r. ⌜ r ≡ inDomain (pointOf (now (rec .entry)) info) ⌝ }
 {
     let id = info.id;
-    if id.round < 4 {
+    if id.round < parts::FIRST_ROUND {
         return false;
     }
-    if 2147483647 < id.round {
+    if parts::LAST_ROUND < id.round {
         return false;
     }
     if 9223372036854775807 < info.time {

@@ -2,15 +2,15 @@
 use Prim.Native.Nat.{ℕ, zero, suc, _<_}
 use native.Mathlib.Omega.{arith}
 use mathlib.Core.Path.{_≡_, refl, ap, sym, _∙_}
-use mathlib.Core.Bool.{Bool, true, false}
-use mathlib.Core.Option.{Option, none, some}
+use mathlib.Core.Bool.{true, false}
+use mathlib.Core.Option.{none, some}
 use mathlib.Core.List.{List, [], _∷_, _++_}
 use lib.ListN.{length, take, drop, take-append-drop}
 use lib.Seq.{drop-nil}
-use Rattle.base.specs.Base.{pick}
+use Rattle.base.proofs.Impossible.{impossible}
 use Rattle.point.specs.Point.{PointId, sameId}
 use Rattle.plain_book.specs.Kept.{Kept, Book, find}
-use Rattle.plain_book.proofs.Bytes.{once-around}
+use Rattle.plain_book.proofs.Find.{find-behind, once-around}
 use Rattle.index.specs.Index.{FoundAt}
 use Rattle.index.specs.declared.Place.the-variants.{At, Absent}
 use Rattle.read_book.specs.ReadBook.{Holds}
@@ -29,20 +29,9 @@ standing (k ∷ b) (suc j) lt = standing b j (omega arith)
 
 -- a place where an entry stands lies within the book
 pub inside : (b : Book) (j : ℕ) (k : Kept) (rest : Book) → drop j b ≡ k ∷ rest → j < length b
-inside [] j k rest e = let z : _≡_ {A = ℕ} 0 1 = cc (drop-nil {A = Kept} j) in absurd (omega arith)
+inside [] j k rest e = impossible (cc (drop-nil {A = Kept} j))
 inside (x ∷ b) zero k rest e = omega arith
 inside (x ∷ b) (suc j) k rest e = omega (arith, inside b j k rest e)
-
--- where a choice gives nothing its test fails
-passed : (t : Bool) (x : Kept) (o p q : Option Kept) → (o ≡ none → p ≡ q) → pick t (some x) o ≡ none → pick t (some x) p ≡ q
-passed true x o p q f h = let z : _≡_ {A = ℕ} 0 1 = cc in absurd (omega arith)
-passed false x o p q f h = f h
-
--- an id that the first entries don't have is looked for behind them
-pub find-behind : (front back : Book) (i : PointId) → find front i ≡ none → find (front ++ back) i ≡ find back i
-unfolding find
-find-behind [] back i h = refl
-find-behind (x ∷ front) back i h = passed (sameId (x .point .id) i) x (find front i) _ _ (find-behind front back i) h
 
 not-found : (b : Book) (i : PointId) → ((j : ℕ) (k : Kept) (rest : Book) → drop j b ≡ k ∷ rest → sameId (k .point .id) i ≡ false) → find b i ≡ none
 unfolding find

@@ -2,56 +2,40 @@
 use Prim.Native.Nat.{ℕ, zero, suc, _+_, _-_, _≤_, _<_}
 use native.Mathlib.Omega.{arith}
 use mathlib.Core.Path.{_≡_, refl, ap, sym, _∙_}
-use mathlib.Core.Bool.{Bool, true, false, _&&_}
+use mathlib.Core.Bool.{Bool, true, false}
 use mathlib.Core.Option.{Option, none, some}
 use mathlib.Core.List.{List, [], _∷_, _++_, append-nil}
 use lib.ListN.{length, getD, take, drop, set, length-append, length-take, length-drop}
-use lib.Seq.{take-append-le, take-append-seam, append-snoc, drop-nil, drop-drop, getD-drop, getD-set-same, getD-set-other, length-take-le, take-take}
+use lib.Seq.{take-append-le, take-append-seam, append-snoc, drop-nil, drop-drop, getD-drop, getD-set-same, getD-set-other, length-take-le}
 use lib.Dec.{eqb}
 use borrow.Author.Tests.{le-leb, lt-leb, eq-eqb, ne-eqb}
-use Rattle.base.specs.Base.{pick, isSome}
-use Rattle.base.proofs.Laws.{picked}
-use Rattle.parts.specs.Bytes.{bytesAt, littleAt, bigAt}
-use Rattle.record.specs.Record.{rows, rowOf, nextAt, contentAt, startOf, contentOf, wellShaped}
+use Rattle.base.specs.Base.{pick}
+use Rattle.base.proofs.Option.{none-some}
+use Rattle.base.proofs.Impossible.{impossible}
+use Rattle.record.specs.Record.{rows, rowOf, nextAt, contentAt, startOf, contentOf}
 use Rattle.record.proofs.Laws.{field}
-use Rattle.point.specs.Point.{PointInfo, AnchorLink, sameId}
-use Rattle.point.specs.Reading.{pointIdAt, readLink, readRole, mapsOk, pointWith, readPoint}
-use Rattle.point.specs.declared.data.PointRole.{PointRole}
-use Rattle.point.proofs.Laws.{readable}
+use Rattle.point.specs.Point.{PointInfo}
+use Rattle.point.specs.Reading.{pointIdAt, readPoint}
+use Rattle.point.proofs.Laws.{readable, parts-of}
+use Rattle.point.proofs.Ids.{same-refl, id-front, id-shift}
 use Rattle.schedule.specs.Settings.{Settings, readSettings}
-use Rattle.mismatch.proofs.Rows.{or-left, or-right, same-refl, same-sym}
 use Rattle.plain_book.specs.Kept.{Kept, Book, find, isTwice}
 use Rattle.plain_book.specs.Offer.{used}
 use Rattle.plain_book.specs.Layout.{isZeros, KeptFront, keptFront, bookThen, entriesWith, entriesFrom, openedWith, readBook}
-use Rattle.plain_book.proofs.Bytes.{used-append, once-around}
+use Rattle.plain_book.proofs.Bytes.{used-append}
+use Rattle.plain_book.proofs.Find.{once-around, once-more}
 use Rattle.index.specs.Index.{idOf, Index, FoundAt}
 use Rattle.index.specs.declared.Place.the-variants.{At, Absent}
 use Rattle.layout.specs.Values.{EntryTo}
 use Rattle.read_book.specs.ReadBook.{Holds, before, Reading, NoBook, IsRead}
-use Rattle.read_book.proofs.Laws.{inside, find-behind, found-kept, others}
+use Rattle.read_book.proofs.Laws.{inside, found-kept, absent-kept}
 
 -- ---- a book with one more entry
-
-unfound : (o : Option Kept) → isSome o ≡ false → o ≡ none
-unfound none h = refl
-unfound (some k) h = let z : _≡_ {A = ℕ} 0 1 = cc in absurd (omega arith)
-
--- no id stands twice, if the new one is none of the others
-once-more : (b : Book) (k : Kept) → isTwice b ≡ false → ((j : ℕ) (x : Kept) (rest : Book) → drop j b ≡ x ∷ rest → sameId (x .point .id) (k .point .id) ≡ false) →
-    isTwice (b ++ (k ∷ [])) ≡ false
-unfolding isTwice find
-once-more [] k h d = refl
-once-more (x ∷ b) k h d =
-    let new = unfound _ (or-left (isSome (find b (x .point .id))) (isTwice b) h) in
-    let other : sameId (k .point .id) (x .point .id) ≡ false = same-sym (k .point .id) (x .point .id) ∙ d 0 x b refl in
-    rw (find-behind b (k ∷ []) (x .point .id) new, other) (once-more b k (or-right (isSome (find b (x .point .id))) (isTwice b) h) (λ j. d (suc j)))
 
 -- an id that was found stands twice, whatever follows
 twice-with : (b : Book) (k x : Kept) (back : Book) → find b (k .point .id) ≡ some x → (t : Bool) → isTwice (b ++ k ∷ back) ≡ t → t ≡ true
 twice-with b k x back f true e = refl
-twice-with b k x back f false e =
-    let n = once-around (k .point .id) k back (same-refl (k .point .id)) b e .0 in
-    let z : _≡_ {A = ℕ} 0 1 = cc in absurd (omega arith)
+twice-with b k x back f false e = none-some (sym (once-around (k .point .id) k back (same-refl (k .point .id)) b e .0) ∙ f)
 
 twice : (b : Book) (k x : Kept) (back : Book) → find b (k .point .id) ≡ some x → isTwice (b ++ (k ∷ []) ++ back) ≡ true
 twice b k x back f = ap isTwice (append-snoc b k back) ∙ twice-with b k x back f (isTwice (b ++ k ∷ back)) refl
@@ -63,7 +47,7 @@ data Which (b : Book) (k : Kept) (j : ℕ) (x : Kept) : Type 0 where
 
 which : (b : Book) (k : Kept) (j : ℕ) (x : Kept) (rest : Book) → drop j (b ++ (k ∷ [])) ≡ x ∷ rest → Which b k j x
 which [] k zero x rest e = new refl (cc)
-which [] k (suc j) x rest e = let z : _≡_ {A = ℕ} 0 1 = cc (drop-nil {A = Kept} j) in absurd (omega arith)
+which [] k (suc j) x rest e = impossible (cc (drop-nil {A = Kept} j))
 which (y ∷ b) k zero x rest e = old b (let f : y ≡ x = cc in rw f)
 which (y ∷ b) k (suc j) x rest e = go (which b k j x rest e)
   where
@@ -73,42 +57,13 @@ which (y ∷ b) k (suc j) x rest e = go (which b k j x rest e)
 
 -- ---- the id of an entry stands behind the tag and the length of its record's first field
 
--- a part of a front is a part of the whole
-part-front : (e n at : ℕ) (s : List ℕ) → at + n ≤ e → bytesAt n (take e s) at ≡ bytesAt n s at
-part-front e n zero s h = take-take n e s (omega arith)
-part-front zero n (suc at) s h = absurd (omega arith)
-part-front (suc e) n (suc at) [] h = refl
-part-front (suc e) n (suc at) (x ∷ s) h = part-front e n at s (omega arith)
-
-id-front : (e at : ℕ) (s : List ℕ) → at + 68 ≤ e → pointIdAt (take e s) at ≡ pointIdAt s at
-unfolding pointIdAt littleAt bigAt
-id-front e at s h =
-    rw (part-front e 4 at s (omega arith), part-front e 32 (at + 4) s (omega arith), part-front e 32 (at + 36) s (omega arith))
-
-id-shift : (k at : ℕ) (s : List ℕ) → pointIdAt (drop k s) at ≡ pointIdAt s (k + at)
-unfolding pointIdAt littleAt bigAt
-id-shift k at s =
-    let e : k + at + 4 ≡ k + (at + 4) = omega arith in
-    let f : k + at + 36 ≡ k + (at + 36) = omega arith in
-    rw (drop-drop at k s, drop-drop (at + 4) k s, drop-drop (at + 36) k s, e, f)
-
-id-with : (s : List ℕ) (a b : Option AnchorLink) (r : Option PointRole) (p : PointInfo) → pointWith s a b r ≡ some p → p .id ≡ pointIdAt (contentOf s 0) 0
-id-with s none b r p e = let z : _≡_ {A = ℕ} 0 1 = cc in absurd (omega arith)
-id-with s (some x) none r p e = let z : _≡_ {A = ℕ} 0 1 = cc in absurd (omega arith)
-id-with s (some x) (some y) none p e = let z : _≡_ {A = ℕ} 0 1 = cc in absurd (omega arith)
-id-with s (some x) (some y) (some r) p e = cc
-
 module _ (s : List ℕ) (p : PointInfo) (h : readPoint s ≡ some p) where
-  id-in : p .id ≡ pointIdAt (contentOf s 0) 0
-  unfolding readPoint
-  id-in = id-with s (readLink (contentOf s 5)) (readLink (contentOf s 6)) (readRole (contentOf s 7)) p (picked (wellShaped s && mapsOk s) _ p h .1)
-
   record-id : (71 ≤ length s) × (p .id ≡ pointIdAt s 3)
   unfolding contentOf startOf contentAt rowOf rows
   record-id =
       let f = field s (readable s p h .shaped) 0 (omega arith) in
       let e : nextAt s 0 - 3 ≡ 68 = omega (arith, f .least, f .greatest, f .next) in
-      (omega (arith, f .least, f .end), id-in ∙ rw (e, id-front 68 0 (drop 3 s) (omega arith)) (id-shift 3 0 s))
+      (omega (arith, f .least, f .end), parts-of s p h .id ∙ rw (e, id-front 68 0 (drop 3 s) (omega arith)) (id-shift 3 0 s))
 
 -- ---- the entry at a place
 
@@ -167,7 +122,7 @@ ends-here (suc m) t h = rw (eq-eqb (getD t 0 0) 0 h)
 
 no-room : (t : List ℕ) → eqb (getD t 0 0) 0 ≡ false → entriesFrom 0 t ≡ none
 unfolding entriesFrom isZeros
-no-room [] h = let z : _≡_ {A = ℕ} 0 1 = cc in absurd (omega arith)
+no-room [] h = impossible (cc)
 no-room (x ∷ t) h = rw h
 
 module _ (m : ℕ) (t : List ℕ) (h : eqb (getD t 0 0) 0 ≡ false) where
@@ -267,7 +222,7 @@ module _ {s : List ℕ} {n end : ℕ} {at next heads : List ℕ} (r : Reading s 
           holds-more =
               record {
                 count = omega (arith, length-append (r .book) (k ∷ []), r .holds .count);
-                once = once-more (r .book) k (r .holds .once) (others (r .holds) (k .point .id) f);
+                once = once-more (r .book) k (r .holds .once) (absent-kept (r .holds) (k .point .id) f);
                 starts = λ j y rest e. stands j y rest e .start;
                 fronts = λ j y rest e. stands j y rest e .front;
                 ids = λ j y rest e. stands j y rest e .id;

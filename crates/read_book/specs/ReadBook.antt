@@ -5,6 +5,7 @@ use mathlib.Core.Bool.{false}
 use mathlib.Core.Option.{Option, none, some}
 use mathlib.Core.List.{List, [], _∷_}
 use lib.ListN.{length, getD, take, drop}
+use Rattle.parts.specs.Limits.{settingsLength, entriesStart, tag33Length, mostKept}
 use Rattle.schedule.specs.Settings.{Settings, settingsOf}
 use Rattle.index.specs.Index.{idOf, Index}
 use Rattle.plain_book.specs.Kept.{Kept, Book, isTwice}
@@ -21,9 +22,9 @@ use Rattle.read_book.specs.declared.ReadBook.the-variants as case-book
 pub record Holds (s : List ℕ) (b : Book) (n : ℕ) (at : List ℕ) : Type 0 where
   pub count : n ≡ length b
   pub once : isTwice b ≡ false
-  pub starts : (j : ℕ) (k : Kept) (rest : Book) → drop j b ≡ k ∷ rest → getD at j 0 ≡ 47 + used (take j b)
+  pub starts : (j : ℕ) (k : Kept) (rest : Book) → drop j b ≡ k ∷ rest → getD at j 0 ≡ entriesStart + used (take j b)
   pub fronts : (j : ℕ) (k : Kept) (rest : Book) → drop j b ≡ k ∷ rest
-      → keptFront (drop (getD at j 0) s) ≡ some (record { kept = k; size = length (k .bytes) + 108 })
+      → keptFront (drop (getD at j 0) s) ≡ some (record { kept = k; size = length (k .bytes) + tag33Length })
   pub ids : (j : ℕ) (k : Kept) (rest : Book) → drop j b ≡ k ∷ rest → idOf s at j ≡ k .point .id
 
 -- entries, and those that are read behind them
@@ -35,14 +36,14 @@ before (k ∷ b) o = bookThen k (before b o)
 pub record Reading (s : List ℕ) (n end : ℕ) (at next heads : List ℕ) : Type 0 where
   pub book : Book
   pub holds : Holds s book n at
-  pub ends : end ≡ 47 + used book
+  pub ends : end ≡ entriesStart + used book
   pub within : end ≤ length s
-  pub left : entriesFrom 4096 (drop 47 s) ≡ before book (entriesFrom (4096 - n) (drop end s))
+  pub left : entriesFrom mostKept (drop entriesStart s) ≡ before book (entriesFrom (mostKept - n) (drop end s))
   pub index : Index s n at next heads
 
 -- bytes whose entries do not read, or have an id twice: no book, whatever its settings
 abbrev pub NoBook : List ℕ → Type 0
-NoBook s = (c : Option Settings) → openedWith (take 47 s) c (entriesFrom 4096 (drop 47 s)) ≡ none
+NoBook s = (c : Option Settings) → openedWith (take settingsLength s) c (entriesFrom mostKept (drop entriesStart s)) ≡ none
 
 abbrev pub EntryRead : List ℕ → ℕ → List ℕ → List ℕ → List ℕ → ReadEntry → Type 0
 EntryRead s n at next heads (case-entry.Ends end) = Reading s (n + 1) end at next heads
@@ -58,7 +59,7 @@ pub record IsRead (s : List ℕ) (c : Settings) (n end : ℕ) (at next heads : L
   pub read : readBook s ≡ some opened
   pub settings : c ≡ opened .settings
   pub holds : Holds s (opened .book) n at
-  pub ends : end ≡ 47 + used (opened .book)
+  pub ends : end ≡ entriesStart + used (opened .book)
   pub index : Index s n at next heads
 
 abbrev pub BookRead : List ℕ → List ℕ → List ℕ → List ℕ → ReadBook → Type 0

@@ -8,6 +8,7 @@ ghost use mathlib.Core.Bool.{true, not};
 ghost use Prim.Native.Nat.{_≤_};
 ghost use lib.ListN.{length, getD, replicate};
 ghost use lib.Dec.{eqb};
+ghost use Rattle.parts.specs.Limits.{entriesStart, mostKept, longestBook};
 ghost use Rattle.read_book.specs.ReadBook.{Reading, EntryRead, EntriesRead, BookRead};
 
 // What a book says: its settings, how many entries it has, and where they end.
@@ -26,10 +27,6 @@ enum ReadEntry {
     Ends(usize),
     Unreadable,
 }
-
-const SETTINGS: usize = 47;
-
-const LONGEST: usize = 16777216;
 
 // Whether an entry begins at a place: a 0 or the book's end ends the entries.
 fn is_entry_at(book: &[u8], place: usize) -> bool
@@ -51,10 +48,10 @@ fn read_entry(
     heads: &mut [u16],
 ) -> ReadEntry
     requires { ⌜ Reading (now book) n place (now at) (now next) (now heads) ⌝ }
-    requires { ⌜ (length (now book) ≤ 16777216) × (not (eqb (getD (now book) place 0) 0) ≡ true) ⌝ }
+    requires { ⌜ (length (now book) ≤ longestBook) × (not (eqb (getD (now book) place 0) 0) ≡ true) ⌝ }
     ensures { λ r. ⌜ EntryRead (now (book .entry)) n (now (at .exit)) (now (next .exit)) (now (heads .exit)) r ⌝ }
 {
-    if n == index::MOST {
+    if n == parts::MOST_KEPT {
         return ReadEntry::Unreadable;
     }
     let End::At(size) = layout::kept_end(&book[place..]) else {
@@ -65,17 +62,17 @@ fn read_entry(
         return ReadEntry::Unreadable;
     };
     index::insert(book, n, place, at, next, heads);
-    let end = place + size + 108;
+    let end = place + size + parts::TAG33_LENGTH;
     ReadEntry::Ends(end)
 }
 
 fn read_entries(book: &[u8], at: &mut [u32], next: &mut [u16], heads: &mut [u16]) -> Entries
-    requires { ⌜ (47 ≤ length (now book)) × (length (now book) ≤ 16777216) ⌝ }
-    requires { ⌜ (length (now at) ≡ 4096) × ((length (now next) ≡ 4096) × (now heads ≡ replicate 4096 0)) ⌝ }
+    requires { ⌜ (entriesStart ≤ length (now book)) × (length (now book) ≤ longestBook) ⌝ }
+    requires { ⌜ (length (now at) ≡ mostKept) × ((length (now next) ≡ mostKept) × (now heads ≡ replicate mostKept 0)) ⌝ }
     ensures { λ r. ⌜ EntriesRead (now (book .entry)) (now (at .exit)) (now (next .exit)) (now (heads .exit)) r ⌝ }
 {
     let mut n = 0;
-    let mut end = SETTINGS;
+    let mut end = parts::ENTRIES_START;
     while is_entry_at(book, end) {
         let ReadEntry::Ends(behind) = read_entry(book, n, end, at, next, heads) else {
             return Entries::Unreadable;
@@ -87,16 +84,17 @@ fn read_entries(book: &[u8], at: &mut [u32], next: &mut [u16], heads: &mut [u16]
 }
 
 pub fn read_book(book: &[u8], at: &mut [u32], next: &mut [u16], heads: &mut [u16]) -> ReadBook
-    requires { ⌜ (length (now at) ≡ 4096) × ((length (now next) ≡ 4096) × (now heads ≡ replicate 4096 0)) ⌝ }
+    requires { ⌜ (length (now at) ≡ mostKept) × ((length (now next) ≡ mostKept) × (now heads ≡ replicate mostKept 0)) ⌝ }
     ensures { λ r. ⌜ BookRead (now (book .entry)) (now (at .exit)) (now (next .exit)) (now (heads .exit)) r ⌝ }
 {
-    if book.len() < SETTINGS {
+    if book.len() < parts::ENTRIES_START {
         return ReadBook::Unreadable;
     }
-    if LONGEST < book.len() {
+    if parts::LONGEST_BOOK < book.len() {
         return ReadBook::Unreadable;
     }
-    let ReadSettings::Settings(conf) = schedule::read_settings(&book[0..47]) else {
+    let ReadSettings::Settings(conf) = schedule::read_settings(&book[0..parts::SETTINGS_LENGTH])
+    else {
         return ReadBook::Unreadable;
     };
     let Entries::Entries(n, end) = read_entries(book, at, next, heads) else {

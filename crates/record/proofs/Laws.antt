@@ -11,8 +11,11 @@ use lib.Seq.{drop-cons, take-take, getD-take, length-take-le, take-length, take-
 use lib.Dec.{leb, eqb}
 use borrow.Author.Tests.{leb-true, eqb-true, le-leb, lt-leb, eq-eqb}
 use Rattle.base.specs.Base.{pick}
-use Rattle.base.proofs.Laws.{and-left, and-right, picked}
+use Rattle.base.proofs.Bool.{and-left, and-right}
+use Rattle.base.proofs.Option.{picked}
+use Rattle.base.proofs.Impossible.{impossible}
 use Rattle.parts.specs.Bytes.{bytesAt, littleAt}
+use Rattle.parts.proofs.Laws.{part-front}
 use Rattle.record.specs.declared.Row.{Row}
 use Rattle.record.specs.Record.{lengthAt, nextAt, contentAt, fieldOk, endFrom, startOf, contentOf, fieldRow, rows, rowOf, recordEnd, endsAt, wellShaped}
 
@@ -138,7 +141,7 @@ module _ (s : List ℕ) (e : ℕ) (h : recordEnd s ≡ some e) where
   end-within = omega (arith, end-is, start-within s 9)
 
 ends-at : (o : Option ℕ) (n : ℕ) → endsAt o n ≡ true → o ≡ some n
-ends-at none n h = let z : _≡_ {A = ℕ} 0 1 = cc in absurd (omega arith)
+ends-at none n h = impossible (cc)
 ends-at (some e) n h = ap some (eqb-true e n h)
 
 pub shaped-end : (s : List ℕ) → wellShaped s ≡ true → recordEnd s ≡ some (length s)
@@ -171,12 +174,6 @@ pub record Agree (e : ℕ) (s t : List ℕ) : Type 0 where
   pub same : take e s ≡ take e t
   pub in-left : e ≤ length s
   pub in-right : e ≤ length t
-
-part-front : (e n at : ℕ) (s : List ℕ) → at + n ≤ e → bytesAt n (take e s) at ≡ bytesAt n s at
-part-front e n zero s h = take-take n e s (omega arith)
-part-front zero n (suc at) s h = absurd (omega arith)
-part-front (suc e) n (suc at) [] h = refl
-part-front (suc e) n (suc at) (x ∷ s) h = part-front e n at s (omega arith)
 
 module _ (e : ℕ) (s t : List ℕ) (a : Agree e s t) where
   part-same : (n at : ℕ) → at + n ≤ e → bytesAt n t at ≡ bytesAt n s at

@@ -13,6 +13,7 @@ use lib.Seq.{getD-take, take-all, take-suc, take-suc-set, drop-at, drop-drop, dr
 use lib.Dec.{leb, ltb}
 use borrow.Author.Tests.{lt-ltb, le-ltb, le-leb, lt-leb, eq-eqb}
 use Rattle.base.specs.Base.{pick, isEmpty}
+use Rattle.base.proofs.Impossible.{impossible}
 use Rattle.parts.specs.Bytes.{bytesAt, littleAt}
 use Rattle.parts.proofs.Laws.{at-split, at-length}
 use Rattle.map.specs.Rows.{peersOf, rising, wellRowed}
@@ -246,7 +247,7 @@ not-empty s (x ∷ l) h = refl
 pub unread : (s : List ℕ) (r : code-read.ReadSchedule) → r ≡ unreadable → readSchedule s ≡ none → (readScheduleOf s r ≡ readSchedule s) × Handed s r
 unread s r e h =
     let f : r .readable ≡ false = rw e in
-    (rw (e, h), record { few = rw e (omega arith); entries = λ g. let z : _≡_ {A = ℕ} 0 1 = cc in absurd (omega arith); nothing = λ g. e })
+    (rw (e, h), record { few = rw e (omega arith); entries = λ g. impossible (cc); nothing = λ g. e })
 
 -- ---- first rounds, by neighbours
 

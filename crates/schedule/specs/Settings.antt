@@ -8,6 +8,7 @@ use lib.Dec.{leb, eqb}
 use Rattle.base.specs.Base.{pick}
 use Rattle.parts.specs.Bytes.{idAt, littleAt}
 use Rattle.parts.specs.Parts.{number}
+use Rattle.parts.specs.Limits.{firstRound, lastRound, settingsLength}
 use Rattle.record.specs.Record.{fieldRow, fieldOk}
 use Rattle.schedule.specs.declared.settings.Settings as code-settings
 use Rattle.schedule.specs.declared.settings.ReadSettings as code-read
@@ -37,8 +38,8 @@ settingsIn s =
 -- "all but the digest and sticky_anchors at least 1"; "genesis .. rounds 4 to 2,147,483,647"
 unfoldable pub inLimits : Settings → Bool
 inLimits c =
-    leb 4 (c .genesisRound)
-    && (leb (c .genesisRound) 2147483647
+    leb firstRound (c .genesisRound)
+    && (leb (c .genesisRound) lastRound
     && (leb 1 (c .payloadBatchBytes)
     && (leb 1 (c .clockSkewMillis)
     && leb 1 (c .commitHistoryRounds))))
@@ -47,7 +48,7 @@ inLimits c =
 unfoldable pub readSettings : List ℕ → Option Settings
 unfolding fieldOk inLimits
 readSettings s =
-    pick (eqb (length s) 47 && (fieldOk (fieldRow 32 44 44) s 0 && inLimits (settingsIn s)))
+    pick (eqb (length s) settingsLength && (fieldOk (fieldRow 32 44 44) s 0 && inLimits (settingsIn s)))
     (some (settingsIn s))
     none
 

@@ -28,10 +28,10 @@ const SETTINGS: Row = Row {
 fn are_in_limits(c: Settings) -> bool
     ensures { λ r. ⌜ r ≡ inLimits (settingsOf c) ⌝ }
 {
-    if c.genesis_round < 4 {
+    if c.genesis_round < parts::FIRST_ROUND {
         return false;
     }
-    if 2147483647 < c.genesis_round {
+    if parts::LAST_ROUND < c.genesis_round {
         return false;
     }
     if c.payload_batch_bytes < 1 {
@@ -47,7 +47,7 @@ fn are_in_limits(c: Settings) -> bool
 pub fn read_settings(s: &[u8]) -> ReadSettings
     ensures { λ r. ⌜ readSettingsOf r ≡ readSettings (now (s .entry)) ⌝ }
 {
-    if s.len() != 47 {
+    if s.len() != parts::SETTINGS_LENGTH {
         return ReadSettings::Unusable;
     }
     if !record::field_ok(s, 0, SETTINGS) {

@@ -1,24 +1,25 @@
 -- Laws of unknown peers: which they are, their bytes in the buffer, and the walk of rows beside scheduled peers that writes them.
 use Prim.Native.Nat.{ℕ, suc, _+_, _*_, _≤_, _<_}
-use native.Mathlib.Nat.{add-zero}
 use native.Mathlib.Numerals.{add-one}
 use native.Mathlib.Omega.{arith}
 use native.Mathlib.Decide.{decLt}
 use mathlib.Core.Path.{_≡_, refl, ap, sym, _∙_}
 use mathlib.Core.List.{List, [], _∷_, _++_, append-assoc, append-nil}
 use mathlib.Core.Bool.{Bool, true, false, and-eq-true-iff}
-use lib.ListN.{length, getD, take, length-append, take-append-drop}
+use lib.ListN.{length, getD, take, length-append}
 use lib.Seq.{take-suc, take-all}
 use lib.Dec.{ltb}
 use borrow.Author.Tests.{ltb-true, lt-ltb, le-ltb}
 use Rattle.base.specs.Base.{pick}
+use Rattle.base.proofs.Impossible.{impossible}
 use Rattle.parts.specs.Bytes.{bigBytes, putAt}
 use Rattle.parts.specs.Parts.{order}
 use Rattle.parts.specs.declared.Order.the-variants.{Less, Same, More}
 use Rattle.parts.proofs.Laws.{order-less, order-same, order-more}
-use Rattle.write.proofs.Laws.{bytes-length, put-length, put-put}
+use Rattle.write.proofs.Laws.{bytes-length, put-length, put-put, put-nothing}
 use Rattle.map.specs.Rows.{rising, has}
 use Rattle.map.proofs.Laws.{Nowhere, rising-less, find-rising, find-nowhere}
+use Rattle.map.proofs.Pairs.{rising-tail}
 use Rattle.unknown.specs.Unknown.{unknownIn, peerBytes, orderAt}
 
 -- ---- membership
@@ -45,13 +46,13 @@ module _ (k : List ℕ) (j x : ℕ) where
   pub orderAt-less : orderAt k j x ≡ Less → (j < length k) × (getD k j 0 < x)
   orderAt-less e = elim (decLt j (length k)) [
     | yes h ↦ (h, order-less _ _ (sym (orderAt-inside h) ∙ e))
-    | no h ↦ (let p = orderAt-past (omega arith) in let z : _≡_ {A = ℕ} 0 1 = cc in absurd (omega arith))
+    | no h ↦ (let p = orderAt-past (omega arith) in impossible (cc))
   ]
 
   pub orderAt-same : orderAt k j x ≡ Same → (j < length k) × (getD k j 0 ≡ x)
   orderAt-same e = elim (decLt j (length k)) [
     | yes h ↦ (h, order-same _ _ (sym (orderAt-inside h) ∙ e))
-    | no h ↦ (let p = orderAt-past (omega arith) in let z : _≡_ {A = ℕ} 0 1 = cc in absurd (omega arith))
+    | no h ↦ (let p = orderAt-past (omega arith) in impossible (cc))
   ]
 
   pub orderAt-more : orderAt k j x ≡ More → j < length k → x < getD k j 0
@@ -99,16 +100,11 @@ rising-from k x (y ∷ l) r =
     go true h e f = e
     go false h e f = rw h f
 
-rest-rises : (x : ℕ) (l : List ℕ) → rising (x ∷ l) ≡ true → rising l ≡ true
-unfolding rising
-rest-rises x [] r = refl
-rest-rises x (y ∷ l) r = and-eq-true-iff (ltb x y) (rising (y ∷ l)) .0 r .1
-
 -- the unknown among rising peers rise
 pub unknown-rising : (k l : List ℕ) → rising l ≡ true → rising (unknownIn k l) ≡ true
 unfolding unknownIn rising
 unknown-rising k [] r = refl
-unknown-rising k (x ∷ l) r = go (has k x) (unknown-rising k l (rest-rises x l r)) (rising-from k x l r)
+unknown-rising k (x ∷ l) r = go (has k x) (unknown-rising k l (rising-tail x l r)) (rising-from k x l r)
   where
     go : (t : Bool) → rising (unknownIn k l) ≡ true → rising (x ∷ unknownIn k l) ≡ true → rising (pick t (unknownIn k l) (x ∷ unknownIn k l)) ≡ true
     go true e f = e
@@ -138,11 +134,6 @@ pub peerBytes-length : (l : List ℕ) → length (peerBytes l) ≡ 32 * length l
 unfolding peerBytes
 peerBytes-length [] = refl
 peerBytes-length (x ∷ l) = rw (length-append (bigBytes 32 x) (peerBytes l), bytes-length 32 x, peerBytes-length l) (omega arith)
-
--- nothing is written
-pub put-nothing : (l : List ℕ) (at : ℕ) → putAt l at [] ≡ l
-unfolding putAt
-put-nothing l at = rw (append-nil (take at l), add-zero at) (take-append-drop at l)
 
 -- where no peer is unknown the buffer is as it was
 pub put-none : (old l : List ℕ) → length l ≡ 0 → putAt old 0 (peerBytes l) ≡ old

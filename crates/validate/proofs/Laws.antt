@@ -1,23 +1,24 @@
 -- Laws for callers: judging entry by entry gives what `overLists` says of whole lists, and a point that is not invalid passed every
 -- check of every entry.
-use Prim.Native.Nat.{ℕ, zero, suc}
-use native.Mathlib.Omega.{arith}
+use Prim.Native.Nat.{ℕ}
 use mathlib.Core.Path.{_≡_, refl, sym, ap, _∙_, subst}
 use mathlib.Core.Logic.{_⊎_, inl, inr}
 use mathlib.Core.Bool.{Bool, true, false, not, _&&_, _||_}
 use mathlib.Core.Option.{Option, none, some}
 use mathlib.Core.List.{List, [], _∷_, _++_, List·Memᴰ, List·Memᴰ·head, List·Memᴰ·tail, List·Memᴰ·not-nil, List·Memᴰ·cases-cons}
-use lib.ListN.{length, drop}
-use lib.Dec.{eqb}
 use Rattle.base.specs.Base.{pick, iff, concat, lastOf, isSome, isEmpty}
-use Rattle.base.proofs.Laws.{and-right, picked, append-none, AllNone, last-none}
+use Rattle.base.proofs.Bool.{and-right}
+use Rattle.base.proofs.Lists.{append-none}
+use Rattle.base.proofs.Tables.{last-none, AllNone}
+use Rattle.base.proofs.Impossible.{impossible}
 use Rattle.point.specs.Point.{PointInfo}
 use Rattle.point.specs.declared.data.AnchorStageRole.{AnchorStageRole}
 use Rattle.schedule.specs.Settings.{Settings}
 use Rattle.reasons.specs.Invalid.{InvalidReason, DependencyRoundDropped, InvalidDependency}
 use Rattle.verifier.specs.DagPoint.{DagPoint, Valid, TransInvalid, Invalid, IllFormed, NotFound, Dropped, depView, Entry, IndirectEntry, entryId, isDropped, PointView, pointView}
 use Rattle.verifier.specs.Validate.{pointRows, Taken, asDependency, asPrevPoint, asVersion, aside, taken, dependencyTrail, entryTrailAs, entryTrail, directTrail, indirectPointRows, indirectEntryTrail, indirectTrail, entryRecord, join, directRecord, indirectRecord, resultWith, overLists, presenceReason, validateWith, validate}
-use Rattle.entries.specs.Entries.{Listed, readEntry, isInOrder, listThen, listWith, listFrom, directThen, directs, indirectThen, indirects}
+use Rattle.entries.specs.Entries.{Listed, isInOrder, listFrom, directThen, directs, indirectThen, indirects}
+use Rattle.entries.proofs.Order.{inOrder, in-order, behind-target}
 use Rattle.validate.specs.Validated.{Judging, laterOf, orDropped, start, directStep, indirectStep, directFold, targetStep, indirectFold, resultOf}
 use Rattle.validate.specs.Passed.{hasReason, AllEmpty, RowsNone, EntryRowsNone, TargetRowsNone, Passed}
 
@@ -187,63 +188,6 @@ unfolding directStep indirectStep pointView
 listedFold c required p j [] = j
 listedFold c required p j (x ∷ l) = listedFold c required p (listedStep (x .aim) c required p j (x .entry)) l
 
--- no direct entry stands behind an indirect one
-unfoldable inOrder : Bool → List Listed → Bool
-inOrder behind [] = true
-inOrder behind (x ∷ l) = isInOrder behind (x .aim) && inOrder (isSome (x .aim)) l
-
-order-then : (behind : Bool) (x : Listed) (o : Option (List Listed)) (l : List Listed) →
-    ((m : List Listed) → o ≡ some m → inOrder (isSome (x .aim)) m ≡ true) →
-    isInOrder behind (x .aim) ≡ true →
-    listThen x o ≡ some l →
-    inOrder behind l ≡ true
-unfolding inOrder
-order-then behind x none l f b h = let z : _≡_ {A = ℕ} 0 1 = cc in absurd (omega arith)
-order-then behind x (some m) l f b h = let e : l ≡ x ∷ m = cc in rw (e, b) (f m refl)
-
-order-with : (n : ℕ) (behind : Bool) (s : List ℕ) (o : Option Listed) (l : List Listed) →
-    ((next : Bool) (rest : List ℕ) (m : List Listed) → listFrom n next rest ≡ some m → inOrder next m ≡ true) →
-    listWith (listFrom n) behind s o ≡ some l →
-    inOrder behind l ≡ true
-order-with n behind s none l f h = let z : _≡_ {A = ℕ} 0 1 = cc in absurd (omega arith)
-order-with n behind s (some x) l f h =
-    let rest = listFrom n (isSome (x .aim)) (drop (x .size) s) in
-    let k = picked (isInOrder behind (x .aim)) (listThen x rest) l h in
-    order-then behind x rest l (f (isSome (x .aim)) (drop (x .size) s)) (k .0) (k .1)
-
-order-none : (behind : Bool) (l : List Listed) → none ≡ some l → inOrder behind l ≡ true
-order-none behind l h = let z : _≡_ {A = ℕ} 0 1 = cc in absurd (omega arith)
-
-order-end : (b behind : Bool) (o : Option (List Listed)) (l : List Listed) →
-    (o ≡ some l → inOrder behind l ≡ true) →
-    pick b (some []) o ≡ some l →
-    inOrder behind l ≡ true
-unfolding inOrder
-order-end true behind o l f h = let e : l ≡ [] = cc in rw e
-order-end false behind o l f h = f h
-
--- what was read is in order
-in-order : (n : ℕ) (behind : Bool) (s : List ℕ) (l : List Listed) → listFrom n behind s ≡ some l → inOrder behind l ≡ true
-unfolding listFrom
-in-order zero behind s l h = order-end (eqb (length s) 0) behind none l (order-none behind l) h
-in-order (suc n) behind s l h =
-    order-end
-    (eqb (length s) 0)
-    behind
-    (listWith (listFrom n) behind s (readEntry s))
-    l
-    (order-with n behind s (readEntry s) l (in-order n))
-    h
-
-no-direct : (l : List Listed) → inOrder true l ≡ true → directs l ≡ []
-unfolding inOrder directs
-no-direct [] h = refl
-no-direct (x ∷ l) h = go (x .aim) (no-direct l) h
-  where
-    go : (aim : Option AnchorStageRole) → (inOrder true l ≡ true → directs l ≡ []) → (isInOrder true aim && inOrder (isSome aim) l) ≡ true → directThen aim (x .entry) (directs l) ≡ []
-    go none f k = let z : _≡_ {A = ℕ} 0 1 = cc in absurd (omega arith)
-    go (some g) f k = f k
-
 module _ (c : Settings) (required : Bool) (p : PointInfo) where
   parted : (l : List Listed) (behind : Bool) (j : Judging) → inOrder behind l ≡ true →
       listedFold c required p j l ≡ indirectFold c p (directFold c required (pointView p) j (directs l)) (indirects l)
@@ -259,7 +203,7 @@ module _ (c : Settings) (required : Bool) (p : PointInfo) where
       go none f k = f false (directStep c required (pointView p) j (x .entry)) (and-right (isInOrder behind none) (inOrder false l) k)
       go (some g) f k =
           let ordered : inOrder true l ≡ true = and-right (isInOrder behind (some g)) (inOrder true l) k in
-          let e : directs l ≡ [] = no-direct l ordered in
+          let e : directs l ≡ [] = behind-target l ordered in
           rw e (rw e at (f true (targetStep c p g j (x .entry)) ordered))
 
   -- entries one by one as they stand in a list that was read
@@ -302,7 +246,7 @@ module _ (c : Settings) (required : Bool) (p : PointView) where
           (directTrail c required p false l ≡ [] → (e : Entry) → List·Memᴰ e l → (isDropped (e .state) ≡ false) × (entryTrail c required p e ≡ [])) →
           (e ≡ x) ⊎ List·Memᴰ e l →
           (isDropped (e .state) ≡ false) × (entryTrail c required p e ≡ [])
-      go true b k f o = let z : _≡_ {A = ℕ} 0 1 = cc in absurd (omega arith)
+      go true b k f o = impossible (cc)
       go false b k f (inl q) =
           let n = append-none (entryTrail c required p x) _ k in
           (ap (λ (y : Entry). isDropped (y .state)) q ∙ b, ap (entryTrail c required p) q ∙ n .0)
@@ -330,8 +274,8 @@ unfolding dependencyTrail
 rows-none c required isPrevPoint p (Valid q) h = all-empty (pointRows c required isPrevPoint p (depView q)) h
 rows-none c required isPrevPoint p (TransInvalid q root n) h = all-empty (pointRows c required isPrevPoint p (depView q)) h
 rows-none c required isPrevPoint p (Invalid q n) h = all-empty (pointRows c required isPrevPoint p (depView q)) h
-rows-none c required isPrevPoint p (IllFormed i n) h = let z : _≡_ {A = ℕ} 0 1 = cc in absurd (omega arith)
-rows-none c required isPrevPoint p (NotFound i) h = let z : _≡_ {A = ℕ} 0 1 = cc in absurd (omega arith)
+rows-none c required isPrevPoint p (IllFormed i n) h = impossible (cc)
+rows-none c required isPrevPoint p (NotFound i) h = impossible (cc)
 rows-none c required isPrevPoint p Dropped h = tt
 
 target-rows-none : (c : Settings) (g : AnchorStageRole) (p : PointView) (d : DagPoint) → indirectEntryTrail c g p d ≡ [] → TargetRowsNone c g p d
@@ -339,8 +283,8 @@ unfolding indirectEntryTrail
 target-rows-none c g p (Valid q) h = all-empty (indirectPointRows c g p (depView q)) h
 target-rows-none c g p (TransInvalid q root n) h = all-empty (indirectPointRows c g p (depView q)) h
 target-rows-none c g p (Invalid q n) h = all-empty (indirectPointRows c g p (depView q)) h
-target-rows-none c g p (IllFormed i n) h = let z : _≡_ {A = ℕ} 0 1 = cc in absurd (omega arith)
-target-rows-none c g p (NotFound i) h = let z : _≡_ {A = ℕ} 0 1 = cc in absurd (omega arith)
+target-rows-none c g p (IllFormed i n) h = impossible (cc)
+target-rows-none c g p (NotFound i) h = impossible (cc)
 target-rows-none c g p Dropped h = tt
 
 entry-rows-none : (c : Settings) (required : Bool) (p : PointView) (how : Taken) (e : Entry) → entryTrailAs c required p how e ≡ [] → EntryRowsNone c required p how e
@@ -351,11 +295,11 @@ entry-rows-none c required p aside e h = tt
 
 no-reason : (o : Option InvalidReason) (w : Option InvalidDependency) → hasReason (resultWith o w) ≡ false → o ≡ none
 no-reason none w h = refl
-no-reason (some r) w h = let z : _≡_ {A = ℕ} 0 1 = cc in absurd (omega arith)
+no-reason (some r) w h = impossible (cc)
 
 both-none : (a b : List InvalidReason) → pick (isEmpty a) b a ≡ [] → (a ≡ []) × (b ≡ [])
 both-none [] b h = (refl, h)
-both-none (x ∷ a) b h = let z : _≡_ {A = ℕ} 0 1 = cc in absurd (omega arith)
+both-none (x ∷ a) b h = impossible (cc)
 
 module _ (c : Settings) (required : Bool) (p : PointInfo) (es : List Entry) (ts : List IndirectEntry) where
   -- Valid or TransInvalid: every check passed for every entry
@@ -378,4 +322,4 @@ module _ (c : Settings) (required : Bool) (p : PointInfo) (es : List Entry) (ts 
     where
       go : (o : Option InvalidReason) → hasReason (validateWith o (overLists c required p es ts)) ≡ false → (o ≡ none) × Passed c required (pointView p) es ts
       go none k = (refl, trail-all k)
-      go (some r) k = let z : _≡_ {A = ℕ} 0 1 = cc in absurd (omega arith)
+      go (some r) k = impossible (cc)

@@ -1,14 +1,14 @@
 -- Laws of verification: which faults tell of unknown peers, and the numbers in place of a verdict, in their order.
 use Prim.Native.Nat.{ℕ, _≤_, _<_}
-use native.Mathlib.Omega.{arith}
 use mathlib.Core.Path.{_≡_, refl, ap, sym, _∙_}
-use mathlib.Core.Bool.{Bool, true, false, not, _&&_, _||_}
+use mathlib.Core.Bool.{Bool, true, false, not, _&&_, _||_, and-true, or-true, or-false}
 use mathlib.Core.Option.{Option, none, some}
 use mathlib.Core.List.{List, [], _∷_, _++_}
 use lib.Dec.{ltb, eqb}
 use borrow.Author.Tests.{lt-ltb, le-ltb, not-true, not-false}
-use Rattle.base.specs.Base.{pick, iff, concat, firstOf}
-use Rattle.base.proofs.Laws.{and-left, and-right}
+use Rattle.base.specs.Base.{pick, iff, concat, firstOf, isSome}
+use Rattle.base.proofs.Bool.{and-left, and-right}
+use Rattle.base.proofs.Option.{unfound}
 use Rattle.point.specs.Point.{PointInfo, Sticky, inDomain}
 use Rattle.point.specs.Reading.{readPoint}
 use Rattle.schedule.specs.Settings.{Settings, readSettings}
@@ -27,52 +27,36 @@ use Rattle.verify.specs.declared.VerifyAnswer.the-variants.{Number, Verd
 
 -- ---- faults that tell of no unknown peers
 
-abbrev isNone {ℓ} : {A : Type ℓ} → Option A → Bool
-isNone none = true
-isNone (some x) = false
-
 -- whether no fault of a list, or of a table, tells of unknown peers
 unfoldable silent : List VerifyError → Bool
 silent [] = true
-silent (x ∷ l) = isNone (unknownMap (some x)) && silent l
+silent (x ∷ l) = not (isSome (unknownMap (some x))) && silent l
 
 unfoldable allSilent : List (List VerifyError) → Bool
 unfolding silent
 allSilent [] = true
 allSilent (r ∷ l) = silent r && allSilent l
 
-and-true : (b : Bool) → (b && true) ≡ (b || false)
-and-true true = refl
-and-true false = refl
-
-or-true : (b : Bool) → (b || true) ≡ true
-or-true true = refl
-or-true false = refl
-
 silent-append : (a b : List VerifyError) → silent a ≡ true → silent b ≡ true → silent (a ++ b) ≡ true
 unfolding silent
 silent-append [] b s t = t
 silent-append (x ∷ a) b s t =
-    rw (and-left (isNone (unknownMap (some x))) (silent a) s) (silent-append a b (and-right (isNone (unknownMap (some x))) (silent a) s) t)
+    rw (and-left (not (isSome (unknownMap (some x)))) (silent a) s) (silent-append a b (and-right (not (isSome (unknownMap (some x)))) (silent a) s) t)
 
 silent-concat : (l : List (List VerifyError)) → allSilent l ≡ true → silent (concat l) ≡ true
 unfolding concat silent allSilent
 silent-concat [] s = refl
 silent-concat (r ∷ l) s = silent-append r (concat l) (and-left (silent r) (allSilent l) s) (silent-concat l (and-right (silent r) (allSilent l) s))
 
-none-is {ℓ} : {A : Type ℓ} (o : Option A) → isNone o ≡ true → o ≡ none
-none-is none h = refl
-none-is (some x) h = let z : _≡_ {A = ℕ} 0 1 = cc in absurd (omega arith)
-
 silent-first : (l : List VerifyError) → silent l ≡ true → unknownMap (firstOf l) ≡ none
 unfolding firstOf silent
 silent-first [] s = refl
-silent-first (x ∷ l) s = none-is (unknownMap (some x)) (and-left (isNone (unknownMap (some x))) (silent l) s)
+silent-first (x ∷ l) s = unfound (unknownMap (some x)) (not-true _ (and-left (not (isSome (unknownMap (some x)))) (silent l) s))
 
-silent-iff : (b : Bool) (x : VerifyError) → silent (iff b x) ≡ (isNone (unknownMap (some x)) || not b)
+silent-iff : (b : Bool) (x : VerifyError) → silent (iff b x) ≡ (not (isSome (unknownMap (some x))) || not b)
 unfolding silent
-silent-iff false x = sym (or-true (isNone (unknownMap (some x))))
-silent-iff true x = and-true (isNone (unknownMap (some x)))
+silent-iff false x = sym (or-true (not (isSome (unknownMap (some x)))))
+silent-iff true x = let b = not (isSome (unknownMap (some x))) in and-true b ∙ sym (or-false b)
 
 silent-pick : (b : Bool) (x y : List VerifyError) → silent (pick b x y) ≡ pick b (silent x) (silent y)
 silent-pick true x y = refl
@@ -82,9 +66,9 @@ all-pick : (b : Bool) (x y : List (List VerifyError)) → allSilent (pick b x y)
 all-pick true x y = refl
 all-pick false x y = refl
 
-pick-true : (b : Bool) → pick b true true ≡ true
-pick-true true = refl
-pick-true false = refl
+pick-both : (b : Bool) → pick b true true ≡ true
+pick-both true = refl
+pick-both false = refl
 
 silent-structure : (o : Option StructureIssue) → silent (structure o) ≡ true
 unfolding silent
@@ -94,7 +78,7 @@ silent-structure (some i) = refl
 silent-sticky : (c : Settings) (o : Option Sticky) → silent (stickyFault c o) ≡ true
 unfolding silent stickyFault
 silent-sticky c none = refl
-silent-sticky c (some k) = simp (silent-pick, silent-iff) (pick-true (ltb (c .stickyAnchors) (k .seqNo)))
+silent-sticky c (some k) = simp (silent-pick, silent-iff) (pick-both (ltb (c .stickyAnchors) (k .seqNo)))
 
 -- an answer of such rows leaves the buffer as it was
 told-silent : (k : Scheduled) (p : PointInfo) (rows : List (List VerifyError)) (e : Option VerifyError) (old : List ℕ) → allSilent rows ≡ true →
@@ -120,7 +104,7 @@ module _ (c : Settings) (p : PointInfo) where
 
   silent-well-formed : allSilent (wellFormedRows c p) ≡ true
   unfolding wellFormedRows
-  silent-well-formed = rw (all-pick, silent-genesis, silent-above) (pick-true (eqb (p .id .round) (c .genesisRound)))
+  silent-well-formed = rw (all-pick, silent-genesis, silent-above) (pick-both (eqb (p .id .round) (c .genesisRound)))
 
   pub told-well-formed : (k : Scheduled) (e : Option VerifyError) (old : List ℕ) → e ≡ firstOf (concat (wellFormedRows c p)) →
       Told k p (wellFormedRows c p) e old old

@@ -5,6 +5,7 @@ use mathlib.Core.Option.{Option, none, some}
 use mathlib.Core.List.{List}
 use lib.Dec.{ltb}
 use Rattle.base.specs.Base.{pick}
+use Rattle.parts.specs.Limits.{peersRoom}
 use Rattle.point.specs.Point.{PointInfo, inDomain}
 use Rattle.point.specs.Reading.{readPoint}
 use Rattle.schedule.specs.Settings.{Settings, readSettings}
@@ -31,7 +32,7 @@ testedWith (some c) none p others size = refused 2
 testedWith (some c) (some s) none others size = refused 3
 testedWith (some c) (some s) (some p) others size =
     pick (not (inDomain p && others)) (refused 4)
-    (pick (ltb size 8160) (refused 5)
+    (pick (ltb size peersRoom) (refused 5)
     (taken (record { settings = c; schedule = s; point = p })))
 
 -- "Verifying and judging test them in number order"

@@ -10,6 +10,7 @@ ghost use mathlib.Core.Bool.{true};
 ghost use mathlib.Core.Option.{some};
 ghost use Prim.Native.Nat.{_≤_};
 ghost use lib.ListN.{length};
+ghost use Rattle.parts.specs.Limits.{peersRoom};
 ghost use Rattle.point.specs.Reading.{pointOf, readPoint};
 ghost use Rattle.schedule.specs.Settings.{settingsOf};
 ghost use Rattle.schedule.specs.Schedule.{readSchedule, scheduleOf};
@@ -34,7 +35,7 @@ pub fn verify_point(
 ) -> Verified
     requires { ⌜ readSchedule (now schedule) ≡ some (scheduleOf (now schedule) spans) ⌝ }
     requires { ⌜ readPoint (now rec) ≡ some (pointOf (now rec) info) ⌝ }
-    requires { ⌜ 8160 ≤ length (now peers) ⌝ }
+    requires { ⌜ peersRoom ≤ length (now peers) ⌝ }
     ensures { λ r. ⌜ verifiedOf r ≡ verify (settingsOf conf) (scheduleOf (now (schedule .entry)) spans) (pointOf (now (rec .entry)) info) ⌝ }
     ensures { λ r. ⌜ now (peers .exit) ≡ bufferWith (scheduled (settingsOf conf) (scheduleOf (now (schedule .entry)) spans) (pointOf (now (rec .entry)) info)) (pointOf (now (rec .entry)) info) (verifiedOf r) (now (peers .entry)) ⌝ }
 {
@@ -89,7 +90,7 @@ pub fn verify(settings: &[u8], schedule: &[u8], rec: &[u8], peers: &mut [u8]) ->
     if !point::is_in_domain(rec, info) {
         return VerifyAnswer::Number(4);
     }
-    if peers.len() < 8160 {
+    if peers.len() < parts::PEERS_ROOM {
         return VerifyAnswer::Number(5);
     }
     VerifyAnswer::Verdict(verify_point(conf, schedule, spans, rec, info, peers))

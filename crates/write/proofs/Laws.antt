@@ -3,15 +3,15 @@ use Prim.Native.Nat.{ℕ, zero, suc, _+_, _*_, _/_, _%_, _^_, _≤_, _<_}
 use native.Mathlib.Nat.{add-zero, zero-add, add-suc, suc-add, pow-succ', one-le-pow, mul-assoc, mul-comm, mul-add-div-right, mul-add-mod-self-right, div-div-eq-div-mul, mod-eq-of-lt, mod-one, div-one}
 use native.Mathlib.Omega.{arith}
 use mathlib.Core.Path.{_≡_, refl, ap, sym, _∙_}
-use mathlib.Core.List.{List, [], _∷_, _++_, append-assoc}
+use mathlib.Core.List.{List, [], _∷_, _++_, append-assoc, append-nil}
 use lib.Arith.{digits-lt, digits-div, mod-mul}
 use lib.Pow.{pow-add}
-use lib.ListN.{length, take, drop, length-append}
+use lib.ListN.{length, take, drop, length-append, take-append-drop}
 use lib.Seq.{sets, sets-eq, length-sets, take-at, drop-at, drop-append-add, length-take-le}
-use Rattle.parts.specs.Bytes.{little, big, littleBytes, bytesAt, bigAt, bigBytes, putAt}
+use Rattle.parts.specs.Bytes.{little, big, littleBytes, bytesAt, bigAt, bigBytes, putAt, Bytes}
 use Rattle.parts.specs.Parts.{number}
 use Rattle.parts.specs.declared.Id.{Id}
-use Rattle.parts.proofs.Laws.{Bytes, Words, little-bytes}
+use Rattle.parts.proofs.Laws.{Words, little-bytes}
 
 -- ---- the bytes of a number
 
@@ -74,6 +74,11 @@ swapped-bytes x =
     ap (littleBytes 8) same ∙ little-bytes (bigBytes 8 x) (bytes-below 8 x)
 
 -- ---- a run of elements in a list
+
+-- nothing is written
+pub put-nothing : (l : List ℕ) (at : ℕ) → putAt l at [] ≡ l
+unfolding putAt
+put-nothing l at = rw (append-nil (take at l), add-zero at) (take-append-drop at l)
 
 -- stores one after the other are one run
 pub put-is : (l : List ℕ) (at : ℕ) (vs : List ℕ) → at + length vs ≤ length l → sets l at vs ≡ putAt l at vs

@@ -7,7 +7,7 @@ use denote.Ref.{now}
 use borrow.Author.Needs.{needs}
 use borrow.Author.Tests.{lt-ltb, le-ltb}
 use Rattle.base.specs.Base.{concat, firstOf}
-use Rattle.base.proofs.Laws.{first-here, first-behind, row-here, row-behind}
+use Rattle.base.proofs.Tables.{first-here, first-behind, row-here, row-behind}
 use Rattle.schedule.specs.Settings.{settingsOf}
 use Rattle.schedule.specs.Schedule.{scheduleOf}
 use Rattle.point.specs.Reading.{pointOf}

@@ -1,12 +1,12 @@
 -- `check_new::is_bad_count` meets its contract.
 use Prim.Native.Nat.{ℕ}
-use native.Mathlib.Omega.{arith}
 use mathlib.Core.Path.{_≡_, refl, sym, ap, _∙_}
 use mathlib.Core.Bool.{Bool, true, false}
-use mathlib.Core.Option.{Option, none, some}
+use mathlib.Core.Option.{none, some}
 use lib.Dec.{ltb}
 use borrow.Author.Tests.{lt-ltb, le-ltb, eq-eqb, ne-eqb}
 use Rattle.base.specs.Base.{pick}
+use Rattle.base.proofs.Option.{some-none, none-some}
 use Rattle.parts.specs.Parts.{oneF, peerCount, peerCountOf}
 use Rattle.verifier.specs.Verify.{badCount}
 use borrow.Author.Needs.{needs}
@@ -15,12 +15,12 @@ use Rattle.check_new.proofs.is_bad_count.Tie as tie
 
 -- what a count, or none, tells of the test for it
 picked-some : (few : Bool) (n f : ℕ) → some n ≡ pick few none (some f) → few ≡ false
-picked-some true n f h = let z : _≡_ {A = ℕ} 0 1 = cc in absurd (omega arith)
+picked-some true n f h = some-none h
 picked-some false n f h = refl
 
 picked-none : (few : Bool) (f : ℕ) → none ≡ pick few none (some f) → few ≡ true
 picked-none true f h = refl
-picked-none false f h = let z : _≡_ {A = ℕ} 0 1 = cc in absurd (omega arith)
+picked-none false f h = none-some h
 
 enough : (total n : ℕ) → some n ≡ peerCount total → ltb total 3 ≡ false
 unfolding peerCount

@@ -8,7 +8,8 @@ use lib.Dec.{ltb}
 use denote.Ref.{now}
 use borrow.Author.Tests.{lt-ltb, le-ltb}
 use Rattle.base.specs.Base.{concat, firstOf}
-use Rattle.base.proofs.Laws.{first-here, first-behind, row-here, row-behind}
+use Rattle.base.proofs.Tables.{first-here, first-behind, row-here, row-behind, last-test}
+use Rattle.base.proofs.Bool.{or-first, or-behind}
 use Rattle.point.specs.Point.{stickyAnchors, targetRound}
 use Rattle.point.specs.declared.data.AnchorStageRole.{AnchorStageRole}
 use Rattle.point.specs.declared.data.AnchorStageRole.the-variants.{Proof, Trigger}
@@ -19,7 +20,7 @@ use Rattle.reasons.specs.declared.ill_formed.VerifyError.{VerifyError}
 use Rattle.reasons.specs.declared.ill_formed.VerifyError.the-variants.{IllFormed}
 use Rattle.verifier.specs.Verify.{stickyFault, aboveRows}
 use Rattle.verifier.specs.Found.{checkedOf, verifiedOf}
-use Rattle.check_well_formed.proofs.Laws.{or-here, or-behind, last-test, issue-here, issue-behind}
+use Rattle.check_well_formed.proofs.Laws.{issue-here, issue-behind}
 use borrow.Author.Needs.{needs}
 use Rattle.check_well_formed.proofs.check_above_genesis.Statement.{statement}
 use Rattle.check_well_formed.proofs.check_above_genesis.Tie as tie
@@ -125,7 +126,7 @@ returns-4 c =
     let t = c .before .before in
     let o = start (t .before .before .before .before .before .before) in
     sym (unstuck (t .before)
-    ∙ row-here (across Proof o || across Trigger o) _ [] (or-here _ (across Trigger o) (proof-across t ∙ lt-ltb _ _ (c .if2 .taken))))
+    ∙ row-here (across Proof o || across Trigger o) _ [] (or-first _ (across Trigger o) (proof-across t ∙ lt-ltb _ _ (c .if2 .taken))))
 
 target-round-requires-2 : tie.Need-target-round-requires-2
 target-round-requires-2 c κs = search needs

@@ -6,7 +6,7 @@ use lib.ListN.{drop}
 use denote.Ref.{now}
 use borrow.Author.Tests.{lt-ltb, le-ltb}
 use Rattle.base.specs.Base.{concat, firstOf}
-use Rattle.base.proofs.Laws.{row-here, row-behind}
+use Rattle.base.proofs.Tables.{row-here, row-behind}
 use Rattle.point.specs.Reading.{pointOf}
 use Rattle.schedule.specs.Settings.{settingsOf}
 use Rattle.reasons.specs.declared.ill_formed.VerifyError.{VerifyError}

@@ -5,10 +5,10 @@ use lib.ListN.{drop}
 use denote.Ref.{now}
 use borrow.Author.Tests.{eq-eqb, ne-eqb}
 use Rattle.base.specs.Base.{concat, firstOf}
-use Rattle.base.proofs.Laws.{row-here, row-behind}
+use Rattle.base.proofs.Tables.{row-here, row-behind, last-test}
+use Rattle.base.proofs.Bool.{or-first, or-behind}
 use Rattle.point.specs.Point.{PointInfo, prevDigest}
 use Rattle.point.specs.Reading.{pointOf}
-use Rattle.check_well_formed.proofs.Laws.{or-here, or-behind, last-test}
 use Rattle.verifier.specs.Verify.{isZero, linksOwn, genesisStructureRows}
 use borrow.Author.Needs.{needs}
 use Rattle.check_well_formed.proofs.check_genesis_structure.Statement.{statement}
@@ -67,7 +67,7 @@ returns-3 : tie.Need-returns-3
 unfolding genesisStructureRows
 returns-3 c =
     let z = c .before in
-    sym (timely (z .before .before) ∙ row-here _ _ _ (or-here _ _ (zero z ∙ c .if3 .taken)))
+    sym (timely (z .before .before) ∙ row-here _ _ _ (or-first _ _ (zero z ∙ c .if3 .taken)))
 
 links-own-requires : tie.Need-links-own-requires
 links-own-requires c κs = search needs
@@ -77,7 +77,7 @@ unfolding genesisStructureRows
 returns-4 c =
     let z = c .before .before in
     sym (timely (z .before .before .before)
-    ∙ row-here _ _ _ (or-behind _ _ (past-zero z) ∙ or-here _ _ (ap not (sym (c .before .links-own .ensures)) ∙ c .if4 .taken)))
+    ∙ row-here _ _ _ (or-behind _ _ (past-zero z) ∙ or-first _ _ (ap not (sym (c .before .links-own .ensures)) ∙ c .if4 .taken)))
 
 links-own-requires-2 : tie.Need-links-own-requires-2
 links-own-requires-2 c κs = search needs

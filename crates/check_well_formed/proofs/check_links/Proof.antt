@@ -5,11 +5,10 @@ use lib.ListN.{drop}
 use denote.Ref.{now}
 use borrow.Author.Tests.{le-leb, lt-leb}
 use Rattle.base.specs.Base.{concat, firstOf}
-use Rattle.base.proofs.Laws.{row-here, row-behind}
+use Rattle.base.proofs.Tables.{row-here, row-behind, last-test}
 use Rattle.point.specs.Point.{PointInfo}
 use Rattle.point.specs.Reading.{pointOf}
 use Rattle.verifier.specs.Verify.{linkRows}
-use Rattle.check_well_formed.proofs.Laws.{last-test}
 use borrow.Author.Needs.{needs}
 use Rattle.check_well_formed.proofs.check_links.Statement.{statement}
 use Rattle.check_well_formed.proofs.check_links.Tie as tie

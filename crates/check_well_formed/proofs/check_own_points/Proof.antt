@@ -8,14 +8,14 @@ use lib.ListN.{drop}
 use lib.Dec.{eqb}
 use denote.Ref.{now}
 use Rattle.base.specs.Base.{concat, firstOf, isSome, isEmpty}
-use Rattle.base.proofs.Laws.{row-here, row-behind}
+use Rattle.base.proofs.Tables.{row-here, row-behind, last-test}
+use Rattle.base.proofs.Lists.{empty-length}
 use Rattle.map.specs.Rows.{has, peers, rising}
 use Rattle.map.proofs.Laws.{peers-pairsOf}
 use Rattle.point.specs.Point.{PointInfo, prevDigest, requiresPrevPoint}
 use Rattle.point.specs.Reading.{pointOf}
 use Rattle.point.proofs.Laws.{readable}
 use Rattle.verifier.specs.Verify.{equal, ownPointRows}
-use Rattle.check_well_formed.proofs.Laws.{empty-length, last-test}
 use borrow.Author.Needs.{needs}
 use Rattle.check_well_formed.proofs.check_own_points.Statement.{statement}
 use Rattle.check_well_formed.proofs.check_own_points.Tie as tie

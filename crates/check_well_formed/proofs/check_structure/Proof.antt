@@ -4,12 +4,11 @@ use mathlib.Core.List.{List}
 use lib.ListN.{drop}
 use denote.Ref.{now}
 use Rattle.base.specs.Base.{concat, firstOf}
-use Rattle.base.proofs.Laws.{first-here, first-behind, row-here, row-behind}
+use Rattle.base.proofs.Tables.{first-here, first-behind, row-here, row-behind, last-row}
 use Rattle.point.specs.Reading.{pointOf}
 use Rattle.reasons.specs.declared.ill_formed.StructureIssue.{StructureIssue}
 use Rattle.verifier.specs.Verify.{structureRows}
 use Rattle.verifier.specs.Found.{checkedOf}
-use Rattle.check_well_formed.proofs.Laws.{last-row}
 use borrow.Author.Needs.{needs}
 use Rattle.check_well_formed.proofs.check_structure.Statement.{statement}
 use Rattle.check_well_formed.proofs.check_structure.Tie as tie

@@ -8,9 +8,10 @@ use lib.ListN.{length, getD, take, drop, length-drop}
 use denote.Ref.{now}
 use borrow.Author.Needs.{needs}
 use borrow.Author.Tests.{not-true, not-false}
+use Rattle.base.proofs.Lists.{rest}
 use Rattle.record.specs.Record.{fieldRow, fieldOk}
 use Rattle.entries.specs.Entries.{readState, listedWith, entryAt, aimOf, readStatedOf}
-use Rattle.entries.proofs.Laws.{rest, fixed, entry-unfit, entry-certified, entry-first, entry-flagged, listed-none, listed-some, listed-placed, placed-stated}
+use Rattle.entries.proofs.Laws.{fixed, entry-unfit, entry-certified, entry-first, entry-flagged, listed-none, listed-some, listed-placed, placed-stated}
 use Rattle.entries.proofs.entry_at.Statement.{statement}
 use Rattle.entries.proofs.entry_at.Tie as tie
 

@@ -8,8 +8,9 @@ use lib.ListN.{length}
 use denote.Ref.{now}
 use borrow.Author.Needs.{needs}
 use borrow.Author.Tests.{not-true, not-false}
+use Rattle.base.proofs.Lists.{rest}
 use Rattle.record.specs.Record.{fieldRow, fieldOk}
-use Rattle.entries.proofs.Laws.{rest, fixed, read-empty, read-direct, read-unfit, read-proof, read-trigger, read-roleless}
+use Rattle.entries.proofs.Laws.{fixed, read-empty, read-direct, read-unfit, read-proof, read-trigger, read-roleless}
 use Rattle.entries.proofs.read_entry.Statement.{statement}
 use Rattle.entries.proofs.read_entry.Tie as tie
 

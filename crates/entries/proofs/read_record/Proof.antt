@@ -8,11 +8,12 @@ use lib.ListN.{take}
 use denote.Ref.{now}
 use borrow.Author.Needs.{needs}
 use borrow.Author.Tests.{not-true, not-false}
+use Rattle.base.proofs.Lists.{up-to}
 use Rattle.record.specs.Record.{recordEnd, endOf}
 use Rattle.record.proofs.Laws.{end-within, front-shaped}
 use Rattle.point.specs.Reading.{readPoint, pointOf, readPointOf}
 use Rattle.point.specs.declared.info.PointInfo as code-info
-use Rattle.entries.proofs.Laws.{up-to, front-endless, front-unread, front-unlisted, front-from, front-listed}
+use Rattle.entries.proofs.Laws.{front-endless, front-unread, front-unlisted, front-from, front-listed}
 use Rattle.entries.proofs.read_record.Statement.{statement}
 use Rattle.entries.proofs.read_record.Tie as tie
 

@@ -8,10 +8,11 @@ use lib.ListN.{length, getD, take, drop}
 use denote.Ref.{now}
 use borrow.Author.Needs.{needs}
 use borrow.Author.Tests.{not-true, not-false}
+use Rattle.base.proofs.Lists.{rest}
 use Rattle.point.specs.Reading.{pointIdOf}
 use Rattle.verifier.specs.DagPoint.{TransInvalid}
 use Rattle.entries.specs.Entries.{isRoot}
-use Rattle.entries.proofs.Laws.{Back, rest, root-within, state-rootless, state-trans, back-none, back}
+use Rattle.entries.proofs.Laws.{Back, root-within, state-rootless, state-trans, back-none, back}
 use Rattle.entries.proofs.read_trans_invalid.Statement.{statement}
 use Rattle.entries.proofs.read_trans_invalid.Tie as tie
 

@@ -6,8 +6,8 @@ use denote.Ref.{now}
 use Rattle.map.specs.Rows.{peersOf, pairsOf}
 use Rattle.map.proofs.Laws.{peers-pairsOf, peers-length}
 use Rattle.record.specs.Record.{contentOf}
-use Rattle.judge.proofs.Laws.{filled}
 use borrow.Author.Tests.{eq-eqb, ne-eqb}
+use Rattle.base.proofs.Lists.{filled}
 use borrow.Author.Needs.{needs}
 use Rattle.judge.proofs.lacks_witness.Statement.{statement}
 use Rattle.judge.proofs.lacks_witness.Tie as tie

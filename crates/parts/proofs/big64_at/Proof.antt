@@ -4,8 +4,8 @@ use mathlib.Core.Path.{ap, _∙_}
 use Prim.Native.Nat.{ℕ}
 use denote.Ref.{now}
 use borrow.Author.Needs.{needs}
-use Rattle.parts.specs.Bytes.{big, littleBytes}
-use Rattle.parts.proofs.Laws.{Bytes, swapped-at}
+use Rattle.parts.specs.Bytes.{big, littleBytes, Bytes}
+use Rattle.parts.proofs.Laws.{swapped-at}
 use Rattle.parts.proofs.big64_at.Statement.{statement}
 use Rattle.parts.proofs.big64_at.Tie as tie
 

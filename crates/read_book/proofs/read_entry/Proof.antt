@@ -9,8 +9,8 @@ use lib.ListN.{length, getD, take, drop}
 use lib.Dec.{eqb}
 use denote.Ref.{now}
 use borrow.Author.Tests.{not-true}
+use Rattle.base.proofs.Lists.{rest}
 use Rattle.point.specs.Point.{PointId}
-use Rattle.entries.proofs.Laws.{rest}
 use Rattle.plain_book.specs.Layout.{keptFront}
 use Rattle.index.specs.Index.{FoundAt}
 use Rattle.index.specs.declared.Place.{Place}

@@ -7,7 +7,7 @@ use mathlib.Core.Option.{some}
 use mathlib.Core.List.{List}
 use denote.Ref.{now}
 use borrow.Author.Tests.{not-true, not-false}
-use Rattle.parts.proofs.Laws.{Bytes}
+use Rattle.parts.specs.Bytes.{Bytes}
 use Rattle.point.specs.Point.{PointInfo, inDomain}
 use Rattle.point.specs.Reading.{readPoint, pointOf, readPointOf}
 use Rattle.schedule.specs.Settings.{Settings, settingsOf}

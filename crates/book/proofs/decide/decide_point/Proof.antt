@@ -4,7 +4,7 @@ use mathlib.Core.Path.{_≡_, sym, _∙_, subst}
 use mathlib.Core.Option.{none}
 use lib.ListN.{length}
 use denote.Ref.{now}
-use Rattle.parts.proofs.Laws.{Bytes}
+use Rattle.parts.specs.Bytes.{Bytes}
 use Rattle.verify.specs.Call.{Input}
 use Rattle.plain_book.specs.Kept.{Book, find}
 use Rattle.plain_book.specs.Offer.{Offer, isFull}

@@ -2,7 +2,7 @@
 use native.Mathlib.Omega.{arith}
 use mathlib.Core.Path.{refl}
 use denote.Ref.{now}
-use Rattle.parts.proofs.Laws.{Bytes}
+use Rattle.parts.specs.Bytes.{Bytes}
 use Rattle.book.proofs.OfferLaws.{ready-buffer, ready-accepted, ready-answered, ready-needed}
 use borrow.Author.Needs.{needs}
 use Rattle.book.proofs.decide.judge_offer.Statement.{statement}

@@ -6,7 +6,7 @@ use mathlib.Core.Option.{some}
 use mathlib.Core.List.{List}
 use denote.Ref.{now}
 use Rattle.parts.specs.Parts.{number}
-use Rattle.parts.proofs.Laws.{Bytes}
+use Rattle.parts.specs.Bytes.{Bytes}
 use Rattle.map.specs.Rows.{foundOf}
 use Rattle.point.specs.Point.{PointId, PointInfo, prevId}
 use Rattle.point.specs.Reading.{pointOf}

@@ -4,7 +4,8 @@ use mathlib.Core.Path.{_≡_, ap, sym, _∙_}
 use mathlib.Core.List.{List, []}
 use lib.ListN.{take, getD}
 use Rattle.base.specs.Base.{pick, concat, lastOf}
-use Rattle.base.proofs.Laws.{pick-true, pick-false, last-row-here, last-row-before, last-of-one}
+use Rattle.base.proofs.Bool.{pick-true, pick-false}
+use Rattle.base.proofs.Tables.{last-row-here, last-row-before, last-of-one}
 use Rattle.schedule.specs.Settings.{settingsOf}
 use Rattle.reasons.specs.Invalid.{InvalidReason}
 use Rattle.verifier.specs.Validate.{proofRow, pointRows}

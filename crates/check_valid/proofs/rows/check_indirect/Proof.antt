@@ -5,7 +5,7 @@ use mathlib.Core.List.{List, []}
 use lib.ListN.{take, getD}
 use borrow.Author.Tests.{not-true, not-false}
 use Rattle.base.specs.Base.{lastOf}
-use Rattle.base.proofs.Laws.{last-row-here, last-row-before, last-of-one}
+use Rattle.base.proofs.Tables.{last-row-here, last-row-before, last-of-one}
 use Rattle.point.specs.Reading.{pointIdOf}
 use Rattle.schedule.specs.Settings.{settingsOf}
 use Rattle.reasons.specs.Invalid.{InvalidReason, AnchorLinkRole}

@@ -4,7 +4,7 @@ use mathlib.Core.Path.{_≡_, ap, sym, _∙_}
 use mathlib.Core.List.{List, []}
 use lib.ListN.{take, getD}
 use Rattle.base.specs.Base.{concat, lastOf}
-use Rattle.base.proofs.Laws.{last-row-here, last-row-before, last-of-one}
+use Rattle.base.proofs.Tables.{last-row-here, last-row-before, last-of-one}
 use Rattle.schedule.specs.Settings.{settingsOf}
 use Rattle.reasons.specs.Invalid.{InvalidReason}
 use Rattle.verifier.specs.Validate.{anchorRows}

@@ -4,7 +4,7 @@ use mathlib.Core.Bool.{true, not}
 use mathlib.Core.List.{List, _++_}
 use borrow.Author.Tests.{not-true, not-false}
 use Rattle.base.specs.Base.{iff, lastOf}
-use Rattle.base.proofs.Laws.{last-here, last-before}
+use Rattle.base.proofs.Tables.{last-here, last-before}
 use Rattle.point.specs.Reading.{pointIdOf}
 use Rattle.point.specs.Point.{sameId}
 use Rattle.reasons.specs.Invalid.{InvalidReason, AnchorLinkBadPath}

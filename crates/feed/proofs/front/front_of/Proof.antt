@@ -10,7 +10,8 @@ use denote.Ref.{now}
 use Rattle.record.specs.Record.{endOf}
 use Rattle.schedule.specs.Settings.{Settings, readSettings, settingsOf, readSettingsOf}
 use Rattle.schedule.specs.Schedule.{readSchedule}
-use Rattle.entries.proofs.Laws.{up-to, rest}
+use Rattle.base.proofs.Lists.{up-to}
+use Rattle.base.proofs.Lists.{rest}
 use Rattle.verify.proofs.Laws.{schedule-read, schedule-unread}
 use Rattle.feed.specs.Tally.{scheduleEnd}
 use Rattle.feed.proofs.Laws.{schedule-inside, schedule-most, short-settings, front-unset, front-endless, front-unread, front-read, begins}

@@ -6,7 +6,7 @@ use mathlib.Core.List.{List}
 use lib.ListN.{length, getD, take, drop, length-drop}
 use denote.Ref.{now}
 use Rattle.point.specs.Reading.{pointOf, readPoint, readPointOf}
-use Rattle.entries.proofs.Laws.{rest}
+use Rattle.base.proofs.Lists.{rest}
 use Rattle.judge.specs.Judge.{judgeAnswerOf}
 use Rattle.plain_book.specs.Calls.{Result, offerBytes}
 use Rattle.book.specs.Decided.{offerOf}

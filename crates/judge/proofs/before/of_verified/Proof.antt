@@ -1,7 +1,6 @@
 -- `of_verified` meets its contract: a verification that passed has no error.
 use mathlib.Core.Path.{ap, _∙_, _≡_}
-use Prim.Native.Nat.{ℕ}
-use native.Mathlib.Omega.{arith}
+use Rattle.base.proofs.Impossible.{impossible}
 use Rattle.verifier.specs.Found.{verifiedOf}
 use Rattle.judge.specs.Judge.{ofError}
 use borrow.Author.Needs.{needs}
@@ -20,7 +19,7 @@ of-error-requires c κs = search needs
 returns : tie.Need-returns
 returns c = λ e h.
     let f = ap verifiedOf (c .enum-told .given .1) in
-    let z : _≡_ {A = ℕ} 0 1 = cc in absurd (omega arith)
+    impossible (cc)
 
 returns-2 : tie.Need-returns-2
 returns-2 c = λ e h.

@@ -9,10 +9,10 @@ use Rattle.validate.specs.Validated.{judgingOf}
 use Rattle.plain_book.specs.Kept.{Book}
 use Rattle.read_book.specs.ReadBook.{Holds}
 use Rattle.judge_book.specs.JudgeBook.{Versions, versionsOf}
-use Rattle.mismatch.proofs.Rows.{same-refl}
 use Rattle.index.specs.Index.{idOf}
 use Rattle.read_book.proofs.Laws.{found-kept}
 use denote.Ref.{now}
+use Rattle.point.proofs.Ids.{same-refl}
 use Rattle.judge_book.proofs.Versions.{versionsFold, VersionsLeft, fold-step, fold-end, versions-folded}
 use Rattle.judge_book.proofs.direct.judge_versions.Statement.{statement}
 use Rattle.judge_book.proofs.direct.judge_versions.Tie as tie

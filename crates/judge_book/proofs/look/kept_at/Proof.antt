@@ -4,7 +4,7 @@ use lib.ListN.{length, take, drop}
 use native.Mathlib.Omega.{arith}
 use Prim.Native.Nat.{ℕ, _-_}
 use denote.Ref.{now}
-use Rattle.entries.proofs.Laws.{rest}
+use Rattle.base.proofs.Lists.{rest}
 use Rattle.judge_book.proofs.Looked.{looked-none, kept-end, looked-some}
 use borrow.Author.Needs.{needs}
 use Rattle.judge_book.proofs.look.kept_at.Statement.{statement}

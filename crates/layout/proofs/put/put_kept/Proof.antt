@@ -8,7 +8,8 @@ use lib.ListN.{length}
 use denote.Ref.{now}
 use Rattle.plain_book.specs.Layout.{statusBytes, keptBytes}
 use Rattle.layout.specs.Values.{statusOf}
-use Rattle.layout.proofs.Laws.{put-right, status-length}
+use Rattle.plain_book.proofs.RoundTrip.{status-length}
+use Rattle.layout.proofs.Laws.{put-right}
 use borrow.Author.Needs.{needs}
 use Rattle.layout.proofs.put.put_kept.Statement.{statement}
 use Rattle.layout.proofs.put.put_kept.Tie as tie

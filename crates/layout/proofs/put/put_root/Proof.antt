@@ -6,7 +6,8 @@ use mathlib.Core.List.{[], _∷_}
 use denote.Ref.{now}
 use Rattle.reasons.specs.Invalid.{dependencyOf}
 use Rattle.plain_book.specs.Layout.{idBytes, throughBytes, statusBytes}
-use Rattle.layout.proofs.Laws.{put-right, id-length, through-length}
+use Rattle.plain_book.proofs.RoundTrip.{through-length}
+use Rattle.layout.proofs.Laws.{put-right, id-length}
 use borrow.Author.Needs.{needs}
 use Rattle.layout.proofs.put.put_root.Statement.{statement}
 use Rattle.layout.proofs.put.put_root.Tie as tie

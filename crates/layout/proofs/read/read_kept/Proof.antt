@@ -8,11 +8,11 @@ use mathlib.Core.List.{List}
 use lib.ListN.{length, take}
 use denote.Ref.{now}
 use borrow.Author.Tests.{not-true, not-false}
+use Rattle.base.proofs.Lists.{up-to}
 use Rattle.record.specs.Record.{fieldRow, fieldOk, recordEnd, endOf}
 use Rattle.record.proofs.Laws.{end-within, front-shaped}
 use Rattle.point.specs.Reading.{readPoint, pointOf, readPointOf}
 use Rattle.point.specs.declared.info.PointInfo as code-info
-use Rattle.entries.proofs.Laws.{up-to}
 use Rattle.layout.proofs.Laws.{front-endless, front-unread, front-tagless, tag-inside, tag-part, tag-length, front-entry}
 use borrow.Author.Needs.{needs}
 use Rattle.layout.proofs.read.read_kept.Statement.{statement}

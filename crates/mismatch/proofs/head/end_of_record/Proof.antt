@@ -6,10 +6,11 @@ use lib.ListN.{length}
 use mathlib.Core.Option.{some}
 use denote.Ref.{now}
 use Rattle.base.specs.Base.{isSome}
+use Rattle.base.proofs.Bool.{clash}
+use Rattle.base.proofs.Lists.{rest}
 use Rattle.record.specs.Record.{recordEnd, endOf}
 use Rattle.mismatch.specs.Head.{endIn}
-use Rattle.mismatch.proofs.Rows.{clash}
-use Rattle.mismatch.proofs.Heads.{end-inside, end-known, end-unknown, tail}
+use Rattle.mismatch.proofs.Heads.{end-inside, end-known, end-unknown}
 use borrow.Author.Needs.{needs}
 use Rattle.mismatch.proofs.head.end_of_record.Statement.{statement}
 use Rattle.mismatch.proofs.head.end_of_record.Tie as tie
@@ -22,7 +23,7 @@ known : (c : tie.After-known-told) →
 known c =
     let r = c .before .before .before in
     let a = c .before .before .before .before .before .before .args in
-    end-known _ _ _ (ap recordEnd (sym (tail (a .at) (now (a .s)))) ∙ (sym (r .record-end .ensures) ∙ ap endOf (c .before .end .given .1)))
+    end-known _ _ _ (ap recordEnd (sym (rest (a .at) (now (a .s)))) ∙ (sym (r .record-end .ensures) ∙ ap endOf (c .before .end .given .1)))
 
 sub-record-end : tie.Need-sub-record-end
 sub-record-end c = end-inside _ _ (c .before .pre)
@@ -51,7 +52,7 @@ returns c = known c .0
 returns-2 : tie.Need-returns-2
 returns-2 c =
     let s = c .before .before .before .before .before in
-    let n = end-unknown (s .args .at) (now (s .args .s)) (ap recordEnd (sym (tail (s .args .at) (now (s .args .s)))) ∙ (sym (c .before .before .record-end .ensures) ∙ ap endOf (c .enum-told .given .1))) in
+    let n = end-unknown (s .args .at) (now (s .args .s)) (ap recordEnd (sym (rest (s .args .at) (now (s .args .s)))) ∙ (sym (c .before .before .record-end .ensures) ∙ ap endOf (c .enum-told .given .1))) in
     clash _ (s .pre) (ap isSome n)
 
 pub end-of-record-spec : {M : Type 1} → statement M

@@ -3,9 +3,10 @@ use mathlib.Core.Path.{ap, sym, _∙_}
 use native.Mathlib.Omega.{arith}
 use denote.Ref.{now}
 use Rattle.base.specs.Base.{isSome}
+use Rattle.base.proofs.Option.{some-of}
 use Rattle.entries.specs.Entries.{Listed, readEntry}
 use Rattle.mismatch.specs.Head.{aimAt, flagsAt}
-use Rattle.mismatch.proofs.Heads.{EntryIs, head-is, some-of, head-made}
+use Rattle.mismatch.proofs.Heads.{EntryIs, head-is, head-made}
 use Rattle.mismatch.proofs.head.head_of.Statement.{statement}
 use Rattle.mismatch.proofs.head.head_of.Tie as tie
 

@@ -6,12 +6,12 @@ use mathlib.Core.Bool.{false, not}
 use mathlib.Core.List.{List}
 use denote.Ref.{now}
 use Rattle.base.specs.Base.{isSome}
+use Rattle.base.proofs.Lists.{rest}
 use Rattle.point.specs.Reading.{pointOf}
 use Rattle.entries.specs.Entries.{readList, directs, indirects}
 use Rattle.mismatch.specs.Head.{listed}
 use Rattle.mismatch.specs.Mismatch.{allTargets}
 use Rattle.mismatch.specs.Walk.{Placed, zeros}
-use Rattle.mismatch.proofs.Heads.{tail}
 use Rattle.mismatch.proofs.Laws.{found-true, found-false, mismatch-failed, mismatch-lacking, mismatch-absent, mismatch-targets}
 use borrow.Author.Needs.{needs}
 use Rattle.mismatch.proofs.walk.is_mismatch.Statement.{statement}
@@ -86,7 +86,7 @@ part-are-targets-end c = search needs
 are-targets-requires : tie.Need-are-targets-requires
 are-targets-requires c κs =
     let w = placed (past (c .before)) in
-    let t = tail (w-end (past (c .before))) (now (start (past (c .before)) .args .list)) in
+    let t = rest (w-end (past (c .before))) (now (start (past (c .before)) .args .list)) in
     (ap (λ (k : List ℕ). isSome (readList k)) t ∙ w .left, ap (λ (k : List ℕ). directs (listed k)) t ∙ w .behind)
 
 returns-4 : tie.Need-returns-4
@@ -95,7 +95,7 @@ returns-4 c =
     let a = c .before .before .before in
     let o = past (c .before .before) in
     let s = start o .args in
-    let t = tail (w-end o) (now (s .list)) in
+    let t = rest (w-end o) (now (s .list)) in
     ap not (c .are-targets .ensures (now (s .rec)) ∙ ap (λ (k : List ℕ). allTargets (pointOf (now (s .rec)) (s .info)) false false (indirects (listed k))) t)
     ∙ sym (mismatch-targets _ _ _ l e (placed o) (enough (a .before)) (sym (a .has-absent-targets .ensures) ∙ c .before .before .if3 .left))
 

@@ -10,6 +10,7 @@ use lib.ListN.{length, getD, drop}
 use denote.Ref.{now}
 use borrow.Author.Needs.{needs}
 use Rattle.base.specs.Base.{isSome}
+use Rattle.base.proofs.Lists.{rest}
 use Rattle.map.specs.Rows.{positionOf}
 use Rattle.point.specs.Point.{PointInfo, sameId}
 use Rattle.point.specs.Reading.{pointIdOf, pointOf}
@@ -18,7 +19,7 @@ use Rattle.entries.specs.Entries.{aimOf, readList, directs}
 use Rattle.mismatch.specs.Head.{codeHeadOf, listed}
 use Rattle.mismatch.specs.Mismatch.{pairId}
 use Rattle.mismatch.specs.Walk.{roundIn, pairsIn, mapsIn, noPair, isNewVersion}
-use Rattle.mismatch.proofs.Heads.{Front, Reads, reads-front, reads-head, reads-next, tail}
+use Rattle.mismatch.proofs.Heads.{Front, Reads, reads-front, reads-head, reads-next}
 use Rattle.mismatch.proofs.Laws.{Marking, marked-stood, marking-at, marking-absent, marking-whole, Walk, Going, direct-told, target-told, going-start, going-end, going-target, going-dropped, going-marking, going-twice, going-fails, going-placed, same-room}
 use Rattle.mismatch.proofs.Rows.{Maps, maps-of, maps-few, row-some, row-none}
 use Rattle.mismatch.proofs.walk.walk.Statement.{statement}
@@ -114,7 +115,7 @@ placed : (c : tie.After-has-place Inv-loop μ-loop Inv-entries μ-entries) →
 placed c =
     let l = c .before .before .before in
     let h = head-in l in
-    sym (c .has-place .ensures ∙ ap (λ (t : List ℕ). l .loop .found || isNewVersion (point l) (directs (listed t)) (pointIdOf (h .head-of .result .id))) (tail (entry h .entries .at + h .head-of .result .size) (now (start (entry h) .args .list))))
+    sym (c .has-place .ensures ∙ ap (λ (t : List ℕ). l .loop .found || isNewVersion (point l) (directs (listed t)) (pointIdOf (h .head-of .result .id))) (rest (entry h .entries .at + h .head-of .result .size) (now (start (entry h) .args .list))))
 
 maps-in-dag-requires : tie.Need-maps-in-dag-requires Inv-loop μ-loop Inv-entries μ-entries
 maps-in-dag-requires c κs = search needs
@@ -232,7 +233,7 @@ has-place-requires : tie.Need-has-place-requires Inv-loop μ-loop Inv-entries μ
 has-place-requires c κs =
     let h = head-in (c .before .before) in
     let s = start (entry h) in
-    (s .pre .0, ap (λ (t : List ℕ). isSome (readList t)) (tail (entry h .entries .at + h .head-of .result .size) (now (s .args .list))) ∙ next h .left)
+    (s .pre .0, ap (λ (t : List ℕ). isSome (readList t)) (rest (entry h .entries .at + h .head-of .result .size) (now (s .args .list))) ∙ next h .left)
 
 entries-less-2 : tie.Need-entries-less-2 Inv-loop μ-loop Inv-entries μ-entries
 entries-less-2 c =

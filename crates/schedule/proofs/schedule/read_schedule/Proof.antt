@@ -1,13 +1,13 @@
 -- `schedule::schedule::read_schedule` meets its contract: each `return` rewrites what is read (`read-is`) with the tests that led there.
-use Prim.Native.Nat.{ℕ}
 use native.Mathlib.Omega.{arith}
-use mathlib.Core.Path.{_≡_, sym, _∙_}
-use mathlib.Core.Bool.{Bool, true, false}
+use mathlib.Core.Path.{_≡_, refl, sym, _∙_}
+use mathlib.Core.Bool.{true, false}
 use lib.ListN.{length, take, length-take, length-map}
 use denote.Ref.{now}
 use borrow.Author.Tests.{not-true, not-false}
 use borrow.Author.Needs.{needs}
 use Rattle.base.specs.Base.{isEmpty}
+use Rattle.base.proofs.Bool.{clash}
 use Rattle.schedule.specs.Schedule.{lastOk, spansOf}
 use Rattle.schedule.proofs.Laws.{read-is, not-empty, last-within, unread}
 use Rattle.schedule.proofs.schedule.read_schedule.Statement.{statement}
@@ -83,7 +83,7 @@ returns-4 c =
     let d = f .before .before .before in
     let r = d .read-spans .result in (
       sym (read-is _ (take (r .count) (r .spans)) (r .end) (d .read-spans .ensures .read) ∙ rw (filled (f .before), ← f .are-firsts-rising .ensures, not-false (f .are-firsts-rising .result) (l .before .if2 .left), known (c .before), ← c .u32-at .ensures)),
-      record { few = d .read-spans .ensures .few; entries = λ g. d .read-spans .ensures .entries; nothing = λ g. let z : _≡_ {A = Bool} true false = g in let y : _≡_ {A = ℕ} 0 1 = cc in absurd (omega arith) },
+      record { few = d .read-spans .ensures .few; entries = λ g. d .read-spans .ensures .entries; nothing = λ g. clash true refl g },
     )
 
 pub read-schedule-spec : {M : Type 1} → statement M

@@ -1,53 +1,47 @@
--- Laws of ids and of maps: equal ids, and the pairs of a rising map.
+-- Laws of the pairs of a map: a rising map, and what a peer gets.
 use Prim.Native.Nat.{ℕ, _<_}
 use native.Mathlib.Omega.{arith}
-use mathlib.Core.Path.{_≡_, refl, sym, ap, subst}
+use mathlib.Core.Path.{_≡_, refl, sym, ap}
 use mathlib.Core.Logic.{_⊎_, inl, inr}
 use mathlib.Core.Bool.{Bool, true, false}
 use mathlib.Core.Option.{some}
 use mathlib.Core.List.{List, [], _∷_, List·Memᴰ, List·Memᴰ·head, List·Memᴰ·tail, List·Memᴰ·not-nil, List·Memᴰ·cases-cons}
 use lib.Dec.{ltb, eqb}
 use borrow.Author.Tests.{ltb-true, eqb-true, eq-eqb, ne-eqb}
-use Rattle.base.specs.Base.{pick}
-use Rattle.base.proofs.Laws.{and-left, and-right}
+use Rattle.base.specs.Base.{pick, isSome}
+use Rattle.base.proofs.Bool.{clash, and-left, and-right}
+use Rattle.base.proofs.Option.{none-some}
 use Rattle.map.specs.Rows.{Pair, rising, peers, get}
-use Rattle.point.specs.Point.{PointId, sameId}
 
--- ---- ids
-
-pub same-eq : (a b : PointId) → sameId a b ≡ true → a ≡ b
-unfolding sameId
-same-eq a b h =
-    let behind = and-right (eqb (a .round) (b .round)) _ h in
-    let r : a .round ≡ b .round = eqb-true _ _ (and-left (eqb (a .round) (b .round)) _ h) in
-    let d : a .digest ≡ b .digest = eqb-true _ _ (and-left (eqb (a .digest) (b .digest)) _ behind) in
-    let x : a .author ≡ b .author = eqb-true _ _ (and-right (eqb (a .digest) (b .digest)) _ behind) in
-    λ i. record { round = r i; digest = d i; author = x i }
-
-pub eq-same : (a b : PointId) → a ≡ b → sameId a b ≡ true
-unfolding sameId
-eq-same a b e =
-    rw (eq-eqb _ _ (ap (λ (i : PointId). i .round) e), eq-eqb _ _ (ap (λ (i : PointId). i .digest) e), eq-eqb _ _ (ap (λ (i : PointId). i .author) e))
-
--- ---- the pairs of a map
-
-rising-tail : (x : ℕ) (l : List ℕ) → rising (x ∷ l) ≡ true → rising l ≡ true
+pub rising-tail : (x : ℕ) (l : List ℕ) → rising (x ∷ l) ≡ true → rising l ≡ true
 unfolding rising
 rising-tail x [] r = refl
-rising-tail x (y ∷ l) r = and-right (ltb x y) (rising (y ∷ l)) r
+rising-tail x (y ∷ l) r = and-right (ltb x y) _ r
 
--- the first peer of a rising map is the least
-rising-below : (x : ℕ) (l : List Pair) (q : Pair) → rising (x ∷ peers l) ≡ true → List·Memᴰ q l → x < q .peer
-unfolding rising peers
+-- a peer stands below those behind it
+pub rising-below : (x : ℕ) (l : List Pair) (q : Pair) → rising (x ∷ peers l) ≡ true → List·Memᴰ q l → x < q .peer
+unfolding peers rising
 rising-below x [] q r m = absurd (List·Memᴰ·not-nil m)
-rising-below x (y ∷ l) q r m =
-    go (ltb-true x (y .peer) (and-left (ltb x (y .peer)) (rising (y .peer ∷ peers l)) r))
-    (rising-below (y .peer) l q (and-right (ltb x (y .peer)) (rising (y .peer ∷ peers l)) r))
-    (List·Memᴰ·cases-cons m)
+rising-below x (y ∷ l) q r m = go (λ n. rising-below (y .peer) l q (and-right (ltb x (y .peer)) _ r) n) (List·Memᴰ·cases-cons m)
   where
-    go : x < y .peer → (List·Memᴰ q l → y .peer < q .peer) → (q ≡ y) ⊎ List·Memᴰ q l → x < q .peer
-    go h f (inl e) = subst (λ (z : Pair). x < z .peer) (sym e) h
-    go h f (inr n) = let g : y .peer < q .peer = f n in omega arith
+    less : x < y .peer
+    less = ltb-true x (y .peer) (and-left (ltb x (y .peer)) _ r)
+
+    go : (List·Memᴰ q l → y .peer < q .peer) → (q ≡ y) ⊎ List·Memᴰ q l → x < q .peer
+    go rec (inl e) = rw e less
+    go rec (inr n) = let h = rec n in omega (arith, less)
+
+-- a peer of a map is found there
+pub get-there : (l : List Pair) (q : Pair) → List·Memᴰ q l → isSome (get l (q .peer)) ≡ true
+unfolding get
+get-there [] q m = absurd (List·Memᴰ·not-nil m)
+get-there (x ∷ l) q m = go (eqb (x .peer) (q .peer)) refl (get-there l q) (List·Memᴰ·cases-cons m)
+  where
+    go : (t : Bool) → eqb (x .peer) (q .peer) ≡ t → (List·Memᴰ q l → isSome (get l (q .peer)) ≡ true) → (q ≡ x) ⊎ List·Memᴰ q l →
+        isSome (pick t (some (x .digest)) (get l (q .peer))) ≡ true
+    go true h rec w = refl
+    go false h rec (inl e) = clash (eqb (x .peer) (q .peer)) (eq-eqb (x .peer) (q .peer) (ap (λ (z : Pair). z .peer) (sym e))) h
+    go false h rec (inr n) = rec n
 
 -- a pair of a rising map is what its peer gets
 pub member-get : (l : List Pair) (q : Pair) → rising (peers l) ≡ true → List·Memᴰ q l → get l (q .peer) ≡ some (q .digest)
@@ -65,7 +59,7 @@ member-get (y ∷ l) q r m = go (member-get l q (rising-tail (y .peer) (peers l)
 -- what a peer gets is a pair of the map
 pub get-member : (l : List Pair) (x d : ℕ) → get l x ≡ some d → List·Memᴰ (record { peer = x; digest = d }) l
 unfolding get
-get-member [] x d h = let z : _≡_ {A = ℕ} 0 1 = cc in absurd (omega arith)
+get-member [] x d h = none-some h
 get-member (q ∷ l) x d h = go (eqb (q .peer) x) refl (get-member l x d) h
   where
     go : (b : Bool) → eqb (q .peer) x ≡ b → (get l x ≡ some d → List·Memᴰ (record { peer = x; digest = d }) l) →

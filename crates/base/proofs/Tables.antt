@@ -1,57 +1,25 @@
--- Laws of tests, of lists by position and of tables of rules.
-use Prim.Native.Nat.{ℕ, zero, suc, _+_, _<_}
-use native.Mathlib.Nat.{add-zero}
-use native.Mathlib.Omega.{arith}
+-- Laws of tables of rules: the first fault of one, the last reason of one, and tables whose rows give nothing.
 use mathlib.Core.Path.{_≡_, refl, ap, sym, _∙_}
-use mathlib.Core.Bool.{Bool, true, false, _&&_}
-use mathlib.Core.Option.{Option, none, some}
+use mathlib.Core.Bool.{Bool, true, false}
+use mathlib.Core.Option.{none, some}
 use mathlib.Core.List.{List, [], _∷_, _++_, append-nil, append-assoc}
-use lib.ListN.{length, getD}
-use Rattle.base.specs.Base.{pick, iff, concat, firstOf, lastOf, tabulate}
-
-pub and-left : (a b : Bool) → (a && b) ≡ true → a ≡ true
-and-left true b h = refl
-and-left false b h = h
-
-pub and-right : (a b : Bool) → (a && b) ≡ true → b ≡ true
-and-right true b h = h
-and-right false b h = let z : _≡_ {A = ℕ} 0 1 = cc in absurd (omega arith)
-
-module _ {A : Type 0} (b : Bool) (x y : A) where
-  pub pick-true : b ≡ true → pick b x y ≡ x
-  pick-true h = rw h
-
-  pub pick-false : b ≡ false → pick b x y ≡ y
-  pick-false h = rw h
-
-pub picked {ℓ} : {A : Type ℓ} (b : Bool) (x : Option A) (n : A) → pick b x none ≡ some n → (b ≡ true) × (x ≡ some n)
-picked true x n h = (refl, h)
-picked false x n h = let z : _≡_ {A = ℕ} 0 1 = cc in absurd (omega arith)
-
-module _ {A : Type 0} (f : ℕ → A) where
-  pub tabulate-length : (n i : ℕ) → length (tabulate f n i) ≡ n
-  unfolding tabulate
-  tabulate-length zero i = refl
-  tabulate-length (suc n) i = ap suc (tabulate-length n (suc i))
-
-  pub tabulate-at : (n i k : ℕ) (d : A) → k < n → getD (tabulate f n i) k d ≡ f (i + k)
-  unfolding tabulate
-  tabulate-at zero i k d h = absurd (omega arith)
-  tabulate-at (suc n) i zero d h = ap f (sym (add-zero i))
-  tabulate-at (suc n) i (suc k) d h = tabulate-at n (suc i) k d (omega arith) ∙ ap f (omega arith)
+use Rattle.base.specs.Base.{iff, concat, firstOf, lastOf}
+use Rattle.base.proofs.Impossible.{impossible}
+use Rattle.base.proofs.Option.{none-some, some-none}
+use Rattle.base.proofs.Lists.{append-none}
 
 module _ {A : Type 0} where
   -- the first fault of a table is its first row's, if that has one
   pub first-here : (row : List A) (rest : List (List A)) (x : A) → firstOf row ≡ some x → firstOf (concat (row ∷ rest)) ≡ some x
   unfolding firstOf concat
-  first-here [] rest x h = let z : _≡_ {A = ℕ} 0 1 = cc in absurd (omega arith)
+  first-here [] rest x h = none-some h
   first-here (y ∷ l) rest x h = h
 
   -- else it is that of the rows behind
   pub first-behind : (row : List A) (rest : List (List A)) → firstOf row ≡ none → firstOf (concat (row ∷ rest)) ≡ firstOf (concat rest)
   unfolding firstOf concat
   first-behind [] rest h = refl
-  first-behind (y ∷ l) rest h = let z : _≡_ {A = ℕ} 0 1 = cc in absurd (omega arith)
+  first-behind (y ∷ l) rest h = some-none h
 
   -- the same of a row of one test
   pub row-here : (b : Bool) (x : A) (rest : List (List A)) → b ≡ true → firstOf (concat (iff b x ∷ rest)) ≡ some x
@@ -62,12 +30,29 @@ module _ {A : Type 0} where
   unfolding firstOf concat
   row-behind b x rest h = rw h
 
+  -- the first fault of a table of one row
+  pub last-row : (row : List A) → firstOf (concat (row ∷ [])) ≡ firstOf row
+  unfolding firstOf concat
+  last-row [] = refl
+  last-row (x ∷ l) = refl
+
+  -- a table whose last test fails has no fault
+  pub last-test : (b : Bool) (x : A) → b ≡ false → firstOf (concat (iff b x ∷ [])) ≡ none
+  unfolding firstOf concat
+  last-test b x h = rw h
+
+  -- only the empty list has no first
+  pub first-none : (l : List A) → firstOf l ≡ none → l ≡ []
+  unfolding firstOf
+  first-none [] h = refl
+  first-none (x ∷ l) h = some-none h
+
 module _ {A : Type 0} where
   -- the last of two lists is the second's, if that has one
   pub last-here : (a b : List A) (x : A) → lastOf b ≡ some x → lastOf (a ++ b) ≡ some x
   unfolding lastOf
   last-here [] b x h = h
-  last-here (y ∷ []) [] x h = let z : _≡_ {A = ℕ} 0 1 = cc in absurd (omega arith)
+  last-here (y ∷ []) [] x h = none-some h
   last-here (y ∷ []) (z ∷ b) x h = h
   last-here (y ∷ z ∷ a) b x h = last-here (z ∷ a) b x h
 
@@ -75,8 +60,8 @@ module _ {A : Type 0} where
   pub last-none : (l : List A) → lastOf l ≡ none → l ≡ []
   unfolding lastOf
   last-none [] h = refl
-  last-none (x ∷ []) h = let z : _≡_ {A = ℕ} 0 1 = cc in absurd (omega arith)
-  last-none (x ∷ y ∷ l) h = let e = last-none (y ∷ l) h in let z : _≡_ {A = ℕ} 0 1 = cc in absurd (omega arith)
+  last-none (x ∷ []) h = some-none h
+  last-none (x ∷ y ∷ l) h = let e = last-none (y ∷ l) h in impossible (cc)
 
   -- else it is the first's
   pub last-before : (a b : List A) → lastOf b ≡ none → lastOf (a ++ b) ≡ lastOf a
@@ -100,11 +85,6 @@ module _ {A : Type 0} where
   unfolding concat
   last-of-one row = ap lastOf (concat-end [] row)
 
-  -- two lists that are none together
-  pub append-none : (a b : List A) → a ++ b ≡ [] → (a ≡ []) × (b ≡ [])
-  append-none [] b h = (refl, h)
-  append-none (x ∷ a) b h = let z : _≡_ {A = ℕ} 0 1 = cc in absurd (omega arith)
-
   -- each row of a table, by its position, gives no reason
   abbrev pub AllNone : List (List A) → Type 0
   AllNone [] = Unit
@@ -117,5 +97,5 @@ module _ {A : Type 0} where
 
   -- a row that gives no reason: its test failed
   pub row-none : (b : Bool) (x : A) → iff b x ≡ [] → b ≡ false
-  row-none true x h = let z : _≡_ {A = ℕ} 0 1 = cc in absurd (omega arith)
+  row-none true x h = impossible (cc)
   row-none false x h = refl
