@@ -28,6 +28,21 @@
 #include <stddef.h>
 #include <stdint.h>
 
+/*
+ * Which library this header belongs to; docs/FORMAT.md, "Versions", says when each number changes.
+ *
+ *   ABI     the calls: their names, parameters and results
+ *   FORMAT  the bytes that are lent and answered
+ *   VERSION the release, and, but for its patch, all of these in one number, a byte each: ABI, FORMAT, MAJOR, MINOR
+ */
+#define WUTHERDISH_ABI 1
+#define WUTHERDISH_FORMAT 1
+#define WUTHERDISH_VERSION_MAJOR 0
+#define WUTHERDISH_VERSION_MINOR 1
+#define WUTHERDISH_VERSION_PATCH 0
+#define WUTHERDISH_VERSION (WUTHERDISH_ABI * 0x1000000u + WUTHERDISH_FORMAT * 0x10000u \
+                            + WUTHERDISH_VERSION_MAJOR * 0x100u + WUTHERDISH_VERSION_MINOR)
+
 /* A peer buffer of this many bytes or more is enough: 255 peers of 32 bytes. */
 #define WUTHERDISH_PEER_BUFFER 8160
 
@@ -75,7 +90,7 @@ extern "C" {
  * peers, if there are any, stand at the front of the peer buffer, 32 bytes each, rising; its other bytes keep what
  * they held. What is lent as const is never written.
  *
- * The caller's part: no pointer is null, not even with the length 0; each has as many bytes behind it as its length
+ * The caller's part: no pointer is null, not even with the length 0; each has as many bytes after it as its length
  * says, the answer 114; and the peer buffer and the answer overlap neither each other nor the rest.
  */
 
@@ -142,6 +157,12 @@ uint8_t wutherdish_offer(uint8_t *book, size_t book_len,
                          const uint8_t *record, size_t record_len,
                          uint8_t *peers, size_t peers_len,
                          uint8_t answer[WUTHERDISH_ANSWER]);
+
+/*
+ * The WUTHERDISH_VERSION of the linked library. Where it is not this header's in the upper 16 bits, ABI and FORMAT, no
+ * other call may be made.
+ */
+uint32_t wutherdish_version(void);
 
 #ifdef __cplusplus
 }

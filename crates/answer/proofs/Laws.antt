@@ -1,16 +1,16 @@
--- Laws of the answer: runs of bytes one behind the other are one run, the answer is 114 bytes long, and verdicts with the same answer are the same.
-use Prim.Native.Nat.{ℕ, _+_, _-_, _≤_, _<_}
+-- Laws of the answer: runs of bytes one after the other are one run, the answer is 114 bytes long, and verdicts with the same answer are the same.
+use Prim.Native.Nat.{ℕ, _-_, _<_}
 use native.Mathlib.Omega.{arith}
 use mathlib.Core.Path.{_≡_, refl, ap, sym, _∙_}
 use mathlib.Core.Bool.{Bool, true, false}
 use mathlib.Core.Option.{Option, none, some}
-use mathlib.Core.List.{List, [], _∷_, _++_}
+use mathlib.Core.List.{List, [], _∷_}
 use lib.Dec.{eqb}
-use lib.ListN.{length, set, getD, length-append}
+use lib.ListN.{length, set, getD}
 use borrow.Author.Tests.{ne-eqb}
 use Rattle.base.specs.Base.{pick}
 use Rattle.parts.specs.Bytes.{putAt}
-use Rattle.write.proofs.Laws.{put-is, put-put}
+use Rattle.write.proofs.Laws.{put-is}
 use Rattle.point.specs.Point.{PointId, Through, throughPeer}
 use Rattle.point.specs.Point as point
 use Rattle.point.specs.declared.data.AnchorStageRole.{AnchorStageRole}
@@ -28,7 +28,7 @@ use Rattle.reasons.specs.declared.ill_formed.IllFormedReason.the-variants.{Befo
 use Rattle.reasons.specs.declared.ill_formed.VerifyError.the-variants.{Fail, IllFormed}
 use Rattle.reasons.specs.declared.ill_formed.Verified.{Verified}
 use Rattle.reasons.specs.declared.ill_formed.Verified.the-variants.{Passed, Failed}
-use Rattle.answer.specs.Answer.{Answer, Values, mapNumber, roleNumber, flag, issueValues, illFormedValues, failAnswer, verifiedAnswer, invalidValues, invalidId, throughNumber, verdictAnswer, answerBytes}
+use Rattle.rules.specs.Answer.{Answer, Values, mapNumber, roleNumber, flag, issueValues, illFormedValues, failAnswer, verifiedAnswer, invalidValues, invalidId, throughNumber, verdictAnswer, answerBytes}
 
 pub answer-length : (a : Answer) → length (answerBytes a) ≡ 114
 unfolding answerBytes
@@ -37,12 +37,6 @@ answer-length a = refl
 -- a store is a run of one
 pub set-put : (l : List ℕ) (i x : ℕ) → i < length l → set l i x ≡ putAt l i (x ∷ [])
 set-put l i x h = put-is l i (x ∷ []) (omega arith)
-
--- three runs, each behind the one before
-pub put-three : (l : List ℕ) (at : ℕ) (xs ys zs : List ℕ) (m n : ℕ) → at + length xs ≡ m → m + length ys ≡ n → n + length zs ≤ length l → putAt (putAt (putAt l at xs) m ys) n zs ≡ putAt l at (xs ++ ys ++ zs)
-put-three l at xs ys zs m n e f h =
-    let k : at + length (xs ++ ys) ≡ n = rw (length-append xs ys) (omega arith) in
-    rw (put-put l at xs ys m e (omega arith)) (put-put l at (xs ++ ys) zs n k h)
 
 -- ---- the verdict is read back from its answer
 

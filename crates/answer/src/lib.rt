@@ -17,10 +17,10 @@ ghost use mathlib.Core.Path.{_≡_};
 ghost use Prim.Native.Nat.{_≤_};
 ghost use lib.ListN.{length};
 ghost use Rattle.parts.specs.Bytes.{putAt};
-ghost use Rattle.point.specs.Reading.{pointIdOf, throughOf};
-ghost use Rattle.reasons.specs.Invalid.{prevSeqNoOf, reasonOf, dependencyOf};
-ghost use Rattle.reasons.specs.Verdict.{verdictOf};
-ghost use Rattle.answer.specs.Answer.{mapNumber, roleNumber, flag, values, issueValues, illFormedValues, named, plain, failAnswer, verifiedAnswer, prevSeqNo, invalidValues, invalidId, throughNumber, dependencyAnswer, verdictAnswer, headBytes, numberBytes, rootBytes, answerBytes, valuesOf, answerOf};
+ghost use Rattle.point.specs.Code.{pointIdOf, throughOf};
+ghost use Rattle.reasons.specs.Code.{prevSeqNoOf, reasonOf, dependencyOf, verdictOf};
+ghost use Rattle.rules.specs.Answer.{mapNumber, roleNumber, flag, values, issueValues, illFormedValues, named, plain, failAnswer, verifiedAnswer, prevSeqNo, invalidValues, invalidId, throughNumber, dependencyAnswer, verdictAnswer, headBytes, numberBytes, rootBytes, answerBytes};
+ghost use Rattle.answer.specs.Code.{valuesOf, answerOf};
 
 // What a reason carries beside its number.
 pub struct Values {

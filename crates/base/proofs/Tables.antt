@@ -3,7 +3,7 @@ use mathlib.Core.Path.{_≡_, refl, ap, sym, _∙_}
 use mathlib.Core.Bool.{Bool, true, false}
 use mathlib.Core.Option.{none, some}
 use mathlib.Core.List.{List, [], _∷_, _++_, append-nil, append-assoc}
-use Rattle.base.specs.Base.{iff, concat, firstOf, lastOf}
+use Rattle.base.specs.Base.{when, concat, firstOf, lastOf}
 use Rattle.base.proofs.Impossible.{impossible}
 use Rattle.base.proofs.Option.{none-some, some-none}
 use Rattle.base.proofs.Lists.{append-none}
@@ -15,18 +15,18 @@ module _ {A : Type 0} where
   first-here [] rest x h = none-some h
   first-here (y ∷ l) rest x h = h
 
-  -- else it is that of the rows behind
+  -- else it is that of the rows after
   pub first-behind : (row : List A) (rest : List (List A)) → firstOf row ≡ none → firstOf (concat (row ∷ rest)) ≡ firstOf (concat rest)
   unfolding firstOf concat
   first-behind [] rest h = refl
   first-behind (y ∷ l) rest h = some-none h
 
   -- the same of a row of one test
-  pub row-here : (b : Bool) (x : A) (rest : List (List A)) → b ≡ true → firstOf (concat (iff b x ∷ rest)) ≡ some x
+  pub row-here : (b : Bool) (x : A) (rest : List (List A)) → b ≡ true → firstOf (concat (when b x ∷ rest)) ≡ some x
   unfolding firstOf concat
   row-here b x rest h = rw h
 
-  pub row-behind : (b : Bool) (x : A) (rest : List (List A)) → b ≡ false → firstOf (concat (iff b x ∷ rest)) ≡ firstOf (concat rest)
+  pub row-behind : (b : Bool) (x : A) (rest : List (List A)) → b ≡ false → firstOf (concat (when b x ∷ rest)) ≡ firstOf (concat rest)
   unfolding firstOf concat
   row-behind b x rest h = rw h
 
@@ -37,7 +37,7 @@ module _ {A : Type 0} where
   last-row (x ∷ l) = refl
 
   -- a table whose last test fails has no fault
-  pub last-test : (b : Bool) (x : A) → b ≡ false → firstOf (concat (iff b x ∷ [])) ≡ none
+  pub last-test : (b : Bool) (x : A) → b ≡ false → firstOf (concat (when b x ∷ [])) ≡ none
   unfolding firstOf concat
   last-test b x h = rw h
 
@@ -96,6 +96,6 @@ module _ {A : Type 0} where
   all-none (r ∷ l) h = (append-none r (concat l) h .0, all-none l (append-none r (concat l) h .1))
 
   -- a row that gives no reason: its test failed
-  pub row-none : (b : Bool) (x : A) → iff b x ≡ [] → b ≡ false
+  pub row-none : (b : Bool) (x : A) → when b x ≡ [] → b ≡ false
   row-none true x h = impossible (cc)
   row-none false x h = refl

@@ -10,9 +10,9 @@ pick true x y = x
 pick false x y = y
 
 -- one row of a table of rules: the reason where its test holds, else nothing
-abbrev pub iff {ℓ} : {A : Type ℓ} → Bool → A → List A
-iff true x = x ∷ []
-iff false x = []
+abbrev pub when {ℓ} : {A : Type ℓ} → Bool → A → List A
+when true x = x ∷ []
+when false x = []
 
 -- the reasons of all rows of a table, in order
 unfoldable pub concat {ℓ} : {A : Type ℓ} → List (List A) → List A

@@ -15,26 +15,26 @@ use Rattle.point.specs.Point.{PointId, Includes, Direct, PointInfo, prevId, sam
 use Rattle.point.specs.declared.data.PointRole.the-variants.{Regular}
 use Rattle.schedule.specs.Settings.{Settings}
 use Rattle.reasons.specs.Verdict as verdict
-use Rattle.verifier.specs.Validate.{validate, ofResult}
-use Rattle.verify.specs.Call.{Input, refused, taken, verifyBuffer}
-use Rattle.judge.specs.Judge.{JudgeAnswer, Number, Given, Before, answered, needed, before, judgeAnswerOf, beforeOf}
+use Rattle.rules.specs.Validate.{validate, ofResult}
+use Rattle.rules.specs.Judge.{Input, refused, admitted, verifyBuffer, JudgeAnswer, Number, Given, Before, answered, needed, before}
+use Rattle.judge.specs.Code.{judgeAnswerOf, beforeOf}
 use Rattle.judge.specs.declared.before.Before as code-before
 use Rattle.judge.specs.declared.before.Before.the-variants as case-before
-use Rattle.plain_book.specs.Kept.{Kept, Book, find, mark, markPrev}
-use Rattle.plain_book.specs.Lists.{directList, indirectList}
-use Rattle.plain_book.specs.Offer.{Offer, used, offerTested, leftFrom, beforeIn, markedIn, answerIn, offerWith, offer}
-use Rattle.plain_book.specs.Layout.{keptBytes, entriesBytes, bookBytes, keptFront, Opened, readBook}
-use Rattle.plain_book.specs.Calls.{Result, resultOf, offerTo, offerBytes}
-use Rattle.plain_book.proofs.RoundTrip.{settings-length}
-use Rattle.plain_book.proofs.Canonical.{BookOf, book-again}
-use Rattle.plain_book.proofs.Shape.{whole}
-use Rattle.plain_book.proofs.Offered.{Accepted, accepted, marked-used}
-use Rattle.plain_book.proofs.Bytes.{entry-within, mark-absent, mark-bytes, append-bytes}
-use Rattle.index.specs.Index.{FoundAt}
-use Rattle.index.specs.declared.Place.the-variants.{At, Absent}
-use Rattle.read_book.specs.ReadBook.{Holds, IsRead}
-use Rattle.read_book.proofs.Laws.{found-kept, absent-kept}
-use Rattle.book.specs.Decided.{markedAt, LeftAt, Decides, Ready, Marks, MarkPlace}
+use Rattle.books.specs.Kept.{Kept, Book, findKept, mark, markPrev}
+use Rattle.books.specs.Lists.{directList, indirectList}
+use Rattle.books.specs.Offer.{Offer, used, offerTested, leftFrom, beforeIn, markedIn, answerIn, offerWith, offer}
+use Rattle.books.specs.Layout.{keptBytes, entriesBytes, bookBytes, keptFront, Opened, readBook}
+use Rattle.books.specs.Calls.{Result, laidOut, offerTo, offerBytes}
+use Rattle.books.proofs.RoundTrip.{settings-length}
+use Rattle.books.proofs.Canonical.{BookOf, book-again}
+use Rattle.books.proofs.Shape.{whole}
+use Rattle.books.proofs.Offered.{Accepted, accepted, marked-used}
+use Rattle.books.proofs.Bytes.{entry-within, mark-absent, mark-bytes, append-bytes}
+use Rattle.book_index.specs.Code.{FoundAt}
+use Rattle.book_index.specs.declared.Place.the-variants.{At, Absent}
+use Rattle.book_read.specs.Code.{Holds, IsRead}
+use Rattle.book_read.proofs.Laws.{found-kept, absent-kept}
+use Rattle.book.specs.Code.{markedAt, LeftAt, Decides, Ready, Marks, MarkPlace}
 use Rattle.book.specs.declared.decide.Decided as code-decided
 use Rattle.book.proofs.Tests.{passed-buffer, all-taken}
 
@@ -98,7 +98,7 @@ module _ (s : List ℕ) (w : Bytes s) (z : Opened) (r : readBook s ≡ some z) w
   pub no-prev : Marks s z none 0
   no-prev = unmarked none refl
 
-  not-kept : (i : PointId) → find (z .book) i ≡ none → Marks s z (some i) 0
+  not-kept : (i : PointId) → findKept (z .book) i ≡ none → Marks s z (some i) 0
   not-kept i h = unmarked (some i) (mark-absent i (z .book) h)
 
   kept-mark : (i : PointId) (j : ℕ) (k : Kept) (rest : Book) → drop j (z .book) ≡ k ∷ rest → sameId (k .point .id) i ≡ true → (at : ℕ) →
@@ -132,7 +132,7 @@ module _ (s : List ℕ) (w : Bytes s) (z : Opened) (r : readBook s ≡ some z) w
   -- the offer
 
   module _ (o : Offer) where
-    to-book : offerBytes s o ≡ resultOf (z .bytes) (length s) (offer (z .settings) (length s) (z .book) o)
+    to-book : offerBytes s o ≡ laidOut (z .bytes) (length s) (offer (z .settings) (length s) (z .book) o)
     unfolding offerBytes
     to-book = ap (offerTo s o) r
 
@@ -141,15 +141,15 @@ module _ (s : List ℕ) (w : Bytes s) (z : Opened) (r : readBook s ≡ some z) w
         offerBytes s o ≡ record { answer = Number n; peers = o .peers; bytes = s }
     unfolding offer offerWith
     number-result n t =
-        to-book ∙ (ap (λ x. resultOf (z .bytes) (length s) (offerWith (z .book) o x)) t
+        to-book ∙ (ap (λ x. laidOut (z .bytes) (length s) (offerWith (z .book) o x)) t
         ∙ ap (λ (l : List ℕ). record { answer = Number n; peers = o .peers; bytes = l }) (sym (again .bytes)))
 
-    module _ (i : Input) (t : offerTested (z .settings) (length s) (z .book) o ≡ taken i) where
-      taken-result : offerBytes s o ≡ resultOf (z .bytes) (length s) (offerWith (z .book) o (taken i))
+    module _ (i : Input) (t : offerTested (z .settings) (length s) (z .book) o ≡ admitted i) where
+      taken-result : offerBytes s o ≡ laidOut (z .bytes) (length s) (offerWith (z .book) o (admitted i))
       unfolding offer
-      taken-result = to-book ∙ ap (λ x. resultOf (z .bytes) (length s) (offerWith (z .book) o x)) t
+      taken-result = to-book ∙ ap (λ x. laidOut (z .bytes) (length s) (offerWith (z .book) o x)) t
 
-      module _ (d : code-decided.Decided) (buffer : List ℕ) (f : buffer ≡ verifyBuffer (taken i) (o .peers)) (e : d .end ≡ 47 + used (z .book)) where
+      module _ (d : code-decided.Decided) (buffer : List ℕ) (f : buffer ≡ verifyBuffer (admitted i) (o .peers)) (e : d .end ≡ 47 + used (z .book)) where
         -- an offer that is judged: its answer, and its mark
         judged-decides : judgeAnswerOf (d .answer) ≡ answerIn i (o .leader) (z .book) → ((d .mark ≡ 0 → ⊥) → d .mark < length s) →
             bookBytes (z .bytes) (length s) (markedIn i (o .leader) (z .book)) ≡ markedAt s (d .mark) → Decides s o d buffer
@@ -186,7 +186,7 @@ module _ (s : List ℕ) (w : Bytes s) (z : Opened) (r : readBook s ≡ some z) w
 -- ---- an offer that passed the tests
 
 module _ {s : List ℕ} {o : Offer} {c : Settings} {n end : ℕ} {at next heads : List ℕ} {i : Input} (h : Ready s o c n end at next heads i) where
-  is-taken : offerTested (h .read .opened .settings) (length s) (h .read .opened .book) o ≡ taken i
+  is-taken : offerTested (h .read .opened .settings) (length s) (h .read .opened .book) o ≡ admitted i
   is-taken =
       ap (λ (x : Settings). offerTested x (length s) (h .read .opened .book) o) (sym (h .read .settings))
       ∙ all-taken c (length s) (h .read .opened .book) o i (h .passed) (h .new) (h .room)
@@ -197,7 +197,7 @@ module _ {s : List ℕ} {o : Offer} {c : Settings} {n end : ℕ} {at next heads 
   pub ready-accepted : Accepted (h .read .opened .settings) (length s) (h .read .opened .book) o i
   ready-accepted = accepted (h .read .opened .settings) (length s) (h .read .opened .book) o i is-taken
 
-  module _ (w : Bytes s) (d : code-decided.Decided) (buffer : List ℕ) (f : buffer ≡ verifyBuffer (taken i) (o .peers)) (e : d .end ≡ end) where
+  module _ (w : Bytes s) (d : code-decided.Decided) (buffer : List ℕ) (f : buffer ≡ verifyBuffer (admitted i) (o .peers)) (e : d .end ≡ end) where
     pub ready-answered : (x : code-before.Before) → beforeOf x ≡ before (i .settings) (i .schedule) (eqb (o .leader) 1) (i .point) → x ≡ case-before.Answered (d .answer) →
         d .mark ≡ 0 → Decides s o d buffer
     unfolding beforeIn

@@ -1,4 +1,4 @@
--- Laws of opening a book: zeros behind the settings.
+-- Laws of opening a book: zeros after the settings.
 use Prim.Native.Nat.{ℕ, suc, _-_, _≤_, _<_}
 use native.Mathlib.Nat.{sub-zero}
 use native.Mathlib.Omega.{arith}
@@ -14,10 +14,10 @@ use Rattle.base.specs.Base.{pick}
 use Rattle.parts.specs.Bytes.{putAt}
 use Rattle.write.proofs.Laws.{put-length}
 use Rattle.schedule.specs.Settings.{Settings, readSettings}
-use Rattle.plain_book.specs.Offer.{used}
-use Rattle.plain_book.specs.Layout.{entriesBytes, bookBytes}
-use Rattle.plain_book.specs.Calls.{openNumber, openedAs, openBytes}
-use Rattle.plain_book.proofs.RoundTrip.{settings-length}
+use Rattle.books.specs.Offer.{used}
+use Rattle.books.specs.Layout.{entriesBytes, bookBytes}
+use Rattle.books.specs.Calls.{openNumber, openedAs, openBytes}
+use Rattle.books.proofs.RoundTrip.{settings-length}
 
 -- ---- zeros from a place on
 
@@ -67,7 +67,7 @@ module _ (settings s : List ℕ) where
       unfolding openBytes bookBytes entriesBytes used
       bytes-open = ap (openedAs settings s) number-open ∙ rw (sub-zero (length s - 47))
 
-      -- the settings and zeros behind them
+      -- the settings and zeros after them
       pub is-open : (0 ≡ openNumber settings (length s)) × (cleared (putAt s 0 settings) 47 ≡ openBytes settings s)
       unfolding putAt
       is-open =

@@ -14,15 +14,15 @@ use Rattle.point.specs.Point.{PointInfo, prevDigest, prevIdWith, prevId, inDoma
 use Rattle.point.specs.Reading.{readPoint}
 use Rattle.schedule.specs.Settings.{Settings}
 use Rattle.schedule.specs.Schedule.{Schedule, readSchedule}
-use Rattle.verify.specs.Call.{Input, Tested, refused, taken, testedWith}
-use Rattle.plain_book.specs.Kept.{Kept, Book, find}
-use Rattle.plain_book.specs.Offer.{Offer, used, isFull, testedRoom, offerTested}
-use Rattle.plain_book.specs.Layout.{KeptFront, keptFront}
-use Rattle.layout.specs.Values.{readKeptOf, Placed, KeptPlaced}
-use Rattle.layout.specs.declared.read.Kept as code-kept
-use Rattle.layout.specs.declared.read.ReadKept as code-read-kept
-use Rattle.layout.specs.declared.read.ReadKept.the-variants as case-read-kept
-use Rattle.book.specs.Decided.{inputTested}
+use Rattle.rules.specs.Judge.{Input, Tested, refused, admitted, testedWith}
+use Rattle.books.specs.Kept.{Kept, Book, findKept}
+use Rattle.books.specs.Offer.{Offer, used, isFull, testedRoom, offerTested}
+use Rattle.books.specs.Layout.{KeptFront, keptFront}
+use Rattle.book_layout.specs.Code.{readKeptOf, KeptAt, KeptPlaced}
+use Rattle.book_layout.specs.declared.read.Kept as code-kept
+use Rattle.book_layout.specs.declared.read.ReadKept as code-read-kept
+use Rattle.book_layout.specs.declared.read.ReadKept.the-variants as case-read-kept
+use Rattle.book.specs.Code.{inputTested}
 
 pub full-last : (a b : ℕ) → 108 ≤ a → ltb (a - 108) b ≡ ltb a (b + 108)
 full-last a b h = elim (decLt (a - 108) b) [
@@ -49,7 +49,7 @@ sizeOf none = 0
 sizeOf (some x) = x .size
 
 module _ (s : List ℕ) (x : code-read-kept.ReadKept) where
-  pub kept-placed : (y : code-kept.Kept) → x ≡ case-read-kept.Kept y → KeptPlaced s x → Placed s y
+  pub kept-placed : (y : code-kept.Kept) → x ≡ case-read-kept.Kept y → KeptPlaced s x → KeptAt s y
   kept-placed y e h = rw e at h
 
   module _ (e : readKeptOf s x ≡ keptFront s) (k : Kept) (g : keptFront s ≡ some (record { kept = k; size = length (k .bytes) + 108 })) where
@@ -84,15 +84,15 @@ module _ (c : Settings) (o : Offer) where
           pub no-buffer : length (o .peers) < 8160 → inputTested c o ≡ refused 5
           no-buffer m = rw (h, g) (rw (d, le-leb (o .leader) 1 l, lt-ltb (length (o .peers)) 8160 m))
 
-          pub all-passed : 8160 ≤ length (o .peers) → inputTested c o ≡ taken (record { settings = c; schedule = s; point = p })
+          pub all-passed : 8160 ≤ length (o .peers) → inputTested c o ≡ admitted (record { settings = c; schedule = s; point = p })
           all-passed m = rw (h, g) (rw (d, le-leb (o .leader) 1 l, le-ltb (length (o .peers)) 8160 m))
 
 abbrev Roomy : ℕ → Tested → Type 0
 Roomy size (refused n) = Unit
-Roomy size (taken i) = 8160 ≤ size
+Roomy size (admitted i) = 8160 ≤ size
 
 -- an input that passed has room for peers
-pub passed-buffer : (c : Settings) (o : Offer) (i : Input) → inputTested c o ≡ taken i → 8160 ≤ length (o .peers)
+pub passed-buffer : (c : Settings) (o : Offer) (i : Input) → inputTested c o ≡ admitted i → 8160 ≤ length (o .peers)
 passed-buffer c o i h = subst (Roomy (length (o .peers))) h (all (readSchedule (o .schedule)) (readPoint (o .bytes)))
   where
     all : (s : Option Schedule) (p : Option PointInfo) → Roomy (length (o .peers)) (testedWith (some c) s p (leb (o .leader) 1) (length (o .peers)))
@@ -100,7 +100,7 @@ passed-buffer c o i h = subst (Roomy (length (o .peers))) h (all (readSchedule (
     all (some s) none = tt
     all (some s) (some p) = go (not (inDomain p && leb (o .leader) 1)) (ltb (length (o .peers)) 8160) refl
       where
-        go : (x y : Bool) → ltb (length (o .peers)) 8160 ≡ y → Roomy (length (o .peers)) (pick x (refused 4) (pick y (refused 5) (taken (record { settings = c; schedule = s; point = p }))))
+        go : (x y : Bool) → ltb (length (o .peers)) 8160 ≡ y → Roomy (length (o .peers)) (pick x (refused 4) (pick y (refused 5) (admitted (record { settings = c; schedule = s; point = p }))))
         go true y e = tt
         go false true e = tt
         go false false e = ltb-false (length (o .peers)) 8160 e
@@ -112,22 +112,22 @@ module _ (c : Settings) (len : ℕ) (b : Book) (o : Offer) where
   unfolding offerTested
   input-refused n h = rw h
 
-  module _ (i : Input) (h : inputTested c o ≡ taken i) where
-    after-input : offerTested c len b o ≡ testedRoom len b (o .bytes) (taken i)
+  module _ (i : Input) (h : inputTested c o ≡ admitted i) where
+    after-input : offerTested c len b o ≡ testedRoom len b (o .bytes) (admitted i)
     unfolding offerTested
     after-input = ap (testedRoom len b (o .bytes)) h
 
-    pub is-there : (k : Kept) → find b (i .point .id) ≡ some k → offerTested c len b o ≡ refused 11
+    pub is-there : (k : Kept) → findKept b (i .point .id) ≡ some k → offerTested c len b o ≡ refused 11
     is-there k f = after-input ∙ rw f
 
-    module _ (f : find b (i .point .id) ≡ none) where
+    module _ (f : findKept b (i .point .id) ≡ none) where
       pub no-room : isFull len b (o .bytes) ≡ true → offerTested c len b o ≡ refused 12
       no-room r = after-input ∙ rw (f, r)
 
-      pub all-taken : isFull len b (o .bytes) ≡ false → offerTested c len b o ≡ taken i
+      pub all-taken : isFull len b (o .bytes) ≡ false → offerTested c len b o ≡ admitted i
       all-taken r = after-input ∙ rw (f, r)
 
--- of a book that was read, so many entries that end at a place
+-- of a book that was read, n entries that end at a place
 pub full-is : (len : ℕ) (b : Book) (bytes : List ℕ) (n end : ℕ) → n ≡ length b → end ≡ 47 + used b →
     (leb 4096 n || ltb (len - end) (length bytes + 108)) ≡ isFull len b bytes
 unfolding isFull

@@ -1,13 +1,13 @@
 // What an offer comes to, decided over the book as it stands.
-use index::Place;
+use book_index::Place;
+use book_layout::ReadKept;
+use book_read::ReadBook;
 use judge::Before;
 use judge::JudgeAnswer;
-use layout::ReadKept;
 use map::Found;
 use point::PointId;
 use point::PointInfo;
 use point::ReadPoint;
-use read_book::ReadBook;
 use schedule::Schedule;
 use schedule::Settings;
 ghost use mathlib.Core.Path.{_≡_};
@@ -18,15 +18,17 @@ ghost use lib.ListN.{length, drop};
 ghost use lib.Dec.{leb, ltb};
 ghost use Rattle.parts.specs.Limits.{tag33Length, mostKept};
 ghost use Rattle.point.specs.Point.{prevId};
-ghost use Rattle.point.specs.Reading.{pointOf, readPoint};
-ghost use Rattle.schedule.specs.Settings.{settingsOf};
-ghost use Rattle.verify.specs.Call.{taken};
-ghost use Rattle.judge.specs.Judge.{Number, judgeAnswerOf};
-ghost use Rattle.index.specs.Index.{Index};
-ghost use Rattle.read_book.specs.ReadBook.{IsRead};
-ghost use Rattle.plain_book.specs.Kept.{Kept};
-ghost use Rattle.plain_book.specs.Layout.{keptFront};
-ghost use Rattle.book.specs.Decided.{offerOf, Decides, inputTested, inputOf, Ready, MarkPlace};
+ghost use Rattle.point.specs.Code.{pointOf};
+ghost use Rattle.point.specs.Reading.{readPoint};
+ghost use Rattle.schedule.specs.Code.{settingsOf};
+ghost use Rattle.rules.specs.Judge.{admitted, Number};
+ghost use Rattle.judge.specs.Code.{judgeAnswerOf};
+ghost use Rattle.book_index.specs.Code.{Index};
+ghost use Rattle.book_read.specs.Code.{IsRead};
+ghost use Rattle.books.specs.Kept.{Kept};
+ghost use Rattle.books.specs.Layout.{keptFront};
+ghost use Rattle.books.specs.Offer.{offerOf};
+ghost use Rattle.book.specs.Code.{Decides, inputTested, inputOf, Ready, MarkPlace};
 
 // The answer, the place of the mark that the offer makes, 0 if none, and where the entries end.
 pub struct Decided {
@@ -46,7 +48,7 @@ fn refused(number: u8) -> Decided
     }
 }
 
-// Whether a book so long, whose n entries end at a place, has no room for a record so long.
+// Whether a book of `len` bytes, whose n entries end at a place, has no room for a record of a length.
 fn is_full(len: usize, n: usize, end: usize, rec_len: usize) -> bool
     requires { ⌜ end ≤ len ⌝ }
     ensures { λ r. ⌜ r ≡ (leb mostKept n || ltb (len - end) («rec_len» + tag33Length)) ⌝ }
@@ -65,7 +67,7 @@ fn flag_at(book: &[u8], place: usize) -> usize
     requires { ⌜ place ≤ length (now book) ⌝ }
     ensures { λ r. ⌜ ((k : Kept) → keptFront (drop place (now (book .entry))) ≡ some (record { kept = k; size = length (k .bytes) + tag33Length }) → r ≡ place + length (k .bytes) + 4) ⌝ }
 {
-    let read = layout::read_kept(&book[place..]);
+    let read = book_layout::read_kept(&book[place..]);
     match read {
         ReadKept::Kept(k) => place + k.place + 4,
         ReadKept::Unreadable => 0,
@@ -97,7 +99,7 @@ fn mark_at(
         digest,
         author,
     };
-    let place = index::find(book, n, at, next, heads, id);
+    let place = book_index::find(book, n, at, next, heads, id);
     match place {
         Place::At(j) => flag_at(book, at[j] as usize),
         Place::Absent => 0,
@@ -131,7 +133,7 @@ fn judge_offer(
             end,
         },
         Before::Needed(required) => {
-            let v = judge_book::judge_book(conf, required, rec, info, book, n, at, next, heads);
+            let v = book_judge::judge_book(conf, required, rec, info, book, n, at, next, heads);
             Decided {
                 answer: JudgeAnswer::Verdict(v),
                 mark: mark_at(rec, info, book, n, at, next, heads),
@@ -158,11 +160,11 @@ fn decide_point(
     heads: &[u16],
 ) -> Decided
     requires { ⌜ IsRead (now book) (settingsOf conf) n end (now at) (now next) (now heads) ⌝ }
-    requires { ⌜ inputTested (settingsOf conf) (offerOf (now schedule) leader (now rec) (now peers)) ≡ taken (inputOf conf (now schedule) spans (now rec) info) ⌝ }
+    requires { ⌜ inputTested (settingsOf conf) (offerOf (now schedule) leader (now rec) (now peers)) ≡ admitted (inputOf conf (now schedule) spans (now rec) info) ⌝ }
     ensures { λ r. ⌜ Decides (now (book .entry)) (offerOf (now (schedule .entry)) leader (now (rec .entry)) (now (peers .entry))) r (now (peers .exit)) ⌝ }
 {
     let id = info.id;
-    let Place::Absent = index::find(book, n, at, next, heads, id) else {
+    let Place::Absent = book_index::find(book, n, at, next, heads, id) else {
         return refused(11);
     };
     if is_full(book.len(), n, end, rec.len()) {
@@ -243,7 +245,7 @@ pub fn decide(book: &[u8], schedule: &[u8], leader: u8, rec: &[u8], peers: &mut 
     let mut at = [0u32; parts::MOST_KEPT];
     let mut next = [0u16; parts::MOST_KEPT];
     let mut heads = [0u16; parts::MOST_KEPT];
-    let read = read_book::read_book(book, &mut at, &mut next, &mut heads);
+    let read = book_read::read_book(book, &mut at, &mut next, &mut heads);
     match read {
         ReadBook::Book(conf, n, end) => decide_in(
             conf,

@@ -1,16 +1,17 @@
 // The book that keeps judged points: opening it, and offering points to it.
 mod decide;
 
+use book_layout::Left;
 use judge::JudgeAnswer;
-use layout::Left;
 use schedule::ReadSettings;
 ghost use mathlib.Core.Path.{_≡_};
 ghost use mathlib.Core.List.{_++_};
 ghost use Prim.Native.Nat.{_-_, _≤_, _<_};
 ghost use lib.ListN.{length, take, replicate};
-ghost use Rattle.judge.specs.Judge.{judgeAnswerOf};
-ghost use Rattle.plain_book.specs.Calls.{openNumber, openBytes, offerBytes};
-ghost use Rattle.book.specs.Decided.{offerOf, markedAt, FitsAt, LeftAt};
+ghost use Rattle.judge.specs.Code.{judgeAnswerOf};
+ghost use Rattle.books.specs.Calls.{openNumber, openBytes, offerBytes};
+ghost use Rattle.books.specs.Offer.{offerOf};
+ghost use Rattle.book.specs.Code.{markedAt, FitsAt, LeftAt};
 
 // Sets the bytes from a place on to 0.
 fn clear(s: &mut [u8], from: usize)
@@ -24,7 +25,7 @@ fn clear(s: &mut [u8], from: usize)
     }
 }
 
-// Opens a book: the settings first, zeros behind them. Gives 1, 5, or 0 where it is open.
+// Opens a book: the settings first, zeros after them. Gives 1, 5, or 0 where it is open.
 pub fn open(book: &mut [u8], settings: &[u8]) -> u8
     ensures { λ r. ⌜ r ≡ openNumber (now (settings .entry)) (length (now (book .entry))) ⌝ }
     ensures { λ r. ⌜ now (book .exit) ≡ openBytes (now (settings .entry)) (now (book .entry)) ⌝ }
@@ -61,10 +62,10 @@ fn keep(book: &mut [u8], end: usize, rec: &[u8], answer: JudgeAnswer)
     match answer {
         JudgeAnswer::Number(_) => {}
         JudgeAnswer::Verdict(v) => {
-            let left = layout::of_verdict(v);
+            let left = book_layout::of_verdict(v);
             match left {
                 Left::Nothing => {}
-                Left::Entry(status) => layout::put_kept(book, end, rec, status),
+                Left::Entry(status) => book_layout::put_kept(book, end, rec, status),
             }
         }
     }

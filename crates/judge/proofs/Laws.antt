@@ -16,17 +16,16 @@ use Rattle.schedule.specs.Schedule.{Schedule}
 use Rattle.reasons.specs.Invalid.{NoRoundInDag}
 use Rattle.reasons.specs.Verdict.{Verdict, Valid}
 use Rattle.reasons.specs.declared.ill_formed.VerifyError.{VerifyError}
-use Rattle.verifier.specs.Verify.{scheduled, verify}
-use Rattle.verifier.specs.Found.{bufferWith}
-use Rattle.verifier.specs.DagPoint.{Entry, IndirectEntry}
-use Rattle.verifier.specs.Validate.{isInvalid, ofResult, overLists, presenceReason, validate}
-use Rattle.verify.specs.Call.{Input, Tested, refused, taken, verifyBuffer}
-use Rattle.check_ill_formed.specs.WaveChecked.{waveChecked}
-use Rattle.check_ill_formed.specs.declared.WaveChecked.{WaveChecked}
-use Rattle.entries.specs.Entries.{Listed, readList, directs, indirects}
-use Rattle.mismatch.specs.Mismatch.{mismatch, uncovered}
-use Rattle.judge_list.specs.JudgedList.{Judged, judgedWith}
-use Rattle.judge.specs.Judge.{JudgeAnswer, Number, Given, ofError, Before, answered, needed, beforeWave, beforeWith, before, judgeFrom, overList, judgeWith, judgeAnswerOf}
+use Rattle.rules.specs.Verify.{scheduled, verify, bufferWith}
+use Rattle.rules.specs.DagPoint.{Entry, IndirectEntry}
+use Rattle.rules.specs.Validate.{isInvalid, ofResult, overLists, presenceReason, validate}
+use Rattle.rules.specs.Judge.{Input, Tested, refused, admitted, verifyBuffer, JudgeAnswer, Number, Given, ofError, Before, answered, needed, beforeWave, beforeWith, before, judgeFrom, overList, judgeWith}
+use Rattle.rules.specs.CheckIllFormed.{waveChecked}
+use Rattle.reasons.specs.declared.ill_formed.WaveChecked.{WaveChecked}
+use Rattle.rules.specs.List.{Listed, readList, directs, indirects}
+use Rattle.rules.specs.Mismatch.{mismatch, uncovered}
+use Rattle.judge_list.specs.Code.{ListJudged, judgedWith}
+use Rattle.judge.specs.Code.{judgeAnswerOf}
 use Rattle.judge.specs.declared.before.JudgeAnswer as code-answer
 use Rattle.judge.specs.declared.before.JudgeAnswer.the-variants as case-answer
 
@@ -38,14 +37,14 @@ Mismatch presence p o b = (l : List Listed) → o ≡ some l → b ≡ mismatch 
 
 module _ (c : Settings) (required : Bool) (p : PointInfo) where
   -- what judging over a list came to, if that was read
-  abbrev pub Over : Option (List Listed) → Option Judged → Type 0
+  abbrev pub Over : Option (List Listed) → Option ListJudged → Type 0
   Over o j = j ≡ judgedWith c required p o
 
-  pub was-read : (o : Option (List Listed)) (j : Judged) → Over o (some j) → isSome o ≡ true
+  pub was-read : (o : Option (List Listed)) (j : ListJudged) → Over o (some j) → isSome o ≡ true
   was-read none j h = impossible (cc)
   was-read (some l) j h = refl
 
-  over-is : (l : List Listed) (j : Judged) → Over (some l) (some j) →
+  over-is : (l : List Listed) (j : ListJudged) → Over (some l) (some j) →
       j
       ≡ record {
         verdict = ofResult (overLists c required p (directs l) (indirects l));
@@ -53,26 +52,26 @@ module _ (c : Settings) (required : Bool) (p : PointInfo) where
       }
   over-is l j h = cc
 
-  is-uncovered : (l : List Listed) (j : Judged) → Over (some l) (some j) → uncovered (prevId p) (directs l) (indirects l) ≡ j .uncovered
-  is-uncovered l j h = sym (ap (λ (k : Judged). k .uncovered) (over-is l j h))
+  is-uncovered : (l : List Listed) (j : ListJudged) → Over (some l) (some j) → uncovered (prevId p) (directs l) (indirects l) ≡ j .uncovered
+  is-uncovered l j h = sym (ap (λ (k : ListJudged). k .uncovered) (over-is l j h))
 
 module _ (c : Settings) (required : Bool) (presence : ℕ) (p : PointInfo) where
   pub answer-unread : (o : Option (List Listed)) → Over c required p o none → Number 7 ≡ overList c required presence p o
   answer-unread none h = refl
   answer-unread (some l) h = impossible (cc)
 
-  pub answer-mismatch : (o : Option (List Listed)) (j : Judged) → Over c required p o (some j) → Mismatch presence p o true →
+  pub answer-mismatch : (o : Option (List Listed)) (j : ListJudged) → Over c required p o (some j) → Mismatch presence p o true →
       Number 8 ≡ overList c required presence p o
   answer-mismatch none j h m = impossible (cc)
   answer-mismatch (some l) j h m = rw (sym (m l refl))
 
-  pub answer-uncovered : (o : Option (List Listed)) (j : Judged) → Over c required p o (some j) →
+  pub answer-uncovered : (o : Option (List Listed)) (j : ListJudged) → Over c required p o (some j) →
       Mismatch presence p o false → j .uncovered ≡ true → Number 9 ≡ overList c required presence p o
   answer-uncovered none j h m u = impossible (cc)
   answer-uncovered (some l) j h m u = rw (sym (m l refl), is-uncovered c required p l j h, u)
 
   -- past the numbers
-  answer-judged : (l : List Listed) (j : Judged) → Over c required p (some l) (some j) →
+  answer-judged : (l : List Listed) (j : ListJudged) → Over c required p (some l) (some j) →
       Mismatch presence p (some l) false → j .uncovered ≡ false →
       Given (ofResult (validate c required presence p (directs l) (indirects l))) ≡ overList c required presence p (some l)
   answer-judged l j h m u = rw (sym (m l refl), is-uncovered c required p l j h, u)
@@ -85,18 +84,18 @@ module _ (c : Settings) (required : Bool) (presence : ℕ) (p : PointInfo) where
     by-witness true es ts h = rw (← h, ne-eqb presence 0 (λ e. omega (arith, two, e)), ne-eqb presence 1 (λ e. omega (arith, two, e)))
     by-witness false es ts h = rw (← h, ne-eqb presence 0 (λ e. omega (arith, two, e)), ne-eqb presence 1 (λ e. omega (arith, two, e)))
 
-    pub answer-witness : (o : Option (List Listed)) (j : Judged) → Over c required p o (some j) →
+    pub answer-witness : (o : Option (List Listed)) (j : ListJudged) → Over c required p o (some j) →
         Mismatch presence p o false → j .uncovered ≡ false → true ≡ (eqb presence 2 && not (isEmpty (p .witness))) →
         Given (ofResult (isInvalid (NoRoundInDag case-map.Witness))) ≡ overList c required presence p o
     answer-witness none j h m u n = impossible (cc)
     answer-witness (some l) j h m u n =
         ap (λ r. Given (ofResult r)) (sym (by-witness true (directs l) (indirects l) n)) ∙ answer-judged l j h m u
 
-    pub answer-verdict : (o : Option (List Listed)) (j : Judged) → Over c required p o (some j) →
+    pub answer-verdict : (o : Option (List Listed)) (j : ListJudged) → Over c required p o (some j) →
         Mismatch presence p o false → j .uncovered ≡ false → false ≡ (eqb presence 2 && not (isEmpty (p .witness))) → Given (j .verdict) ≡ overList c required presence p o
     answer-verdict none j h m u n = impossible (cc)
     answer-verdict (some l) j h m u n =
-        ap (λ (k : Judged). Given (k .verdict)) (over-is c required p l j h)
+        ap (λ (k : ListJudged). Given (k .verdict)) (over-is c required p l j h)
         ∙ (ap (λ q. Given (ofResult q)) (sym (by-witness false (directs l) (indirects l) n)) ∙ answer-judged l j h m u)
 
 -- ---- before the list
@@ -153,8 +152,8 @@ module _ (leader presence : ℕ) (list : List ℕ) where
   unfolding judgeWith
   answer-number t n old h = rw h (refl, refl)
 
-  -- the input was taken, and this is known before the list
-  pub answer-taken : (t : Tested) (i : Input) (a : code-answer.JudgeAnswer) (b : Before) (old new : List ℕ) → t ≡ taken i →
+  -- the input was admitted, and this is known before the list
+  pub answer-taken : (t : Tested) (i : Input) (a : code-answer.JudgeAnswer) (b : Before) (old new : List ℕ) → t ≡ admitted i →
       b ≡ before (i .settings) (i .schedule) (eqb leader 1) (i .point) → judgeAnswerOf a ≡ judgeFrom (i .settings) presence (i .point) list b →
       new ≡ bufferWith (scheduled (i .settings) (i .schedule) (i .point)) (i .point) (verify (i .settings) (i .schedule) (i .point)) old →
       Answered t a old new

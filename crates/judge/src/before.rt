@@ -1,9 +1,9 @@
 // What is known of a point before any list is read.
-use check_ill_formed::WaveChecked;
 use point::PointInfo;
 use reasons::Verdict;
 use reasons::Verified;
 use reasons::VerifyError;
+use reasons::WaveChecked;
 use schedule::Schedule;
 use schedule::Settings;
 ghost use mathlib.Core.Path.{_≡_};
@@ -13,14 +13,15 @@ ghost use Prim.Native.Nat.{ℕ, _≤_};
 ghost use lib.ListN.{length};
 ghost use lib.Dec.{eqb};
 ghost use Rattle.parts.specs.Limits.{peersRoom};
-ghost use Rattle.point.specs.Reading.{pointOf, readPoint};
-ghost use Rattle.schedule.specs.Settings.{settingsOf};
-ghost use Rattle.schedule.specs.Schedule.{readSchedule, scheduleOf};
-ghost use Rattle.reasons.specs.Verdict.{verdictOf};
-ghost use Rattle.verifier.specs.Verify.{scheduled, verify};
-ghost use Rattle.verifier.specs.Found.{verifiedOf, bufferWith};
-ghost use Rattle.check_ill_formed.specs.WaveChecked.{waveChecked};
-ghost use Rattle.judge.specs.Judge.{ofError, beforeWith, before, beforeOf};
+ghost use Rattle.point.specs.Code.{pointOf};
+ghost use Rattle.point.specs.Reading.{readPoint};
+ghost use Rattle.schedule.specs.Code.{settingsOf, scheduleOf};
+ghost use Rattle.schedule.specs.Schedule.{readSchedule};
+ghost use Rattle.reasons.specs.Code.{verdictOf, verifiedOf};
+ghost use Rattle.rules.specs.Verify.{scheduled, verify, bufferWith};
+ghost use Rattle.rules.specs.CheckIllFormed.{waveChecked};
+ghost use Rattle.rules.specs.Judge.{ofError, beforeWith, before};
+ghost use Rattle.judge.specs.Code.{beforeOf};
 
 // Document 01's number in place of a verdict, or the verdict.
 pub enum JudgeAnswer {
@@ -68,7 +69,7 @@ fn before_verified(
     if id.round == conf.genesis_round {
         return Before::Answered(JudgeAnswer::Verdict(Verdict::Valid));
     }
-    let wave = check_ill_formed::check_ill_formed(spans, rec, info, is_leader);
+    let wave = judge_ill_formed::check_ill_formed(spans, rec, info, is_leader);
     match wave {
         WaveChecked::Horizon => Before::Answered(JudgeAnswer::Number(6)),
         WaveChecked::IllFormed(reason) => {

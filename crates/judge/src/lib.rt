@@ -19,15 +19,16 @@ ghost use Prim.Native.Nat.{_≤_};
 ghost use lib.ListN.{length};
 ghost use lib.Dec.{eqb};
 ghost use Rattle.base.specs.Base.{isEmpty};
-ghost use Rattle.point.specs.Reading.{pointOf, readPoint};
+ghost use Rattle.point.specs.Code.{pointOf};
+ghost use Rattle.point.specs.Reading.{readPoint};
 ghost use Rattle.point.specs.declared.info.PointInfo as code-info;
 ghost use Rattle.point.specs.Point.{inDomain};
-ghost use Rattle.schedule.specs.Settings.{settingsOf};
+ghost use Rattle.schedule.specs.Code.{settingsOf};
 ghost use Rattle.reasons.specs.Invalid.{NoRoundInDag};
-ghost use Rattle.verifier.specs.Validate.{isInvalid, ofResult};
-ghost use Rattle.verify.specs.Call.{tested, verifyBuffer};
-ghost use Rattle.entries.specs.Entries.{readList};
-ghost use Rattle.judge.specs.Judge.{Given, needed, overList, judgeFrom, flagsOk, judgeWith, judgeAnswerOf};
+ghost use Rattle.rules.specs.Validate.{isInvalid, ofResult};
+ghost use Rattle.rules.specs.Judge.{tested, verifyBuffer, Given, needed, overList, judgeFrom, flagsOk, judgeWith};
+ghost use Rattle.rules.specs.List.{readList};
+ghost use Rattle.judge.specs.Code.{judgeAnswerOf};
 
 fn no_round(map: PointMap) -> JudgeAnswer
     ensures { λ r. ⌜ judgeAnswerOf r ≡ Given (ofResult (isInvalid (NoRoundInDag map))) ⌝ }
@@ -67,7 +68,7 @@ fn judge_over_list(
     ) else {
         return JudgeAnswer::Number(7);
     };
-    if mismatch::is_mismatch(presence, rec, info, list) {
+    if judge_mismatch::is_mismatch(presence, rec, info, list) {
         return JudgeAnswer::Number(8);
     }
     if uncovered {

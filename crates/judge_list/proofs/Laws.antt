@@ -9,29 +9,26 @@ use lib.Dec.{eqb}
 use borrow.Author.Tests.{eq-eqb, ne-eqb}
 use Rattle.base.specs.Base.{pick, isSome}
 use native.Mathlib.Omega.{arith}
-use Rattle.point.specs.Point.{PointId, PointInfo, sameId, prevIdWith}
-use Rattle.verifier.specs.DagPoint.{pointView}
-use Rattle.mismatch.specs.Mismatch.{isId, uncovers}
+use Rattle.point.specs.Point.{PointId, PointInfo, sameId, prevIdWith, Through, through}
+use Rattle.rules.specs.DagPoint.{pointView, Entry}
+use Rattle.rules.specs.Mismatch.{isId, uncovers}
 use Rattle.schedule.specs.Settings.{Settings}
-use Rattle.entries.specs.Entries.{Listed, readEntry, isInOrder, listThen, listWith, listFrom}
-use Rattle.validate.specs.Validated.{Judging}
-use Rattle.point.specs.Point.{Through, through}
-use Rattle.point.specs.Reading.{linkIn, pointOf}
+use Rattle.rules.specs.List.{Listed, readEntry, isInOrder, listThen, listWith, listFrom}
+use Rattle.judge_step.specs.Code.{Judging, indirectStep}
+use Rattle.point.specs.Code.{linkIn, pointOf}
 use Rattle.point.specs.declared.info.PointInfo as code-info
 use Rattle.point.specs.declared.data.AnchorStageRole.{AnchorStageRole}
 use Rattle.point.specs.declared.data.AnchorStageRole.the-variants.{Proof, Trigger}
-use Rattle.verifier.specs.DagPoint.{Entry}
-use Rattle.validate.specs.Validated.{indirectStep}
-use Rattle.check_valid.specs.Views.{pointViewOf}
-use Rattle.check_valid.specs.declared.view.PointView as code-view
-use Rattle.entries.specs.Entries.{Placed, ListedPlaced}
-use Rattle.entries.specs.declared.Listed as code-listed
-use Rattle.entries.specs.declared.ReadListed as code-read
-use Rattle.entries.specs.declared.ReadListed.the-variants as case-read
+use Rattle.judge_valid.specs.Code.{pointViewOf}
+use Rattle.judge_valid.specs.declared.view.PointView as code-view
+use Rattle.judge_entries.specs.Code.{EntryPlaced, ListedPlaced}
+use Rattle.judge_entries.specs.declared.Listed as code-listed
+use Rattle.judge_entries.specs.declared.ReadListed as code-read
+use Rattle.judge_entries.specs.declared.ReadListed.the-variants as case-read
 use Rattle.judge_list.specs.declared.Next as code-next
 use Rattle.judge_list.specs.declared.Next.the-variants as case-next
 use Rattle.judge_list.specs.declared.Walk as code-walk
-use Rattle.judge_list.specs.Walk.{NextWithin, Walk, Viewed, viewed, stepAs, prevIn, walkStep, walkFold, Next, nextWith, walkWith, viewedOf}
+use Rattle.judge_list.specs.Code.{NextWithin, Walk, Viewed, viewed, stepAs, prevIn, walkStep, walkFold, Next, nextWith, walkWith, viewedOf}
 
 -- ---- the previous point
 
@@ -133,7 +130,7 @@ viewed-by v i s e = rw e
 
 -- where an entry that was read stands
 pub placed-listed : (s : List ℕ) (x : code-listed.Listed) (r : code-read.ReadListed) → r ≡ case-read.Listed x → ListedPlaced s r →
-    (0 < x .size) × Placed s (x .state) (x .place) (x .size)
+    (0 < x .size) × EntryPlaced s (x .state) (x .place) (x .size)
 placed-listed s x r g q = rw g at q
 
 -- the entry of an indirect link's target is judged through that link

@@ -10,14 +10,13 @@ use Rattle.point.specs.Point.{PointInfo, prevId}
 use Rattle.point.specs.declared.data.AnchorStageRole.{AnchorStageRole}
 use Rattle.point.specs.declared.data.AnchorStageRole.the-variants.{Proof, Trigger}
 use Rattle.schedule.specs.Settings.{Settings}
-use Rattle.verifier.specs.DagPoint.{Entry, pointView}
-use Rattle.verifier.specs.Validate.{ofResult, overLists}
-use Rattle.entries.specs.Entries.{Listed, readList, directThen, directs, indirectThen, indirects}
-use Rattle.validate.specs.Validated.{Judging, resultOf}
-use Rattle.validate.proofs.Laws.{listedStep, listedFold, listed-over-lists}
-use Rattle.mismatch.specs.Mismatch.{uncovers, anyUncovers, entriesIn, uncovered}
-use Rattle.judge_list.specs.Walk.{Walk, Viewed, viewed, stepAs, prevIn, walkStep, walkFold, walkWith, walkStart}
-use Rattle.judge_list.specs.JudgedList.{Judged, judgedWith}
+use Rattle.rules.specs.DagPoint.{Entry, pointView}
+use Rattle.rules.specs.Validate.{ofResult, overLists}
+use Rattle.rules.specs.List.{Listed, readList, directThen, directs, indirectThen, indirects}
+use Rattle.judge_step.specs.Code.{Judging, resultOf}
+use Rattle.judge_step.proofs.Laws.{listedStep, listedFold, listed-over-lists}
+use Rattle.rules.specs.Mismatch.{uncovers, anyUncovers, entriesIn, uncovered}
+use Rattle.judge_list.specs.Code.{Walk, Viewed, viewed, stepAs, prevIn, walkStep, walkFold, walkWith, walkStart, ListJudged, judgedWith}
 use Rattle.reasons.specs.Verdict.{Verdict}
 
 -- ---- the previous point over the walk
@@ -96,7 +95,7 @@ module _ (c : Settings) (required : Bool) (p : PointInfo) where
   judged-unread (some l) h = none-some h
 
   pub judged-walked : (s : List ℕ) (o : Option (List Listed)) (w : Walk) (v : Verdict) → readList s ≡ o → some w ≡ walkWith c required (viewed p) walkStart o →
-      v ≡ ofResult (resultOf (w .judging)) → _≡_ {A = Option Judged} (some (record { verdict = v; uncovered = w .uncovered })) (judgedWith c required p o)
+      v ≡ ofResult (resultOf (w .judging)) → _≡_ {A = Option ListJudged} (some (record { verdict = v; uncovered = w .uncovered })) (judgedWith c required p o)
   judged-walked s none w v r h e = impossible (cc)
   judged-walked s (some l) w v r h e =
       let k : w ≡ walkFold c required (viewed p) walkStart l = cc in

@@ -1,2 +1,1 @@
-pub mod JudgedList
-pub mod Walk
+pub mod Code

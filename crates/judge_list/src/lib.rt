@@ -1,16 +1,16 @@
 // A list of dependencies, read and judged entry by entry in one walk.
-use check_valid::PointView;
-use check_valid::Reason;
-use dependency::Recorded;
-use entries::Aim;
-use entries::Listed;
-use entries::ReadListed;
+use judge_dependency::Recorded;
+use judge_entries::Aim;
+use judge_entries::Listed;
+use judge_entries::ReadListed;
+use judge_step::Judging;
+use judge_valid::PointView;
+use judge_valid::Reason;
 use map::Found;
 use point::PointId;
 use point::PointInfo;
 use reasons::Verdict;
 use schedule::Settings;
-use validate::Judging;
 ghost use mathlib.Core.Path.{_≡_};
 ghost use mathlib.Core.Bool.{_||_};
 ghost use mathlib.Core.List.{List};
@@ -18,17 +18,18 @@ ghost use mathlib.Core.Option.{none, some};
 ghost use Prim.Native.Nat.{ℕ};
 ghost use lib.ListN.{length};
 ghost use Rattle.base.specs.Base.{isSome};
-ghost use Rattle.point.specs.Reading.{pointIdOf, pointOf, readPoint};
-ghost use Rattle.schedule.specs.Settings.{settingsOf};
-ghost use Rattle.reasons.specs.Verdict.{verdictOf};
-ghost use Rattle.verifier.specs.Validate.{resultWith, ofResult};
-ghost use Rattle.entries.specs.Entries.{isInOrder, readEntry, readList, entryOf, ReadFrom, aimOf, partOf, listedOf};
-ghost use Rattle.check_valid.specs.Views.{pointViewOf};
-ghost use Rattle.dependency.specs.Recorded.{recordedOf};
-ghost use Rattle.validate.specs.Validated.{judgingOf, resultOf};
-ghost use Rattle.mismatch.specs.Mismatch.{isId, uncovers};
-ghost use Rattle.judge_list.specs.Walk.{viewed, stepAs, prevIn, walkStep, nextWith, walkWith, walkStart, viewedOf, walkOf, nextOf, NextWithin, walkedListOf};
-ghost use Rattle.judge_list.specs.JudgedList.{judgedWith, judgedListOf};
+ghost use Rattle.point.specs.Code.{pointIdOf, pointOf};
+ghost use Rattle.point.specs.Reading.{readPoint};
+ghost use Rattle.schedule.specs.Code.{settingsOf};
+ghost use Rattle.reasons.specs.Code.{verdictOf};
+ghost use Rattle.rules.specs.Validate.{resultWith, ofResult};
+ghost use Rattle.rules.specs.List.{isInOrder, readEntry, readList};
+ghost use Rattle.judge_entries.specs.Code.{entryOf, ReadFrom, aimOf, partOf, listedOf};
+ghost use Rattle.judge_valid.specs.Code.{pointViewOf};
+ghost use Rattle.judge_dependency.specs.Code.{recordedOf};
+ghost use Rattle.judge_step.specs.Code.{judgingOf, resultOf};
+ghost use Rattle.rules.specs.Mismatch.{isId, uncovers};
+ghost use Rattle.judge_list.specs.Code.{viewed, stepAs, prevIn, walkStep, nextWith, walkWith, walkStart, viewedOf, walkOf, nextOf, NextWithin, walkedListOf, judgedWith, judgedListOf};
 
 // What a walk over a list has found so far; uncovered says that the previous point stood there without a certificate.
 struct Walk {
@@ -64,7 +65,7 @@ fn is_target(aim: Aim) -> bool
     }
 }
 
-// Whether an entry may stand behind an indirect one, or behind none.
+// Whether an entry may stand after an indirect one, or after none.
 fn is_in_order(behind: bool, aim: Aim) -> bool
     ensures { λ r. ⌜ r ≡ isInOrder behind (aimOf aim) ⌝ }
 {
@@ -131,7 +132,7 @@ fn judge_listed(
     let aim = x.aim;
     let state = x.state;
     match aim {
-        Aim::Dependency => validate::judge_direct(
+        Aim::Dependency => judge_step::judge_direct(
             conf,
             required,
             p,
@@ -141,7 +142,7 @@ fn judge_listed(
             x.first_valid,
             judging,
         ),
-        Aim::Target(role) => validate::judge_indirect(
+        Aim::Target(role) => judge_step::judge_indirect(
             conf,
             role,
             info.anchor_link(role).through(),
@@ -186,7 +187,7 @@ fn judge_next(
     ensures { λ r. ⌜ nextOf r ≡ nextWith (settingsOf conf) required (viewedOf p info) behind (walkOf walk) (readEntry (now (rest .entry))) ⌝ }
     ensures { λ r. ⌜ NextWithin (length (now (rest .entry))) r ⌝ }
 {
-    let ReadListed::Listed(x) = entries::read_entry(rest) else {
+    let ReadListed::Listed(x) = judge_entries::read_entry(rest) else {
         return Next::Unreadable;
     };
     let aim = x.aim;
@@ -204,9 +205,9 @@ fn walk_list(conf: Settings, required: bool, rec: &[u8], info: PointInfo, list: 
     requires { ⌜ readPoint (now rec) ≡ some (pointOf (now rec) info) ⌝ }
     ensures { λ r. ⌜ walkedListOf r ≡ walkWith (settingsOf conf) required (viewed (pointOf (now (rec .entry)) info)) walkStart (readList (now (list .entry))) ⌝ }
 {
-    let p = check_valid::point_view(rec, info);
+    let p = judge_valid::point_view(rec, info);
     let mut walk = Walk {
-        judging: validate::START,
+        judging: judge_step::START,
         uncovered: false,
     };
     let mut behind = false;

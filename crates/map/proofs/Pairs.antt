@@ -18,7 +18,7 @@ unfolding rising
 rising-tail x [] r = refl
 rising-tail x (y ∷ l) r = and-right (ltb x y) _ r
 
--- a peer stands below those behind it
+-- a peer stands below those after it
 pub rising-below : (x : ℕ) (l : List Pair) (q : Pair) → rising (x ∷ peers l) ≡ true → List·Memᴰ q l → x < q .peer
 unfolding peers rising
 rising-below x [] q r m = absurd (List·Memᴰ·not-nil m)

@@ -7,15 +7,10 @@ use lib.ListN.{length}
 use lib.Dec.{ltb, eqb}
 use Rattle.base.specs.Base.{pick, isSome, tabulate}
 use Rattle.parts.specs.Bytes.{idAt}
-use Rattle.parts.specs.Parts.{number}
-use Rattle.map.specs.declared.Position.{Position}
-use Rattle.map.specs.declared.Position.the-variants.{At, Absent}
-use Rattle.map.specs.declared.Found.{Found}
-use Rattle.map.specs.declared.Found.the-variants as found
 
 -- ---- the arrangement of the bytes stands in the next two definitions alone
 
--- the peer of row i, where a row has so many bytes
+-- the peer of row i, where a row has `width` bytes
 unfoldable pub peerAt : ℕ → List ℕ → ℕ → ℕ
 peerAt width s i = idAt s (width * i)
 
@@ -79,13 +74,3 @@ digests (q ∷ l) = q .digest ∷ digests l
 unfoldable pub get : List Pair → ℕ → Option ℕ
 get [] x = none
 get (q ∷ l) x = pick (eqb (q .peer) x) (some (q .digest)) (get l x)
-
--- ---- what the code's answers stand for
-
-abbrev pub positionOf : Position → Option ℕ
-positionOf (At i) = some i
-positionOf Absent = none
-
-abbrev pub foundOf : Found → Option ℕ
-foundOf (found.Digest d) = some (number d)
-foundOf found.Absent = none

@@ -6,8 +6,10 @@ ghost use mathlib.Core.Path.{_≡_};
 ghost use mathlib.Core.Bool.{true};
 ghost use Prim.Native.Nat.{_≤_, _<_};
 ghost use lib.ListN.{length, getD};
-ghost use Rattle.parts.specs.Parts.{number, order};
-ghost use Rattle.map.specs.Rows.{peersOf, pairsOf, digests, rising, wellRowed, find, has, peers, get, positionOf, foundOf};
+ghost use Rattle.parts.specs.Code.{number};
+ghost use Rattle.parts.specs.Parts.{order};
+ghost use Rattle.map.specs.Rows.{peersOf, pairsOf, digests, rising, wellRowed, find, has, peers, get};
+ghost use Rattle.map.specs.Code.{positionOf, foundOf};
 
 // Where a peer stands.
 pub enum Position {

@@ -12,12 +12,13 @@ use lib.Seq.{drop-cons, take-add, take-take, drop-drop, length-take-le, getD-tak
 use lib.Dec.{eqb}
 use borrow.Author.Tests.{lt-ltb, le-ltb, eq-eqb, ne-eqb}
 use Rattle.parts.specs.Bytes.{little, big, bytesAt, littleAt, bigAt, littleBytes, Bytes}
-use Rattle.parts.specs.Parts.{number, order, orderThen, orderOfRest, orderOfBytes}
+use Rattle.parts.specs.Code.{number, orderOfRest}
+use Rattle.parts.specs.Parts.{order, orderThen, orderOfBytes}
 use Rattle.parts.specs.declared.Id.{Id}
 use Rattle.parts.specs.declared.Order.{Order}
 use Rattle.parts.specs.declared.Order.the-variants.{Less, Same, More}
 
--- ---- bytes one behind the other
+-- ---- bytes one after the other
 
 pub at-split : (m n : ℕ) (s : List ℕ) (at : ℕ) → bytesAt (m + n) s at ≡ bytesAt m s at ++ bytesAt n s (at + m)
 at-split m n s at = rw (take-add m n (drop at s), drop-drop m at s)
@@ -64,7 +65,7 @@ pub big-one : (s : List ℕ) (at : ℕ) → at < length s → bigAt 1 s at ≡ g
 unfolding bigAt big
 big-one s at h = rw (at-one s at h) (omega arith)
 
--- the first byte, and the bytes behind it
+-- the first byte, and the bytes after it
 pub big-next : (n : ℕ) (s : List ℕ) (at next : ℕ) → next ≡ at + 1 → at + (1 + n) ≤ length s → bigAt (1 + n) s at ≡ getD s at 0 * 256 ^ n + bigAt n s next
 big-next n s at next e h = rw e (big-split 1 n s at (omega arith) ∙ ap (λ (x : ℕ). x * 256 ^ n + bigAt n s (at + 1)) (big-one s at (omega arith)))
 
@@ -256,7 +257,7 @@ unfolding number idOf orderOfRest
 places-order s t at from bs bt hs ht =
     rw (big-words s at hs, big-words t from ht) (number-order (idOf s at) (idOf t from) (words-of s at bs hs) (words-of t from bt ht))
 
--- an id at a place, held to an id of the code
+-- an id at a place, checked against an id of the code
 pub place-order : (s : List ℕ) (at : ℕ) (y : Id) → Bytes s → Words y → at + 32 ≤ length s →
     order (bigAt 32 s at) (number y)
     ≡ orderThen (bigAt 8 s at) (y .a) (orderThen (bigAt 8 s (at + 8)) (y .b) (orderThen (bigAt 8 s (at + 16)) (y .c) (orderThen (bigAt 8 s (at + 24)) (y .d) Same)))

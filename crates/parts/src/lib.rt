@@ -4,7 +4,8 @@ ghost use Prim.Native.Nat.{_+_, _-_, _≤_, _<_};
 ghost use lib.Dec.{eqb};
 ghost use lib.ListN.{length};
 ghost use Rattle.parts.specs.Bytes.{big, littleAt, bigAt, idAt, littleBytes};
-ghost use Rattle.parts.specs.Parts.{number, order, orderThen, orderOfRest, peerCount, peerCountOf, full, majority, majorityOfOthers};
+ghost use Rattle.parts.specs.Code.{number, orderOfRest, peerCountOf};
+ghost use Rattle.parts.specs.Parts.{order, orderThen, peerCount, full, majority, majorityOfOthers};
 
 // A peer or a digest: its 32 bytes as four numbers, the first byte highest, so that comparing the
 // numbers in turn compares the byte strings.
@@ -262,7 +263,7 @@ impl PeerCount {
     }
 }
 
-// The round so many rounds back, 0 at the lowest: `Sub` of rounds in parts.rs.
+// The round n rounds back, 0 at the lowest: `Sub` of rounds in parts.rs.
 pub fn rounds_back(round: u32, rounds: u32) -> u32
     ensures { λ r. ⌜ r ≡ round - rounds ⌝ }
 {

@@ -13,7 +13,8 @@ use Rattle.map.proofs.Laws.{peersOf-length, pairsOf-length, peers-pairsOf, well
 use Rattle.record.specs.Record.{rows, rowOf, contentOf, wellShaped}
 use Rattle.record.proofs.Laws.{content-greatest}
 use Rattle.point.specs.Point.{PointId, Through, AnchorLink, PointInfo, throughRound, throughPeer, digestSafe, isAnchorStage, through, anchorLink, orZero, source, target, top, anchor, isWaveLinkOk}
-use Rattle.point.specs.Reading.{pointIdAt, readLink, readRole, mapsOk, pointWith, readPoint, pointOf, linkIn}
+use Rattle.point.specs.Reading.{pointIdAt, readLink, readRole, mapsOk, pointWith, readPoint}
+use Rattle.point.specs.Code.{pointOf, linkIn}
 use Rattle.point.specs.declared.data.PointRole.{PointRole}
 use Rattle.point.specs.declared.data.PointRole.the-variants.{AnchorProof}
 use Rattle.point.specs.declared.data.AnchorStageRole.{AnchorStageRole}

@@ -1,2 +1,3 @@
 pub mod Point
 pub mod Reading
+pub mod Code

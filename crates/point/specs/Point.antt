@@ -173,7 +173,7 @@ orZero none = 0
 orZero (some d) = d
 
 -- AnchorViewSource::id. Where the peer is not in its map the Rust panics ("usage of ill-formed point") and the digest here is 0.
--- No verdict hangs on it: verification refuses such a point, and of a dependency only a direct link's target is asked for, which
+-- No verdict depends on it: verification refuses such a point, and of a dependency only a direct link's target is asked for, which
 -- the domain of lists and books covers.
 unfoldable pub source : AnchorStageRole → PointInfo → PointId
 unfolding digestSafe

@@ -7,11 +7,12 @@ use map::Found;
 use parts::Id;
 ghost use mathlib.Core.Path.{_≡_};
 ghost use mathlib.Core.Option.{some};
-ghost use Rattle.map.specs.Rows.{foundOf};
+ghost use Rattle.map.specs.Code.{foundOf};
 ghost use Rattle.record.specs.Record.{contentOf};
-ghost use Rattle.parts.specs.Parts.{number};
+ghost use Rattle.parts.specs.Code.{number};
 ghost use Rattle.point.specs.Point.{sameId, inDomain, isWaveLinkOk, digestSafe, throughId, prevDigest, stickyAnchors, orZero, source, targetOf, anchor};
-ghost use Rattle.point.specs.Reading.{pointIdOf, throughOf, linkOf, linkIn, pointOf, readPoint, viewOf, throughIdOf, stickyOf};
+ghost use Rattle.point.specs.Code.{pointIdOf, throughOf, linkOf, linkIn, pointOf, viewOf, throughIdOf, stickyOf};
+ghost use Rattle.point.specs.Reading.{readPoint};
 
 pub struct PointId {
     pub round: u32,

@@ -2,9 +2,9 @@
 use crate::info::PointId;
 use parts::Id;
 ghost use mathlib.Core.Path.{_≡_};
-ghost use Rattle.parts.specs.Parts.{number};
+ghost use Rattle.parts.specs.Code.{number};
 ghost use Rattle.point.specs.Point.{isWaveFarEnough, through, throughRound, throughPeer};
-ghost use Rattle.point.specs.Reading.{throughOf, linkOf};
+ghost use Rattle.point.specs.Code.{throughOf, linkOf};
 
 pub enum Through {
     Includes(Id),

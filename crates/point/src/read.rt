@@ -11,7 +11,8 @@ ghost use mathlib.Core.Bool.{true};
 ghost use Prim.Native.Nat.{_+_, _≤_};
 ghost use lib.ListN.{length};
 ghost use Rattle.record.specs.Record.{startOf, wellShaped};
-ghost use Rattle.point.specs.Reading.{pointIdAt, readThrough, readLink, readRole, mapsOk, readPoint, pointIdOf, readThroughOf, readLinkOf, readRoleOf, readPointOf};
+ghost use Rattle.point.specs.Reading.{pointIdAt, readThrough, readLink, readRole, mapsOk, readPoint};
+ghost use Rattle.point.specs.Code.{pointIdOf, readThroughOf, readLinkOf, readRoleOf, readPointOf};
 
 pub enum ReadThrough {
     Through(Through),
@@ -45,7 +46,7 @@ pub fn point_id_at(s: &[u8], at: usize) -> PointId
     }
 }
 
-// The map and the peer of a link, behind its kind.
+// The map and the peer of a link, after its kind.
 fn read_through(s: &[u8]) -> ReadThrough
     requires { ⌜ 34 ≤ length (now s) ⌝ }
     ensures { λ r. ⌜ readThroughOf r ≡ readThrough (now (s .entry)) ⌝ }

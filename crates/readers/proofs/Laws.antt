@@ -3,7 +3,8 @@ use Prim.Native.Nat.{ℕ}
 use mathlib.Core.Path.{_≡_, ap, sym, _∙_}
 use mathlib.Core.List.{List}
 use mathlib.Core.Option.{some}
-use Rattle.point.specs.Reading.{pointOf, readPoint, readPointOf}
+use Rattle.point.specs.Code.{pointOf, readPointOf}
+use Rattle.point.specs.Reading.{readPoint}
 use Rattle.point.specs.declared.read.ReadPoint.{ReadPoint}
 use Rattle.point.specs.declared.read.ReadPoint.the-variants.{Point}
 use Rattle.point.specs.declared.info.PointInfo.{PointInfo}

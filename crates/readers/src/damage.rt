@@ -1,5 +1,5 @@
 // Damaged copies of the record at the front of a buffer: each byte changed in two ways, each truncation, and one
-// byte 0 more behind.
+// byte 0 more after.
 use crate::tally;
 use crate::tally::Tally;
 ghost use Prim.Native.Nat.{_≤_, _<_};
@@ -49,7 +49,7 @@ fn truncate(t: Tally, rec: &[u8], n: usize) -> Tally
     t
 }
 
-// Counts all damaged copies of the record of so many bytes.
+// Counts all damaged copies of the record of n bytes.
 pub fn damage(t: Tally, rec: &mut [u8], n: usize) -> Tally
     requires { ⌜ n < length (now rec) ⌝ }
 {

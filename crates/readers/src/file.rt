@@ -4,7 +4,7 @@ use crate::damage;
 use crate::mix::add;
 use crate::tally;
 use crate::tally::Tally;
-use cases::Head;
+use case_files::Head;
 ghost use Prim.Native.Nat.{_≤_};
 ghost use lib.ListN.{length};
 
@@ -99,7 +99,7 @@ fn too_long(c: Counts, blob: Blob) -> Counts {
 
 // Reads one blob and counts what it is; one that is longer than the buffer is passed over.
 fn run_blob(c: Counts, fd: i32, blob: Blob, buf: &mut [u8]) -> Counts {
-    let read = cases::read_blob(fd, buf, 0);
+    let read = case_files::read_blob(fd, buf, 0);
     if !read.is_there {
         return too_long(c, blob);
     }
@@ -122,7 +122,7 @@ pub fn run(fd: i32, buf: &mut [u8]) -> Counts {
     let mut c = NONE;
     let mut turns = u64::MAX;
     while 0 < turns {
-        let head = cases::read_head(fd);
+        let head = case_files::read_head(fd);
         if !head.is_there {
             return c;
         }

@@ -16,7 +16,8 @@ use point::Through;
 use point::ThroughId;
 ghost use mathlib.Core.Path.{_≡_};
 ghost use mathlib.Core.Option.{some};
-ghost use Rattle.point.specs.Reading.{pointOf, readPoint};
+ghost use Rattle.point.specs.Code.{pointOf};
+ghost use Rattle.point.specs.Reading.{readPoint};
 
 fn mix_through(sum: u64, through: Through) -> u64 {
     match through {

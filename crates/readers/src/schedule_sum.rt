@@ -38,7 +38,7 @@ fn mix_round(sum: u64, s: &[u8], c: Schedule, round: u32) -> u64 {
     mix_require(peers, schedule::require_regular_points(c, round))
 }
 
-// What the schedule answers from five rounds before a round to one behind it.
+// What the schedule answers from five rounds before a round to one after it.
 fn mix_around(sum: u64, s: &[u8], c: Schedule, round: u32) -> u64 {
     let first = std::num::wrapping_sub_u32(round, 5);
     let mut sum = mix(sum, round as u64);

@@ -5,16 +5,8 @@ use mathlib.Core.Option.{Option, none, some}
 use lib.Dec.{leb, eqb}
 use Rattle.base.specs.Base.{pick}
 use Rattle.point.specs.Point.{PointId, Through}
-use Rattle.point.specs.Reading.{pointIdOf, throughOf}
 use Rattle.point.specs.declared.data.AnchorStageRole.{AnchorStageRole}
 use Rattle.point.specs.declared.data.PointMap.{PointMap}
-use Rattle.reasons.specs.declared.invalid.PrevSeqNo as code-seq
-use Rattle.reasons.specs.declared.invalid.PrevSeqNo.the-variants as case-seq
-use Rattle.reasons.specs.declared.invalid.InvalidReason as code
-use Rattle.reasons.specs.declared.invalid.InvalidReason.the-variants as case
-use Rattle.reasons.specs.declared.invalid.InvalidDependency as code-dependency
-use Rattle.reasons.specs.declared.invalid.DagRound as code-round
-use Rattle.reasons.specs.declared.invalid.DagRound.the-variants as case-round
 
 -- InvalidReason. AfterLoadFromDb is never given by judging. "A dependency's own reason is carried by number only".
 pub data InvalidReason : Type 0 where
@@ -77,37 +69,3 @@ pub record InvalidDependency : Type 0 where
   pub to : PointId
   pub reason : ℕ
   pub through : Through
-
--- ---- what the code's values stand for
-
-abbrev pub prevSeqNoOf : code-seq.PrevSeqNo → Option ℕ
-prevSeqNoOf (case-seq.SeqNo n) = some n
-prevSeqNoOf case-seq.NoSeqNo = none
-
-abbrev pub reasonOf : code.InvalidReason → InvalidReason
-reasonOf (case.NoRoundInDag m) = NoRoundInDag m
-reasonOf case.DependencyRoundDropped = DependencyRoundDropped
-reasonOf (case.NotTrigger i) = NotTrigger (pointIdOf i)
-reasonOf (case.TerminalTriggerBeforeLastProof i) = TerminalTriggerBeforeLastProof (pointIdOf i)
-reasonOf (case.TimeNotGreaterThanInPrevPoint i) = TimeNotGreaterThanInPrevPoint (pointIdOf i)
-reasonOf (case.AnchorProofDoesntInheritAnchorTime i) = AnchorProofDoesntInheritAnchorTime (pointIdOf i)
-reasonOf (case.AnchorTimeNotInheritedFromProof i) = AnchorTimeNotInheritedFromProof (pointIdOf i)
-reasonOf (case.MustHaveReferencedPrevPoint i) = MustHaveReferencedPrevPoint (pointIdOf i)
-reasonOf (case.MustHaveSkippedRound i) = MustHaveSkippedRound (pointIdOf i)
-reasonOf (case.DependencyTimeTooFarInFuture i) = DependencyTimeTooFarInFuture (pointIdOf i)
-reasonOf (case.NewerAnchorInDependency g i) = NewerAnchorInDependency g (pointIdOf i)
-reasonOf (case.AnchorLink g i) = AnchorLink g (pointIdOf i)
-reasonOf (case.AnchorLinkRole g i) = AnchorLinkRole g (pointIdOf i)
-reasonOf (case.AnchorLinkBadPath g i) = AnchorLinkBadPath g (pointIdOf i)
-reasonOf (case.BadStickySequence i o n) = BadStickySequence (pointIdOf i) (prevSeqNoOf o) n
-reasonOf (case.TriggerProofMismatch i b) = TriggerProofMismatch (pointIdOf i) b
-reasonOf (case.DepIllFormed i n) = DepIllFormed (pointIdOf i) n
-reasonOf (case.DepNotFound i) = DepNotFound (pointIdOf i)
-
-abbrev pub dependencyOf : code-dependency.InvalidDependency → InvalidDependency
-dependencyOf d = record { to = pointIdOf (d .to); reason = d .reason; through = throughOf (d .through) }
-
-abbrev pub dagRoundOf : code-round.DagRound → Option Bool
-dagRoundOf case-round.Has = some true
-dagRoundOf case-round.HasNot = some false
-dagRoundOf case-round.NoReason = none

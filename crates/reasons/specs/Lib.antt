@@ -1,3 +1,4 @@
 pub mod IllFormed
 pub mod Invalid
 pub mod Verdict
+pub mod Code

@@ -17,7 +17,7 @@ pub enum StructureIssue {
 
 // The Rust's AfterLoadFromDb and EvidenceSigError, numbers 1 and 2, are never given by verifying or judging: they have no
 // case here.
-// The unknown peers themselves stand in the peer buffer, so many of them. No map and no set has over 255 peers.
+// The unknown peers themselves stand in the peer buffer; the reason has their count. No map and no set has over 255 peers.
 pub enum IllFormedReason {
     BeforeGenesis,
     UnknownAuthor,
@@ -57,6 +57,19 @@ pub enum VerifyError {
 pub enum Verified {
     Passed,
     Failed(VerifyError),
+}
+
+// What Verifier::check_ill_formed finds: a round outside the schedule's horizon, a fault, or sound; then whether regular points are required.
+pub enum WaveChecked {
+    Horizon,
+    IllFormed(IllFormedReason),
+    Sound(bool),
+}
+
+// Document 01's number in place of a verdict, or what verification found.
+pub enum VerifyAnswer {
+    Number(u8),
+    Verdict(Verified),
 }
 
 impl IllFormedReason {

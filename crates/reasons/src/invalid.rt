@@ -4,7 +4,8 @@ use point::PointId;
 use point::PointMap;
 use point::Through;
 ghost use mathlib.Core.Path.{_≡_};
-ghost use Rattle.reasons.specs.Invalid.{invalidNumber, dagRound, hasDagRound, reasonOf, dagRoundOf};
+ghost use Rattle.reasons.specs.Invalid.{invalidNumber, dagRound, hasDagRound};
+ghost use Rattle.reasons.specs.Code.{reasonOf, dagRoundOf};
 
 // The seq_no of the proof before, if it has one.
 pub enum PrevSeqNo {

@@ -1,4 +1,4 @@
--- Laws of fields one behind the other, and of records of nine of them.
+-- Laws of fields one after the other, and of records of nine of them.
 use Prim.Native.Nat.{ℕ, zero, suc, _+_, _-_, _≤_, _<_}
 use native.Mathlib.Omega.{arith}
 use native.Mathlib.Decide.{decLt}
@@ -73,7 +73,7 @@ module _ (row : Row) (s : List ℕ) (at : ℕ) where
   unfolding fieldOk
   field-last h t l g = simp (le-leb _ _ h, eq-eqb _ _ t, le-leb _ _ l, le-leb _ _ g)
 
--- a number is at most what a length leaves behind a place exactly if it ends within the length
+-- a number is at most what a length leaves a place exactly if it ends within the length
 pub room : (n l at : ℕ) → at ≤ l → leb n (l - at) ≡ leb (at + n) l
 room n l at h = elim (decLt l (at + n)) [
   | yes g ↦ lt-leb n (l - at) (omega arith) ∙ sym (lt-leb (at + n) l g)
@@ -83,7 +83,7 @@ room n l at h = elim (decLt l (at + n)) [
 -- ---- a row of fields
 
 -- where the second choice is nothing and something was chosen, the test holds
--- the fields of some rows end behind where they start
+-- the fields of some rows end after where they start
 pub end-behind : (rs : List Row) (s : List ℕ) (at n : ℕ) → endFrom rs s at ≡ some n → at ≤ n
 unfolding endFrom
 end-behind [] s at n h = let e : at ≡ n = cc in omega arith
@@ -251,7 +251,7 @@ module _ (s : List ℕ) (e : ℕ) (h : recordEnd s ≡ some e) where
   front-content = contents-same e s (take e s) (front-agrees e s (end-within s e h)) e h (omega arith)
 
 module _ (r t : List ℕ) (w : wellShaped r ≡ true) where
-  -- a record with anything behind it
+  -- a record with anything after it
   pub append-end : recordEnd (r ++ t) ≡ some (length r)
   append-end = end-same (length r) r (r ++ t) (append-agrees r t) (length r) (shaped-end r w) (omega arith)
 

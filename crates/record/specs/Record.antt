@@ -8,15 +8,13 @@ use lib.Dec.{leb, eqb}
 use Rattle.base.specs.Base.{pick}
 use Rattle.parts.specs.Bytes.{bytesAt, littleAt}
 use Rattle.record.specs.declared.Row.{Row}
-use Rattle.record.specs.declared.End.{End}
-use Rattle.record.specs.declared.End.the-variants.{At, Unreadable}
 
 -- ---- one field: "a tag (1 byte), a length (2 bytes) and content"
 
 abbrev pub lengthAt : List ℕ → ℕ → ℕ
 lengthAt s at = littleAt 2 s (at + 1)
 
--- where the field behind the one at a place starts; a field that is cut off ends with the slice
+-- where the field after the one at a place starts; a field that is cut off ends with the slice
 unfoldable pub nextAt : List ℕ → ℕ → ℕ
 nextAt s at = min (at + 3 + lengthAt s at) (length s)
 
@@ -33,7 +31,7 @@ fieldOk row s at =
     && (leb (lengthAt s at) (row .greatest)
     && leb (at + 3 + lengthAt s at) (length s))))
 
--- ---- a row of fields, one behind the other
+-- ---- a row of fields, one after the other
 
 -- where the fields of these rows end, the first of them at a place
 unfoldable pub endFrom : List Row → List ℕ → ℕ → Option ℕ
@@ -83,12 +81,7 @@ abbrev pub endsAt : Option ℕ → ℕ → Bool
 endsAt none n = false
 endsAt (some e) n = eqb e n
 
--- the nine fields and nothing behind them
+-- the nine fields and nothing after them
 unfoldable pub wellShaped : List ℕ → Bool
 unfolding recordEnd
 wellShaped s = endsAt (recordEnd s) (length s)
-
--- what the code's answer stands for
-abbrev pub endOf : End → Option ℕ
-endOf (At n) = some n
-endOf Unreadable = none

@@ -3,7 +3,8 @@ ghost use mathlib.Core.Path.{_≡_};
 ghost use mathlib.Core.Bool.{true};
 ghost use Prim.Native.Nat.{_+_, _<_, _≤_};
 ghost use lib.ListN.{length};
-ghost use Rattle.record.specs.Record.{lengthAt, fieldOk, nextAt, contentAt, startOf, contentOf, recordEnd, endOf, wellShaped};
+ghost use Rattle.record.specs.Record.{lengthAt, fieldOk, nextAt, contentAt, startOf, contentOf, recordEnd, wellShaped};
+ghost use Rattle.record.specs.Code.{endOf};
 
 // A row of the table of fields: the tag, and the least and the greatest length of the content.
 pub struct Row {
@@ -60,7 +61,7 @@ const ROWS: [Row; 9] = [
     },
 ];
 
-// Where the fields of a record behind the first start.
+// Where the fields of a record after the first start.
 pub struct Places {
     pub payload: usize,
     pub includes: usize,
@@ -78,7 +79,7 @@ pub enum End {
     Unreadable,
 }
 
-// Where the field behind the one at a place starts; a field that is cut off ends with the slice.
+// Where the field after the one at a place starts; a field that is cut off ends with the slice.
 pub fn next(s: &[u8], at: usize) -> usize
     requires { ⌜ at ≤ length (now s) ⌝ }
     ensures { λ r. ⌜ r ≡ nextAt (now (s .entry)) at ⌝ }
@@ -155,7 +156,7 @@ pub fn record_end(s: &[u8]) -> End
     End::At(at)
 }
 
-// Whether a slice is the nine fields and nothing behind them.
+// Whether a slice is the nine fields and nothing after them.
 pub fn is_well_shaped(rec: &[u8]) -> bool
     ensures { λ r. ⌜ r ≡ wellShaped (now (rec .entry)) ⌝ }
 {

@@ -1,5 +1,5 @@
-// One case in a buffer, its blobs one behind another.
-use cases::Head;
+// One case in a buffer, its blobs one after another.
+use case_files::Head;
 
 // Blob i stands from ends[i] to ends[i + 1].
 pub struct Case {
@@ -22,7 +22,7 @@ pub fn read_case(fd: i32, head: Head, buf: &mut [u8]) -> Case {
     let mut end = 0;
     let mut i = 0;
     while i < head.blobs {
-        let blob = cases::read_blob(fd, buf, end);
+        let blob = case_files::read_blob(fd, buf, end);
         end = blob.end;
         is_whole = is_whole && blob.is_there;
         i += 1;

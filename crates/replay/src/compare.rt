@@ -39,7 +39,7 @@ pub fn is_same(s: &[u8], t: &[u8]) -> bool {
     true
 }
 
-// Behind a number, that the case expects no verdict, and that nothing that was lent has changed.
+// After a number, that the case expects no verdict, and that nothing that was lent has changed.
 fn is_number(want: &[u8], answer: &[u8; 114], peers: &[u8]) -> bool {
     if want.len() != 155 {
         return false;
@@ -65,7 +65,7 @@ fn is_number(want: &[u8], answer: &[u8; 114], peers: &[u8]) -> bool {
     is_filled(peers, LENT)
 }
 
-// Behind a 0, that the verdict is the expected one, and that nothing has changed behind the unknown peers.
+// After a 0, that the verdict is the expected one, and that nothing has changed after the unknown peers.
 fn is_verdict(want: &[u8], answer: &[u8; 114], peers: &[u8]) -> bool {
     if want.len() < 155 {
         return false;

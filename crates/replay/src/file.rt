@@ -7,7 +7,7 @@ use crate::judge_case;
 use crate::offer_case;
 use crate::open_case;
 use crate::verify_case;
-use cases::Head;
+use case_files::Head;
 
 fn run_verify(c: Counts, fd: i32, head: Head, buf: &mut [u8], peers: &mut [u8]) -> Counts {
     let c = counts::one_verify(c);
@@ -68,7 +68,7 @@ fn run_given(
     peers: &mut [u8],
     spare: &mut [u8],
 ) -> Counts {
-    let given = cases::read_blob(fd, spare, 0);
+    let given = case_files::read_blob(fd, spare, 0);
     let offered = run_offer(
         counts::with_book(c, given.end),
         fd,
@@ -112,7 +112,7 @@ pub fn run(fd: i32, buf: &mut [u8], peers: &mut [u8], book: &mut [u8], spare: &m
     let mut c = counts::NONE;
     let mut turns = u64::MAX;
     while 0 < turns {
-        let head = cases::read_head(fd);
+        let head = case_files::read_head(fd);
         if !head.is_there {
             return c;
         }

@@ -23,8 +23,9 @@ use Rattle.record.proofs.Laws.{Fitting, fitting, content-length}
 use Rattle.schedule.specs.declared.settings.Settings as code-settings
 use Rattle.schedule.specs.declared.schedule.Span as code
 use Rattle.schedule.specs.declared.schedule.ReadSchedule as code-read
-use Rattle.schedule.specs.Settings.{Settings, settingsIn, inLimits, readSettings, settingsOf}
-use Rattle.schedule.specs.Schedule.{Span, Schedule, spanAt, spanOk, lastOk, lastAt, spanThen, spansThen, scheduleFrom, firsts, ifUsable, readSchedule, orElse, lastStarted, spanFor, peersIn, peersFor, spanOf, spansOf, firstsOf, noSpan, codeSpanAt, codeSpansFrom, readScheduleOf, unreadable, Handed}
+use Rattle.schedule.specs.Settings.{Settings, settingsIn, inLimits, readSettings}
+use Rattle.schedule.specs.Code.{settingsOf, spansThen, spanOf, spansOf, firstsOf, noSpan, codeSpanAt, codeSpansFrom, readScheduleOf, unreadable, Handed}
+use Rattle.schedule.specs.Schedule.{Span, Schedule, spanAt, spanOk, lastOk, lastAt, spanThen, scheduleFrom, firsts, ifUsable, readSchedule, orElse, lastStarted, spanFor, peersIn, peersFor}
 
 -- ---- choices
 
@@ -82,7 +83,7 @@ part-most n at start m s e f =
 
 -- ---- one span's bytes
 
--- behind the first m of some bytes stand the other n
+-- after the first m of some bytes stand the other n
 rest-of : (m n all at from : ℕ) (s : List ℕ) → all ≡ m + n → from ≡ at + m → from ≤ length s → bytesAt n s from ≡ drop m (bytesAt all s at)
 rest-of m n all at from s e f h =
     rw (e, f) (sym (rw (at-split m n s at) (drop-at (bytesAt m s at) (bytesAt n s (at + m)) m (at-length m s at (omega arith)))))
@@ -124,7 +125,7 @@ last-within s at h =
     let f = fitting (fieldRow 35 4 4) s at (and-eq-true-iff (fieldOk (fieldRow 35 4 4) s at) _ .0 h .0) in
     omega (arith, f .least, f .end)
 
--- ---- spans one behind the other
+-- ---- spans one after the other
 
 module _ (s : List ℕ) where
   spansOf-append : (a b : List code.Span) → spansOf s (a ++ b) ≡ spansOf s a ++ spansOf s b
@@ -166,7 +167,7 @@ spansThen-append : (a b : List Span) (o : Option Schedule) → spansThen (a ++ b
 spansThen-append [] b o = refl
 spansThen-append (x ∷ a) b o = ap (spanThen x) (spansThen-append a b o)
 
--- ---- reading: what is left to read behind the first n spans
+-- ---- reading: what is left to read after the first n spans
 
 pub from-step : (n m : ℕ) (s : List ℕ) (at : ℕ) → n ≡ suc m →
     scheduleFrom n s at ≡ pick (spanOk s at) (spanThen (spanAt s at) (scheduleFrom m s (nextAt s at))) (lastAt s at)
@@ -183,7 +184,7 @@ pub stored : (s : List ℕ) (l : List code.Span) (n : ℕ) (x : code.Span) (y : 
 stored s l n x y o h e =
     rw (← e, add-one n, take-suc-set l n x h, spansOf-append s (take n l) (x ∷ []), spansThen-append (spansOf s (take n l)) (spansOf s (x ∷ [])) o)
 
--- the entries while they are filled: behind the first n stands no span, and they will be those n and the spans from a place on
+-- the entries while they are filled: after the first n stands no span, and they will be those n and the spans from a place on
 pub record Filled (s : List ℕ) (l : List code.Span) (n at : ℕ) : Type 0 where
   pub behind : drop n l ≡ replicate (4 - n) noSpan
   pub ahead : codeSpansFrom 4 s 0 ≡ take n l ++ codeSpansFrom (4 - n) s at
@@ -230,7 +231,7 @@ usable : (l : List Span) (b : Bool) (k : ℕ) →
 usable l true k = rw (then-some l k)
 usable l false k = rw (then-none l) (sym (nothing (not (isEmpty l) && rising (firsts l))))
 
--- what is read, where the spans and the place behind them are known
+-- what is read, where the spans and the place after them are known
 pub read-is : (s : List ℕ) (l : List code.Span) (end : ℕ) → scheduleFrom 4 s 0 ≡ spansThen (spansOf s l) (lastAt s end) →
     readSchedule s
     ≡ pick (not (isEmpty (spansOf s l)) && rising (firstsOf l))

@@ -7,12 +7,8 @@ use lib.ListN.{length, getD}
 use lib.Dec.{leb, eqb}
 use Rattle.base.specs.Base.{pick}
 use Rattle.parts.specs.Bytes.{idAt, littleAt}
-use Rattle.parts.specs.Parts.{number}
 use Rattle.parts.specs.Limits.{firstRound, lastRound, settingsLength}
 use Rattle.record.specs.Record.{fieldRow, fieldOk}
-use Rattle.schedule.specs.declared.settings.Settings as code-settings
-use Rattle.schedule.specs.declared.settings.ReadSettings as code-read
-use Rattle.schedule.specs.declared.settings.ReadSettings.the-variants as case-read
 
 pub record Settings : Type 0 where
   pub genesisRound : ℕ
@@ -23,7 +19,7 @@ pub record Settings : Type 0 where
   pub commitHistoryRounds : ℕ
 
 -- "genesis round (4), genesis digest (32), payload_batch_bytes (4), sticky_anchors (1), clock_skew_millis (2),
--- commit_history_rounds (1)", behind the tag and the length
+-- commit_history_rounds (1)", after the tag and the length
 abbrev pub settingsIn : List ℕ → Settings
 settingsIn s =
     record {
@@ -44,27 +40,10 @@ inLimits c =
     && (leb 1 (c .clockSkewMillis)
     && leb 1 (c .commitHistoryRounds))))
 
--- a slice that holds usable settings and nothing behind them
+-- a slice that holds usable settings and nothing after them
 unfoldable pub readSettings : List ℕ → Option Settings
 unfolding fieldOk inLimits
 readSettings s =
     pick (eqb (length s) settingsLength && (fieldOk (fieldRow 32 44 44) s 0 && inLimits (settingsIn s)))
     (some (settingsIn s))
     none
-
--- ---- what the code's values stand for
-
-abbrev pub settingsOf : code-settings.Settings → Settings
-settingsOf c =
-    record {
-      genesisRound = c .«genesis_round»;
-      genesisDigest = number (c .«genesis_digest»);
-      payloadBatchBytes = c .«payload_batch_bytes»;
-      stickyAnchors = c .«sticky_anchors»;
-      clockSkewMillis = c .«clock_skew_millis»;
-      commitHistoryRounds = c .«commit_history_rounds»;
-    }
-
-abbrev pub readSettingsOf : code-read.ReadSettings → Option Settings
-readSettingsOf (case-read.Settings c) = some (settingsOf c)
-readSettingsOf case-read.Unusable = none

@@ -7,7 +7,8 @@ ghost use Prim.Native.Nat.{ℕ, _≤_, min};
 ghost use lib.ListN.{length, take};
 ghost use Rattle.parts.specs.Bytes.{bytesAt};
 ghost use Rattle.map.specs.Rows.{peersOf, rising};
-ghost use Rattle.schedule.specs.Schedule.{spanOk, lastOk, readSchedule, spanFor, peersFor, requireRegularPoints, firstsOf, codeSpanAt, SpansRead, scheduleOf, readScheduleOf, unreadable, Handed, peerBytes, indexOf, requireOf};
+ghost use Rattle.schedule.specs.Schedule.{spanOk, lastOk, readSchedule, spanFor, peersFor, requireRegularPoints};
+ghost use Rattle.schedule.specs.Code.{firstsOf, codeSpanAt, SpansRead, scheduleOf, readScheduleOf, unreadable, Handed, peerBytes, indexOf, requireOf};
 
 // A span of rounds: the first, and where in the schedule's bytes its peers stand, and how many.
 pub struct Span {
@@ -84,7 +85,7 @@ fn is_span(s: &[u8], at: usize) -> bool
     map::is_well_rowed(&content[4..], 32)
 }
 
-// Whether the last known round stands at a place, and nothing behind it.
+// Whether the last known round stands at a place, and nothing after it.
 fn is_last_known(s: &[u8], at: usize) -> bool
     requires { ⌜ at ≤ length (now s) ⌝ }
     ensures { λ r. ⌜ r ≡ lastOk (now (s .entry)) at ⌝ }
@@ -134,7 +135,7 @@ fn read_spans(s: &[u8]) -> ReadSpans
     }
 }
 
-// Whether the first rounds of so many spans rise strictly.
+// Whether the first rounds of the first n spans rise strictly.
 fn are_firsts_rising(spans: [Span; 4], count: usize) -> bool
     requires { ⌜ count ≤ 4 ⌝ }
     ensures { λ r. ⌜ r ≡ rising (firstsOf (take count spans)) ⌝ }
@@ -167,7 +168,7 @@ fn unreadable() -> ReadSchedule
     }
 }
 
-// The schedule of a slice that holds one and nothing behind it.
+// The schedule of a slice that holds one and nothing after it.
 pub fn read_schedule(s: &[u8]) -> ReadSchedule
     ensures { λ r. ⌜ readScheduleOf (now (s .entry)) r ≡ readSchedule (now (s .entry)) ⌝ }
     ensures { λ r. ⌜ Handed (now (s .entry)) r ⌝ }

@@ -2,7 +2,8 @@
 use parts::Id;
 use record::Row;
 ghost use mathlib.Core.Path.{_≡_};
-ghost use Rattle.schedule.specs.Settings.{inLimits, settingsOf, readSettings, readSettingsOf};
+ghost use Rattle.schedule.specs.Settings.{inLimits, readSettings};
+ghost use Rattle.schedule.specs.Code.{settingsOf, readSettingsOf};
 
 pub struct Settings {
     pub genesis_round: u32,
@@ -43,7 +44,7 @@ fn are_in_limits(c: Settings) -> bool
     1 <= c.commit_history_rounds
 }
 
-// The settings of a slice that holds them and nothing behind them.
+// The settings of a slice that holds them and nothing after them.
 pub fn read_settings(s: &[u8]) -> ReadSettings
     ensures { λ r. ⌜ readSettingsOf r ≡ readSettings (now (s .entry)) ⌝ }
 {

@@ -2,8 +2,8 @@
 mod print;
 mod window;
 
-use feed::Front;
-use feed::Next;
+use tally_feed::Front;
+use tally_feed::Next;
 use window::Window;
 ghost use mathlib.Core.Path.{_≡_};
 ghost use Prim.Native.Nat.{_≤_};
@@ -38,7 +38,7 @@ fn print_points(
         }
         let start = w.start;
         let end = w.end;
-        let next = feed::next_point(book, schedule, place, &buf[start..end], peers);
+        let next = tally_feed::next_point(book, schedule, place, &buf[start..end], peers);
         match next {
             Next::Over => return true,
             Next::Last(line) => return print::line(line),
@@ -82,9 +82,9 @@ fn print_lines(book: &mut [u8], schedule: &mut [u8], peers: &mut [u8], buf: &mut
         return false;
     }
     let end = w.end;
-    let front = feed::begin(book, &buf[0..end]);
+    let front = tally_feed::begin(book, &buf[0..end]);
     match front {
-        Front::Number(n) => print::line(feed::refused(0, 0, n)),
+        Front::Number(n) => print::line(tally_feed::refused(0, 0, n)),
         Front::Points(start) => print_after(book, schedule, peers, buf, w, start),
     }
 }
@@ -94,7 +94,7 @@ fn tally(book: &mut [u8], schedule: &mut [u8], peers: &mut [u8], buf: &mut [u8])
     requires { ⌜ (32675 ≤ length (now schedule)) × (41127 ≤ length (now buf)) ⌝ }
 {
     if print_lines(book, schedule, peers, buf) {
-        print::end(feed::kept(book) as u64);
+        print::end(tally_feed::kept(book) as u64);
     }
 }
 

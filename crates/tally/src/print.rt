@@ -1,6 +1,6 @@
 // What is printed: each line by one call. A call that fails is told on standard error.
 use libc::STDOUT_FILENO;
-use line::Line;
+use tally_line::Line;
 
 fn write(bytes: &[u8]) -> bool {
     let written = io::write_all(STDOUT_FILENO, bytes);
@@ -11,14 +11,14 @@ fn write(bytes: &[u8]) -> bool {
 }
 
 pub fn line(line: Line) -> bool {
-    let mut bytes = [0u8; line::LONGEST];
-    let n = line::line_bytes(line, &mut bytes);
+    let mut bytes = [0u8; tally_line::LONGEST];
+    let n = tally_line::line_bytes(line, &mut bytes);
     write(&bytes[..n])
 }
 
 pub fn end(kept: u64) -> bool {
-    let mut bytes = [0u8; line::LONGEST];
-    let n = line::end_bytes(kept, &mut bytes);
+    let mut bytes = [0u8; tally_line::LONGEST];
+    let n = tally_line::end_bytes(kept, &mut bytes);
     write(&bytes[..n])
 }
 

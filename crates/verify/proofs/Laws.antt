@@ -6,24 +6,25 @@ use mathlib.Core.Option.{Option, none, some}
 use mathlib.Core.List.{List, [], _∷_, _++_}
 use lib.Dec.{ltb, eqb}
 use borrow.Author.Tests.{lt-ltb, le-ltb, not-true, not-false}
-use Rattle.base.specs.Base.{pick, iff, concat, firstOf, isSome}
+use Rattle.base.specs.Base.{pick, when, concat, firstOf, isSome}
 use Rattle.base.proofs.Bool.{and-left, and-right}
 use Rattle.base.proofs.Option.{unfound}
 use Rattle.point.specs.Point.{PointInfo, Sticky, inDomain}
 use Rattle.point.specs.Reading.{readPoint}
 use Rattle.schedule.specs.Settings.{Settings, readSettings}
-use Rattle.schedule.specs.Schedule.{Schedule, readSchedule, scheduleOf, readScheduleOf}
+use Rattle.schedule.specs.Schedule.{Schedule, readSchedule}
+use Rattle.schedule.specs.Code.{scheduleOf, readScheduleOf}
 use Rattle.schedule.specs.declared.schedule.ReadSchedule.{ReadSchedule}
 use Rattle.reasons.specs.declared.ill_formed.StructureIssue.{StructureIssue}
 use Rattle.reasons.specs.declared.ill_formed.VerifyError.{VerifyError}
 use Rattle.reasons.specs.declared.ill_formed.Verified.{Verified}
 use Rattle.reasons.specs.declared.ill_formed.Verified.the-variants.{Passed, Failed}
-use Rattle.verifier.specs.Verify.{Scheduled, scheduled, verify, vsetRow, newRows, structure, genesisRows, stickyFault, aboveRows, wellFormedRows}
-use Rattle.verifier.specs.Found.{unknownMap, bufferWith, verifiedOf, verifiedFrom}
-use Rattle.check_peers.proofs.Laws.{Told, buffer-kept}
-use Rattle.verify.specs.Call.{Input, Tested, refused, taken, tested, verifyWith, verifyBuffer}
-use Rattle.verify.specs.declared.VerifyAnswer.{VerifyAnswer}
-use Rattle.verify.specs.declared.VerifyAnswer.the-variants.{Number, Verdict}
+use Rattle.rules.specs.Verify.{Scheduled, scheduled, verify, vsetRow, newRows, structure, genesisRows, stickyFault, aboveRows, wellFormedRows, unknownMap, bufferWith}
+use Rattle.reasons.specs.Code.{verifiedOf}
+use Rattle.rules.specs.Judge.{verifiedFrom, Input, Tested, refused, admitted, tested, verifyWith, verifyBuffer}
+use Rattle.verify_peers.proofs.Laws.{Told, buffer-kept}
+use Rattle.reasons.specs.declared.ill_formed.VerifyAnswer.{VerifyAnswer}
+use Rattle.reasons.specs.declared.ill_formed.VerifyAnswer.the-variants.{Number, Verdict}
 
 -- ---- faults that tell of no unknown peers
 
@@ -53,7 +54,7 @@ unfolding firstOf silent
 silent-first [] s = refl
 silent-first (x ∷ l) s = unfound (unknownMap (some x)) (not-true _ (and-left (not (isSome (unknownMap (some x)))) (silent l) s))
 
-silent-iff : (b : Bool) (x : VerifyError) → silent (iff b x) ≡ (not (isSome (unknownMap (some x))) || not b)
+silent-iff : (b : Bool) (x : VerifyError) → silent (when b x) ≡ (not (isSome (unknownMap (some x))) || not b)
 unfolding silent
 silent-iff false x = sym (or-true (not (isSome (unknownMap (some x)))))
 silent-iff true x = let b = not (isSome (unknownMap (some x))) in and-true b ∙ sym (or-false b)
@@ -146,7 +147,7 @@ module _ (settings schedule rec : List ℕ) (others : Bool) (size : ℕ) where
           unfolding tested
           no-room r = rw (h, g, f) (rw (d, lt-ltb size 8160 r))
 
-          pub all-taken : 8160 ≤ size → tested settings schedule rec others size ≡ taken (record { settings = c; schedule = s; point = p })
+          pub all-taken : 8160 ≤ size → tested settings schedule rec others size ≡ admitted (record { settings = c; schedule = s; point = p })
           unfolding tested
           all-taken r = rw (h, g, f) (rw (d, le-ltb size 8160 r))
 
@@ -163,7 +164,7 @@ verified-back : (r : Verified) → r ≡ verifiedFrom (verifiedOf r)
 verified-back Passed = refl
 verified-back (Failed e) = refl
 
-pub answer-verdict : (t : Tested) (i : Input) (r : Verified) (old new : List ℕ) → t ≡ taken i →
+pub answer-verdict : (t : Tested) (i : Input) (r : Verified) (old new : List ℕ) → t ≡ admitted i →
     verifiedOf r ≡ verify (i .settings) (i .schedule) (i .point) →
     new ≡ bufferWith (scheduled (i .settings) (i .schedule) (i .point)) (i .point) (verifiedOf r) old →
     Answered t (Verdict r) old new

@@ -2,6 +2,7 @@
 use point::PointInfo;
 use point::ReadPoint;
 use reasons::Verified;
+use reasons::VerifyAnswer;
 use schedule::ReadSettings;
 use schedule::Schedule;
 use schedule::Settings;
@@ -11,18 +12,13 @@ ghost use mathlib.Core.Option.{some};
 ghost use Prim.Native.Nat.{_≤_};
 ghost use lib.ListN.{length};
 ghost use Rattle.parts.specs.Limits.{peersRoom};
-ghost use Rattle.point.specs.Reading.{pointOf, readPoint};
-ghost use Rattle.schedule.specs.Settings.{settingsOf};
-ghost use Rattle.schedule.specs.Schedule.{readSchedule, scheduleOf};
-ghost use Rattle.verifier.specs.Verify.{scheduled, verify};
-ghost use Rattle.verifier.specs.Found.{verifiedOf, bufferWith};
-ghost use Rattle.verify.specs.Call.{tested, verifyWith, verifyBuffer};
-
-// Document 01's number in place of a verdict, or what verification found.
-pub enum VerifyAnswer {
-    Number(u8),
-    Verdict(Verified),
-}
+ghost use Rattle.point.specs.Code.{pointOf};
+ghost use Rattle.point.specs.Reading.{readPoint};
+ghost use Rattle.schedule.specs.Code.{settingsOf, scheduleOf};
+ghost use Rattle.schedule.specs.Schedule.{readSchedule};
+ghost use Rattle.rules.specs.Verify.{scheduled, verify, bufferWith};
+ghost use Rattle.reasons.specs.Code.{verifiedOf};
+ghost use Rattle.rules.specs.Judge.{tested, verifyWith, verifyBuffer};
 
 // BasicVerifier::verify, of input that was read.
 pub fn verify_point(
@@ -39,7 +35,7 @@ pub fn verify_point(
     ensures { λ r. ⌜ verifiedOf r ≡ verify (settingsOf conf) (scheduleOf (now (schedule .entry)) spans) (pointOf (now (rec .entry)) info) ⌝ }
     ensures { λ r. ⌜ now (peers .exit) ≡ bufferWith (scheduled (settingsOf conf) (scheduleOf (now (schedule .entry)) spans) (pointOf (now (rec .entry)) info)) (pointOf (now (rec .entry)) info) (verifiedOf r) (now (peers .entry)) ⌝ }
 {
-    let new = check_new::check_new(conf, schedule, spans, rec, info);
+    let new = verify_new::check_new(conf, schedule, spans, rec, info);
     let Verified::Passed = new else {
         return new;
     };
@@ -47,7 +43,7 @@ pub fn verify_point(
     let includes = record::content_from(rec, at.includes, at.witness, 2);
     let witness = record::content_from(rec, at.witness, at.evidence, 3);
     let evidence = record::content_from(rec, at.evidence, at.anchor_proof, 4);
-    let well_formed = check_well_formed::check_well_formed(
+    let well_formed = verify_well_formed::check_well_formed(
         conf,
         includes,
         witness,
@@ -58,7 +54,7 @@ pub fn verify_point(
     let Verified::Passed = well_formed else {
         return well_formed;
     };
-    check_peers::check_peers(
+    verify_peers::check_peers(
         conf,
         schedule,
         spans,

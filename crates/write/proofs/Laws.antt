@@ -9,7 +9,7 @@ use lib.Pow.{pow-add}
 use lib.ListN.{length, take, drop, length-append, take-append-drop}
 use lib.Seq.{sets, sets-eq, length-sets, take-at, drop-at, drop-append-add, length-take-le}
 use Rattle.parts.specs.Bytes.{little, big, littleBytes, bytesAt, bigAt, bigBytes, putAt, Bytes}
-use Rattle.parts.specs.Parts.{number}
+use Rattle.parts.specs.Code.{number}
 use Rattle.parts.specs.declared.Id.{Id}
 use Rattle.parts.proofs.Laws.{Words, little-bytes}
 
@@ -93,7 +93,7 @@ sets-append l i [] ys = ap (λ (k : ℕ). sets l k ys) (sym (add-zero i))
 sets-append l i (x ∷ xs) ys =
     sets-append _ (suc i) xs ys ∙ ap (λ (k : ℕ). sets (sets l i (x ∷ xs)) k ys) (suc-add i (length xs) ∙ sym (add-suc i (length xs)))
 
--- a run behind a run
+-- a run after a run
 pub put-put : (l : List ℕ) (at : ℕ) (xs ys : List ℕ) (n : ℕ) → at + length xs ≡ n → n + length ys ≤ length l → putAt (putAt l at xs) n ys ≡ putAt l at (xs ++ ys)
 put-put l at xs ys n e h =
     let f : at + length xs ≤ length l = omega arith in
@@ -104,7 +104,7 @@ put-put l at xs ys n e h =
     ∙ (ap (λ (m : ℕ). sets (sets l at xs) m ys) (sym e)
     ∙ (sym (sets-append l at xs ys) ∙ put-is l at (xs ++ ys) k)))
 
--- a run right behind what is there already
+-- a run right after what is there already
 pub put-behind : (xs ys vs : List ℕ) (n : ℕ) → length xs ≡ n → putAt (xs ++ ys) n vs ≡ (xs ++ vs) ++ drop (length vs) ys
 unfolding putAt
 put-behind xs ys vs n e =
@@ -146,3 +146,9 @@ put-words l at a b c d h hb hc hd =
     (rw (put-put l at (bigBytes 8 a ++ bigBytes 8 b) (bigBytes 8 c) (at + 16) (omega arith) (omega arith))
     (rw (put-put l at (bigBytes 8 a ++ bigBytes 8 b ++ bigBytes 8 c) (bigBytes 8 d) (at + 24) (omega arith) (omega arith))
     (ap (putAt l at) (sym (bytes-words a b c d hb hc hd)))))
+
+-- three runs, each after the one before
+pub put-three : (l : List ℕ) (at : ℕ) (xs ys zs : List ℕ) (m n : ℕ) → at + length xs ≡ m → m + length ys ≡ n → n + length zs ≤ length l → putAt (putAt (putAt l at xs) m ys) n zs ≡ putAt l at (xs ++ ys ++ zs)
+put-three l at xs ys zs m n e f h =
+    let k : at + length (xs ++ ys) ≡ n = rw (length-append xs ys) (omega arith) in
+    rw (put-put l at xs ys m e (omega arith)) (put-put l at (xs ++ ys) zs n k h)

@@ -4,7 +4,7 @@ ghost use mathlib.Core.Path.{_≡_};
 ghost use Prim.Native.Nat.{_+_, _≤_};
 ghost use lib.ListN.{length};
 ghost use Rattle.parts.specs.Bytes.{littleBytes, bigBytes, putAt};
-ghost use Rattle.parts.specs.Parts.{number};
+ghost use Rattle.parts.specs.Code.{number};
 
 // Writes the eight bytes of a number at a place, the first lowest. The compiler makes one store of them.
 fn put_u64(out: &mut [u8], at: usize, x: u64)

@@ -1,14 +1,14 @@
 // The calls for other languages, over the proved ones.
 use judge::JudgeAnswer;
-use verify::VerifyAnswer;
+use reasons::VerifyAnswer;
 ghost use mathlib.Core.Path.{_≡_};
 ghost use mathlib.Core.Bool.{true};
 ghost use lib.ListN.{length};
-ghost use Rattle.verify.specs.Call.{tested, verifyWith, verifyBuffer};
-ghost use Rattle.judge.specs.Judge.{flagsOk, judgeWith};
-ghost use Rattle.plain_book.specs.Calls.{openNumber, openBytes, offerBytes};
-ghost use Rattle.book.specs.Decided.{offerOf};
-ghost use Rattle.wutherdish.specs.Calls.{verifyNumber, verifyAnswer, judgeNumber, judgeAnswer};
+ghost use Rattle.rules.specs.Judge.{tested, verifyWith, verifyBuffer, flagsOk, judgeWith};
+ghost use Rattle.books.specs.Calls.{openNumber, openBytes, offerBytes};
+ghost use Rattle.books.specs.Offer.{offerOf};
+ghost use Rattle.rules.specs.Answer.{verifyNumber, verifyAnswer, judgeNumber, judgeAnswer};
+ghost use Rattle.wutherdish.specs.Version.{version};
 
 // Verifies a point. Answers document 01's number, or 0 with the verdict in `answer` and the unknown peers in `peers`; with a
 // number no lent byte changes.
@@ -92,4 +92,12 @@ pub extern "C" fn wutherdish_offer(
             0
         }
     }
+}
+
+// Answers which library this is: ABI, format, major and minor version, a byte each.
+#[no_mangle]
+pub extern "C" fn wutherdish_version() -> u32
+    ensures { λ r. ⌜ r ≡ version ⌝ }
+{
+    0x01010001
 }

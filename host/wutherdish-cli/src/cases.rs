@@ -1,4 +1,4 @@
-//! A file of cases: each is its kind, its number of blobs, and each blob behind its length.
+//! A file of cases: each is its kind, its number of blobs, and each blob after its length.
 
 use wutherdish::lent::{self, ANSWER, PEER_BUFFER};
 use wutherdish::{Refusal, Unreadable, Verdict, Verified, VerifyError};
@@ -58,7 +58,7 @@ impl<'a> Cases<'a> {
         Self { bytes, at: 0, place: 0 }
     }
 
-    /// The next bytes, if there are so many.
+    /// The next bytes, if there are n.
     fn take(&mut self, count: usize, wanted: &'static str) -> Result<&'a [u8], Unreadable> {
         let unreadable = Unreadable { at: self.at, wanted };
         let taken = self.at.checked_add(count).and_then(|end| self.bytes.get(self.at..end)).ok_or(unreadable)?;

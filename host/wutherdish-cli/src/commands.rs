@@ -3,7 +3,7 @@
 use std::ffi::{OsStr, OsString};
 use std::io::{self, IsTerminal};
 
-use wutherdish::{Book, Refusal, Unreadable};
+use wutherdish::{Book, Point, Refusal, Unreadable};
 
 use crate::cases::Cases;
 use crate::explain::Explain;
@@ -36,7 +36,7 @@ pub struct Explaining {
     pub progress: bool,
 }
 
-/// What each point of a feed or of a file of cases is found to be.
+/// What each point of a feed or of a file of cases is found to be, or what a point record says.
 pub fn explain(file: &OsStr, options: &Explaining) -> Result<(), Problem> {
     let mut out = Output::new(options.book.is_some())?;
     let input = Input::read(file)?;
@@ -46,9 +46,13 @@ pub fn explain(file: &OsStr, options: &Explaining) -> Result<(), Problem> {
             let ids = || Ids::of_cases(Cases::new(&input.bytes));
             explaining(&input, options, ids, &mut out).cases(Cases::new(&input.bytes))?
         }
-        (Kind::Cases, Some(_)) => {
-            return Err(Problem::Usage(format!("{} is a file of cases, which leaves no book", input.name)));
+        (Kind::Record, None) => {
+            let point = Point::try_from(&input.bytes[..]).map_err(|unreadable| input.bad(unreadable))?;
+            explaining(&input, options, || Ids::of_point(&point), &mut out).record(&point)?;
+            None
         }
+        (Kind::Cases, Some(_)) => return Err(leaves_no_book(&input, "a file of cases")),
+        (Kind::Record, Some(_)) => return Err(leaves_no_book(&input, "a point record")),
         (Kind::Feed | Kind::Book, book) => {
             let feed = feed(&input)?;
             let mut room = opened(&input, &feed, options.room)?;
@@ -59,6 +63,10 @@ pub fn explain(file: &OsStr, options: &Explaining) -> Result<(), Problem> {
     };
     out.finish()?;
     bad.map_or(Ok(()), |unreadable| Err(input.bad(unreadable)))
+}
+
+fn leaves_no_book(input: &Input, what: &str) -> Problem {
+    Problem::Usage(format!("{} is {what}, which leaves no book", input.name))
 }
 
 /// Refuses to write words or book over the input, or the book over the words.
@@ -102,6 +110,7 @@ pub fn show(file: &OsStr, room: Option<usize>, output: Option<&OsStr>, progress:
         Kind::Book => found(&input)?,
         Kind::Feed => fed(&input, room, progress)?,
         Kind::Cases => return Err(Problem::file(&input.name, "a file of cases, which leaves no book to show")),
+        Kind::Record => return Err(Problem::file(&input.name, "a point record, which leaves no book to show")),
     };
     let unreadable = |unreadable| input.bad(unreadable);
     let (settings, kept) = (book.settings().map_err(unreadable)?, book.kept().map_err(unreadable)?);
@@ -199,9 +208,9 @@ pub fn no_command(name: &OsStr) -> Problem {
     Problem::Usage(format!("{} is no command", shown(name)))
 }
 
-/// Which version this is.
+/// Which version this is, and which library it uses.
 pub fn version() -> Result<(), Problem> {
-    print(concat!("wutherdish ", env!("CARGO_PKG_VERSION"), "\n").as_bytes())
+    print(format!("wutherdish {}\nlibrary {}\n", env!("CARGO_PKG_VERSION"), wutherdish::version()).as_bytes())
 }
 
 fn feed(input: &Input) -> Result<Feed<'_>, Problem> {

@@ -70,6 +70,13 @@ impl<W: Write> Explain<'_, W> {
         Ok(bad)
     }
 
+    /// Says what a point record says. Nothing judges it.
+    pub fn record(&mut self, point: &Point) -> Result<(), Problem> {
+        self.note_names()?;
+        self.line(&self.words.record(point).join("\n"))?;
+        self.line("\nnote: a record alone is not judged; a feed or a case has what judging takes")
+    }
+
     fn front(&mut self, feed: &Feed<'_>) -> Result<(), Problem> {
         if self.last {
             return Ok(());

@@ -70,7 +70,7 @@ impl<'a> Iterator for Offers<'a> {
     }
 }
 
-/// The same, counted from the front of bytes that have so many more before it.
+/// The same, counted from the front of bytes that have n more before it.
 fn further(unreadable: Unreadable, before: usize) -> Unreadable {
     Unreadable { at: unreadable.at + before, ..unreadable }
 }

@@ -1,4 +1,4 @@
-//! The ids at hand: all that a feed, a book or a file of cases names.
+//! The ids at hand: all that a feed, a book, a point record or a file of cases names.
 
 use std::collections::BTreeSet;
 
@@ -38,7 +38,14 @@ impl Ids {
         ids
     }
 
-    /// Those of a file of cases, likewise. A list is read field by field: tags 1, 17 and 18 begin with a point's id.
+    /// Those of a point.
+    pub fn of_point(point: &Point) -> Self {
+        let mut ids = Self::default();
+        ids.add_point(point);
+        ids
+    }
+
+    /// Those of a file of cases, up to what can't be read. A list is read field by field: tags 1, 17 and 18 begin with a point's id.
     pub fn of_cases(cases: Cases<'_>) -> Self {
         let mut ids = Self::default();
         for case in cases.flatten() {

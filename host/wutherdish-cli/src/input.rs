@@ -26,13 +26,15 @@ pub enum Kind {
     Feed,
     /// Settings and kept points.
     Book,
+    /// One point record.
+    Record,
     /// Calls of verifying and judging.
     Cases,
 }
 
 impl Input {
     /// Reads a file, or standard input where it is named `-`; no further than its front where that is none of a feed,
-    /// a book or a file of cases, since some input never ends.
+    /// a book, a point record or a file of cases, since some input never ends.
     pub fn read(name: &OsStr) -> Result<Self, Problem> {
         let (name, file) = match name == "-" {
             true => ("standard input".into(), streams::input()),
@@ -54,7 +56,7 @@ impl Input {
 
     /// What it is.
     pub fn kind(&self) -> Result<Kind, Problem> {
-        let wanted = "a feed or a book (tag 32), or a case (1 or 2)";
+        let wanted = "a feed or a book (tag 32), a point record (tag 1), or a case (1 or 2)";
         kind(&self.bytes).ok_or_else(|| self.bad(Unreadable { at: 0, wanted }))
     }
 
@@ -77,8 +79,12 @@ impl Input {
 }
 
 /// What the bytes at a file's front say that it is. Feed and book both begin with settings; then a feed has a span of
-/// its schedule, a book an entry, a 0 or its end.
+/// its schedule, a book an entry, a 0 or its end. A record begins with its id, tag 1 with 68 bytes, and no case has 68
+/// blobs.
 fn kind(bytes: &[u8]) -> Option<Kind> {
+    if bytes.starts_with(&[1, 68, 0]) {
+        return Some(Kind::Record);
+    }
     match (bytes.first(), bytes.get(SETTINGS)) {
         (Some(1 | 2), _) => Some(Kind::Cases),
         (Some(32), None | Some(0 | 1)) if bytes.len() >= SETTINGS => Some(Kind::Book),

@@ -15,7 +15,7 @@ pub struct Progress {
 }
 
 impl Progress {
-    /// For a file of so many bytes. Where it is not asked for, it is shown to a person who sees no other output
+    /// For a file of n bytes. Where it is not asked for, it is shown to a person who sees no other output
     /// meanwhile, and not before it is worth it.
     pub fn new(total: usize, asked: bool, output_is_seen: bool) -> Self {
         let next = match asked {
@@ -25,7 +25,7 @@ impl Progress {
         Self { total, next, shown: false }
     }
 
-    /// Says that so many points, which end at this byte, were read.
+    /// Says that n points, which end at this byte, were read.
     pub fn show(&mut self, points: usize, at: usize) {
         if self.next.is_some_and(|next| Instant::now() >= next) {
             let percent = 100 * at as u128 / self.total.max(1) as u128;

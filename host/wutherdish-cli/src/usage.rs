@@ -50,7 +50,8 @@ pub const OUTPUT: Opt = Opt { name: "-o", value: Some("FILE"), what: "writes to 
 /// How it is used.
 pub const HELP: Opt = Opt { name: "--help", value: None, what: "says how the command is used; -h does too" };
 /// Which version it is.
-pub const VERSION: Opt = Opt { name: "--version", value: None, what: "says which version this is" };
+pub const VERSION: Opt =
+    Opt { name: "--version", value: None, what: "says which version this is, and which library it uses" };
 
 static OPTIONS: [&Opt; 8] = [&LAST, &ROOM, &BOOK, &FULL_IDS, &PROGRESS, &OUTPUT, &HELP, &VERSION];
 
@@ -58,7 +59,7 @@ static COMMANDS: [Command; 6] = [
     Command {
         name: "explain",
         takes: "FILE",
-        what: "what each point of a feed, or each case of a file of cases, is found to be, and why",
+        what: "what each point of a feed or case of a file is found to be, and why; or what a point record says",
         options: &[&LAST, &ROOM, &BOOK, &FULL_IDS, &PROGRESS],
     },
     Command {

@@ -27,6 +27,22 @@ impl Words {
         format!("{}, {}{leader}", self.names.say(&point.id), point.role)
     }
 
+    /// What a point record says, line by line.
+    pub fn record(&self, point: &Point) -> [String; 9] {
+        let (messages, bytes) = (point.payload_len as usize, point.payload_bytes as usize);
+        [
+            self.point(point, 0),
+            format!("payload: {}, {}", counted(messages, "message"), counted(bytes, "byte")),
+            format!("includes: {}", point.includes.len()),
+            format!("witness: {}", point.witness.len()),
+            format!("evidence: {}", point.evidence.len()),
+            format!("anchor proof link: {}", self.names.say(&point.anchor_proof)),
+            format!("anchor trigger link: {}", self.names.say(&point.anchor_trigger)),
+            format!("time: {}", point.time),
+            format!("anchor time: {}", point.anchor_time),
+        ]
+    }
+
     /// The answer to a point, line by line.
     pub fn answer(&self, answer: &Result<Answer, Refusal>) -> Vec<String> {
         let verdict = match answer {
@@ -60,10 +76,14 @@ impl Words {
 pub fn schedule(schedule: &Schedule) -> String {
     let mut words = String::new();
     for span in &schedule.spans {
-        let peers = if span.peers.len() == 1 { "peer" } else { "peers" };
-        words += &format!("{} {peers} from round {} on, ", span.peers.len(), span.first_round);
+        words += &format!("{} from round {} on, ", counted(span.peers.len(), "peer"), span.first_round);
     }
     format!("{words}known up to round {}", schedule.last_known_round)
+}
+
+/// How many there are, and of what.
+fn counted(count: usize, one: &str) -> String {
+    format!("{count} {one}{}", if count == 1 { "" } else { "s" })
 }
 
 /// The source's name of a verdict's reason.

@@ -27,7 +27,7 @@ pub fn drill() -> Drill {
         .drill("demo", "each verdict, a refused offer, a proof and its trigger, marks and a root cause", VALID)
 }
 
-/// D's clock is behind: the points below lie too far in its future, so its point is invalid.
+/// D's clock is slow: the points below lie too far in its future, so its point is invalid.
 fn round_12(world: &World) -> [Point; 3] {
     let [a, b, d] = [A, B, D].map(|author| world.point(12, author, &[A, B, C]));
     [a, b, Point { time: 10_400, ..d }]

@@ -52,7 +52,7 @@ pub fn verify(world: &World, point: &Point, peer_buffer: u32) -> Input {
     case(1, &[&world.settings.to_bytes(), &schedule, &record, &peer_buffer.to_le_bytes()])
 }
 
-/// A case of judging, where so many of the point's rounds are in the DAG; its author does not lead its round.
+/// A case of judging, where n of the point's rounds are in the DAG; its author does not lead its round.
 pub fn judge(world: &World, point: &Point, presence: u8, list: &[u8]) -> Input {
     let (schedule, record) = (written(world.schedule.to_bytes()), written(point.to_bytes()));
     let peer_buffer = (PEER_BUFFER as u32).to_le_bytes();

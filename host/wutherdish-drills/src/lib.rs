@@ -1,7 +1,7 @@
 //! Feeds to drill with: by name, the smallest one that gives each verdict, each reason and each number, and a few that tell
 //! a story.
 //!
-//! Smallest means fewest offers, then fewest peers. So a feed leaves out what its last answer doesn't hang on, even parents
+//! Smallest means fewest offers, then fewest peers. So a feed leaves out what its last answer doesn't depend on, even parents
 //! and the genesis point. What was never offered is not found (19), but the last reason that is found stays: in such a feed
 //! the dependency that decides is the last one of the list. The stories leave out nothing but what they tell of.
 //!

@@ -1,8 +1,11 @@
-//! The declarations are those of include/wutherdish.h: the lengths, and each call's parameters by name and kind.
+//! The declarations are those of include/wutherdish.h: the lengths, the versions, and each call's parameters by name and
+//! kind.
 
 use std::fs;
+use std::io::Write;
+use std::process::{Command, Stdio};
 
-use wutherdish_sys::{ANSWER, PEER_BUFFER};
+use wutherdish_sys::{ABI, ANSWER, FORMAT, PEER_BUFFER, wutherdish_version};
 
 /// The repository's root, from the crate's folder, where cargo runs its tests.
 const ROOT: &str = "../..";
@@ -45,6 +48,43 @@ fn the_lengths() {
 }
 
 #[test]
+fn the_versions() {
+    let header = words("include/wutherdish.h", ("/*", "*/"));
+    let release: Vec<u8> = env!("CARGO_PKG_VERSION").split('.').map(|part| part.parse().expect("a number")).collect();
+    let [major, minor, patch] = release[..] else { panic!("{release:?} has three parts") };
+    let names = [
+        ("ABI", ABI),
+        ("FORMAT", FORMAT),
+        ("VERSION_MAJOR", major),
+        ("VERSION_MINOR", minor),
+        ("VERSION_PATCH", patch),
+    ];
+    for (name, number) in names {
+        assert!(header.contains(&format!("#define WUTHERDISH_{name} {number} ")), "{name} {number}");
+    }
+    assert_eq!(wutherdish_version().to_be_bytes(), [ABI, FORMAT, major, minor]);
+}
+
+/// Whether a C compiler takes a program that includes the header.
+fn compiles(program: &str) -> bool {
+    let flags = ["-std=c99", "-pedantic", "-Wall", "-Wextra", "-Werror", "-fsyntax-only", "-I", "../../include"];
+    let mut cc = Command::new("cc");
+    cc.args(flags).args(["-x", "c", "-"]).stdin(Stdio::piped()).stderr(Stdio::null());
+    let mut cc = cc.spawn().expect("cc, which links this test too");
+    let text = format!("#include \"wutherdish.h\"\n{program}\n");
+    cc.stdin.take().expect("its input is a pipe").write_all(text.as_bytes()).expect("it reads its input");
+    cc.wait().expect("it ends").success()
+}
+
+#[test]
+fn the_version_in_c() {
+    let linked = wutherdish_version();
+    assert!(compiles(&format!("#if WUTHERDISH_VERSION != {linked}\n#error\n#endif")));
+    assert!(!compiles(&format!("#if WUTHERDISH_VERSION != {}\n#error\n#endif", linked + 1)));
+    assert!(compiles("int is_other(void) { return wutherdish_version() >> 16 != WUTHERDISH_VERSION >> 16; }"));
+}
+
+#[test]
 fn the_calls() {
     let header = words("include/wutherdish.h", ("/*", "*/"));
     let rust = words("host/wutherdish-sys/src/lib.rs", ("//", "\n"));
@@ -55,4 +95,6 @@ fn the_calls() {
         assert_eq!(parameters(&rust, call), expected);
     }
     assert_eq!(header.matches("uint8_t wutherdish_").count(), 4);
+    assert!(header.contains("uint32_t wutherdish_version(void);"));
+    assert!(rust.contains("pub safe fn wutherdish_version() -> u32;"));
 }

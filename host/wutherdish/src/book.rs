@@ -14,7 +14,7 @@ use crate::settings::Settings;
 pub struct Book<B>(B);
 
 impl<B: AsRef<[u8]> + AsMut<[u8]>> Book<B> {
-    /// Opens a book with these settings: they stand first, and all bytes behind them become 0. Where it is refused, a
+    /// Opens a book with these settings: they stand first, and all bytes after them become 0. Where it is refused, a
     /// lent slice keeps its bytes.
     ///
     /// ```

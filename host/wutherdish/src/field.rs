@@ -15,7 +15,7 @@ pub struct Unreadable {
 }
 
 impl Unreadable {
-    /// The same fault, in bytes that stand behind others.
+    /// The same fault, in bytes that stand after others.
     pub(crate) fn behind(self, others: usize) -> Self {
         Self { at: others + self.at, ..self }
     }
@@ -29,13 +29,13 @@ impl Display for Unreadable {
 
 impl Error for Unreadable {}
 
-/// What was read, if nothing stands behind it.
+/// What was read, if nothing stands after it.
 pub(crate) fn whole<T>(bytes: &[u8], (value, rest): (T, &[u8])) -> Result<T, Unreadable> {
     let end = Unreadable { at: bytes.len() - rest.len(), wanted: "the end, and found more bytes" };
     if rest.is_empty() { Ok(value) } else { Err(end) }
 }
 
-/// Two arrays, one behind the other.
+/// Two arrays, one after the other.
 pub(crate) fn join<const A: usize, const B: usize, const C: usize>(front: [u8; A], back: [u8; B]) -> [u8; C] {
     const { assert!(A + B == C) };
     std::array::from_fn(|place| if place < A { front[place] } else { back[place - A] })
@@ -52,7 +52,7 @@ pub(crate) fn field<const N: usize>(tag: u8, content: [u8; N]) -> Vec<u8> {
     [&head::<N>(tag)[..], &content].concat()
 }
 
-/// A field of at most 255 rows behind a front; where there are more, their number is the error.
+/// A field of at most 255 rows after a front; where there are more, their number is the error.
 pub(crate) fn field_of_rows<const A: usize, const N: usize>(
     tag: u8,
     front: [u8; A],
@@ -101,7 +101,7 @@ impl<'a> Fields<'a> {
     }
 }
 
-/// The content of the field at the front, and what stands behind the field.
+/// The content of the field at the front, and what stands after the field.
 fn split(bytes: &[u8], tag: u8) -> Option<(Content<'_>, &[u8])> {
     let [first, low, high, rest @ ..] = bytes else { return None };
     let (content, rest) = rest.split_at_checked(u16::from_le_bytes([*low, *high]).into())?;

@@ -76,7 +76,7 @@ impl Status {
     }
 }
 
-/// The entries behind a book's settings. Whether they are in the domain, and nothing but zeros behind them, is for an
+/// The entries after a book's settings. Whether they are in the domain, and nothing but zeros after them, is for an
 /// offer to say.
 pub(crate) fn read(book: &[u8]) -> Result<Vec<Kept>, Unreadable> {
     let (_, mut rest) = Settings::read(book)?;

@@ -10,6 +10,7 @@
 //! | [`judge`] | gives the verdict on a point by a list of its dependencies, which the host keeps |
 //! | [`Book`] | keeps the points with their verdicts, and judges each new one by them |
 //! | [`lent`] | the same calls on buffers of the host, for answers as bytes |
+//! | [`check_version`] | tells whether the linked library is one that this crate is made for |
 //!
 //! A call gives a verdict or a [`Refusal`]; a refused call has changed nothing. Answers, refusals and errors say in one
 //! line what is wrong (`Display`), with ids cut short, or whole in the alternate form `{:#}`. Nothing here panics,
@@ -108,6 +109,7 @@ mod record;
 mod refusal;
 mod schedule;
 mod settings;
+mod version;
 mod words;
 
 pub use book::Book;
@@ -127,3 +129,4 @@ pub use reasons::{
 pub use refusal::Refusal;
 pub use schedule::{Schedule, Span};
 pub use settings::{SETTINGS, Settings};
+pub use version::{OtherVersion, Version, check_version, version};

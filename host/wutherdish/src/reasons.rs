@@ -43,7 +43,7 @@ pub struct UninitVset {
     pub len: u32,
     /// The round whose set it is.
     pub round: u32,
-    /// The map that would be held to it.
+    /// The map that would be checked against it.
     pub map: PointMap,
 }
 
@@ -94,7 +94,7 @@ pub enum IllFormedReason {
     LackOfPeers {
         /// The map's length.
         len: u32,
-        /// The set that it is held to.
+        /// The set that it is checked against.
         peer_count: PeerCount,
         /// The map that is too short.
         map: PointMap,

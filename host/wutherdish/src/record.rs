@@ -61,7 +61,7 @@ impl Point {
     }
 }
 
-/// A point record with nothing behind it.
+/// A point record with nothing after it.
 impl TryFrom<&[u8]> for Point {
     type Error = Unreadable;
 

@@ -78,7 +78,7 @@ impl Schedule {
 
 const SPAN: &str = "one of at most four spans, tag 34, by rising first rounds, each of at most 255 peers, rising";
 
-/// A schedule with nothing behind it.
+/// A schedule with nothing after it.
 impl TryFrom<&[u8]> for Schedule {
     type Error = Unreadable;
 

@@ -51,7 +51,7 @@ impl Settings {
     }
 }
 
-/// Settings with nothing behind them.
+/// Settings with nothing after them.
 impl TryFrom<&[u8]> for Settings {
     type Error = Unreadable;
 

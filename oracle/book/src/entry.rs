@@ -7,7 +7,7 @@ use oracle::{Verdict, read, write};
 
 use crate::Mistake;
 
-/// The tag of what stands behind an entry's record, and the length of its content.
+/// The tag of what stands after an entry's record, and the length of its content.
 const TAG: u8 = 33;
 const CONTENT: usize = 105;
 /// What an entry has beside its record: tag, length and content.
@@ -127,7 +127,7 @@ impl Entry {
         write::field(out, TAG, &[&[state, u8::from(self.certified), reason][..], &root].concat());
     }
 
-    /// An entry at the front of the bytes, in the domain, and what stands behind it.
+    /// An entry at the front of the bytes, in the domain, and what stands after it.
     pub fn read(bytes: &[u8], mistake: Option<Mistake>) -> Option<(Self, &[u8])> {
         let (point, behind) = read::record_front(bytes)?;
         let record = bytes[..bytes.len() - behind.len()].to_vec();

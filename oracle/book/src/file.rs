@@ -39,7 +39,7 @@ pub enum Case {
     },
 }
 
-/// What an offer leaves behind.
+/// What an offer leaves.
 #[derive(Clone)]
 pub struct After {
     pub sha256: Vec<u8>,

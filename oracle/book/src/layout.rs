@@ -1,4 +1,4 @@
-//! A book's bytes: settings, entries one behind the other, zeros. Numbers 1, 5 and 10.
+//! A book's bytes: settings, entries one after the other, zeros. Numbers 1, 5 and 10.
 
 use std::collections::HashSet;
 

@@ -1,4 +1,4 @@
-//! Document 01's plain book: a list of entries, empty at opening, laid out behind its settings in as long a slice.
+//! Document 01's plain book: a list of entries, empty at opening, laid out after its settings in as long a slice.
 //!
 //! It builds the lists of dependencies itself and judges them by the oracle, so by the unchanged source. `open` and
 //! `offer` work on the book's bytes; `Book` is what these bytes mean. One mistake can be put into a book: the feeds have

@@ -61,7 +61,7 @@ plain::mistakes! {
     FullFirst,
     /// another version of a kept point is refused as kept
     VersionIsKept,
-    /// in reading, what stands behind the entries is not tested
+    /// in reading, what stands after the entries is not tested
     AnythingBehind,
     /// in reading, an id may stand twice
     IdTwice,

@@ -23,7 +23,7 @@ fn part(case: &mut Case, part: Part) -> Option<&mut Vec<u8>> {
     })
 }
 
-/// Breaks one part: cut short, a byte behind, a tag, a length, a flag, the order of peers or of fields.
+/// Breaks one part: cut short, a byte after, a tag, a length, a flag, the order of peers or of fields.
 pub fn spoil(random: &mut Random, case: &mut Case, which: Part) {
     let Some(bytes) = part(case, which) else { return };
     let fields = fields(bytes);
@@ -50,7 +50,7 @@ fn fields(bytes: &[u8]) -> Vec<(usize, usize)> {
     fields
 }
 
-/// A zero behind the content, counted in its length.
+/// A zero after the content, counted in its length.
 fn lengthen(bytes: &mut Vec<u8>, (place, length): (usize, usize)) {
     let content = (length - 3 + 1) as u16;
     bytes[place + 1..place + 3].copy_from_slice(&content.to_le_bytes());
@@ -68,7 +68,7 @@ fn random_content(fields: &[(usize, usize)]) -> (usize, usize) {
     fields.iter().copied().max_by_key(|(_, length)| *length).unwrap_or((0, 0))
 }
 
-/// Copies 32 bytes of a content over the 32 behind them, so that a map no longer rises; a short content gets
+/// Copies 32 bytes of a content over the 32 after them, so that a map no longer rises; a short content gets
 /// a byte of high value.
 fn repeat_content(random: &mut Random, bytes: &mut [u8], (place, length): (usize, usize)) {
     let content = place + 3..place + length;

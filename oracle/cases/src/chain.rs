@@ -36,7 +36,7 @@ fn peer(place: usize) -> Peer {
 }
 
 impl Chain {
-    /// Seven peers above a genesis point, and a window of so many rounds.
+    /// Seven peers above a genesis point, and a window of n rounds.
     fn new(history: u8) -> Self {
         let settings = Settings {
             genesis_round: GENESIS,

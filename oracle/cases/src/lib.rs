@@ -11,7 +11,7 @@ pub mod scene;
 use oracle::file::Case;
 use random::Random;
 
-/// The case of this seed at this place. Cases don't hang on one another.
+/// The case of this seed at this place. Cases don't depend on one another.
 pub fn case(seed: u64, place: u64) -> Case {
     let mut random = Random::new(seed, place);
     fault::case(&mut random)

@@ -8,7 +8,7 @@ use oracle::Answer;
 use oracle::answer::FAIL;
 use oracle::numbers::BOOK;
 
-/// One feed in so many is run on the book's bytes too.
+/// One feed in n is run on the book's bytes too.
 const ON_BYTES: u64 = 7;
 
 /// Prints how often each answer and each feature came.

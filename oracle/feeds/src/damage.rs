@@ -6,7 +6,7 @@ use cases::random::Random;
 /// What stands in front of tag 33's content, and its length.
 const HEAD: usize = 3;
 const CONTENT: usize = 105;
-/// Where the digest stands in an entry: behind tag 1, its length and the round.
+/// Where the digest stands in an entry: after tag 1, its length and the round.
 const DIGEST: usize = 7;
 
 /// The book's bytes with one damage: a byte changed anywhere or in a telling place, cut off, over-long, an entry
@@ -54,7 +54,7 @@ fn change(random: &mut Random, bytes: &mut [u8], start: usize, end: usize) {
     }
 }
 
-/// Zeros behind the slice, or something else; now and then the slice is too long for a book.
+/// Zeros after the slice, or something else; now and then the slice is too long for a book.
 fn lengthen(random: &mut Random, bytes: &mut Vec<u8>) {
     let more = random.pick(&[1, 3, 108, 1_000]);
     bytes.resize(bytes.len() + more, 0);
@@ -66,7 +66,7 @@ fn lengthen(random: &mut Random, bytes: &mut Vec<u8>) {
     }
 }
 
-/// An entry stands once more behind all others, or another version of its point.
+/// An entry stands once more after all others, or another version of its point.
 fn repeat(random: &mut Random, bytes: &mut Vec<u8>, entries: &[[usize; 3]], used: usize) {
     let [start, _, end] = random.pick(entries);
     let mut copy = bytes[start..end].to_vec();
@@ -75,7 +75,7 @@ fn repeat(random: &mut Random, bytes: &mut Vec<u8>, entries: &[[usize; 3]], used
     bytes[used..used + copy.len()].copy_from_slice(&copy);
 }
 
-/// An entry goes behind the one that follows it.
+/// An entry goes after the one that follows it.
 fn exchange(random: &mut Random, bytes: &mut [u8], entries: &[[usize; 3]]) {
     let place = random.below(entries.len());
     let [start, _, middle] = entries[place];

@@ -25,7 +25,7 @@ pub struct Feeder {
     offered: Vec<Offer>,
 }
 
-/// How often things go wrong in this feed: one in so many.
+/// How often things go wrong in this feed: one in n.
 struct Habits {
     fault: usize,
     offer_fault: usize,

@@ -22,7 +22,7 @@ use feeder::Feeder;
 /// Offers of one feed.
 pub const OFFERS: usize = 200;
 
-/// Of a feed's offers so many go to damaged books.
+/// Of a feed's offers n go to damaged books.
 const DAMAGED: usize = 60;
 
 /// A feed, which the plain book answers as it goes.
@@ -40,7 +40,7 @@ pub struct Step {
 }
 
 impl Feed {
-    /// The feed of this seed at this place. Feeds don't hang on one another.
+    /// The feed of this seed at this place. Feeds don't depend on one another.
     pub fn new(seed: u64, place: u64) -> Self {
         start::feed(seed, place)
     }

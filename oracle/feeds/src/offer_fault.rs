@@ -38,7 +38,7 @@ fn fail(random: &mut Random, schedule: &mut Schedule, point: &Point, offer: &mut
     offer.schedule = write::schedule(schedule);
 }
 
-/// Cut short, a byte behind, or a byte changed near the front.
+/// Cut short, a byte after, or a byte changed near the front.
 fn damage(random: &mut Random, bytes: &mut Vec<u8>) {
     match random.below(3) {
         0 => bytes.truncate(random.below(bytes.len().max(1))),

@@ -121,7 +121,7 @@ fn matches(point: &Point, presence: u8, entries: &[Entry]) -> bool {
     direct_match(point, presence, direct) && indirect_match(point, presence, indirect)
 }
 
-/// The direct entries and the indirect ones behind them.
+/// The direct entries and the indirect ones after them.
 pub fn split(entries: &[Entry]) -> (&[Entry], &[Entry]) {
     entries.split_at(entries.partition_point(|entry| entry.indirect.is_none()))
 }

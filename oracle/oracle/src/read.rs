@@ -78,7 +78,7 @@ impl<'a> Bytes<'a> {
         self.take(length).map(Bytes)
     }
 
-    /// Nothing may stand behind what was read.
+    /// Nothing may stand after what was read.
     fn end(&self) -> Option<()> {
         self.0.is_empty().then_some(())
     }
@@ -95,7 +95,7 @@ pub fn id(bytes: &[u8; 68]) -> Id {
     }
 }
 
-/// What stands at the front of the bytes, with nothing behind it.
+/// What stands at the front of the bytes, with nothing after it.
 fn alone<T>((value, rest): (T, &[u8])) -> Option<T> {
     rest.is_empty().then_some(value)
 }
@@ -104,7 +104,7 @@ pub fn settings(bytes: &[u8]) -> Option<Settings> {
     settings_front(bytes).and_then(alone)
 }
 
-/// Settings at the front of the bytes, and what stands behind them.
+/// Settings at the front of the bytes, and what stands after them.
 pub fn settings_front(bytes: &[u8]) -> Option<(Settings, &[u8])> {
     let mut rest = Bytes(bytes);
     let mut field = rest.field(32, 44, 44)?;
@@ -123,7 +123,7 @@ pub fn schedule(bytes: &[u8]) -> Option<Schedule> {
     schedule_front(bytes).and_then(alone)
 }
 
-/// A schedule at the front of the bytes, and what stands behind it.
+/// A schedule at the front of the bytes, and what stands after it.
 pub fn schedule_front(bytes: &[u8]) -> Option<(Schedule, &[u8])> {
     let mut rest = Bytes(bytes);
     let mut spans: Vec<Span> = Vec::new();
@@ -143,7 +143,7 @@ pub fn record(bytes: &[u8]) -> Option<Point> {
     record_front(bytes).and_then(alone)
 }
 
-/// A record at the front of the bytes, and what stands behind it.
+/// A record at the front of the bytes, and what stands after it.
 pub fn record_front(bytes: &[u8]) -> Option<(Point, &[u8])> {
     let mut rest = Bytes(bytes);
     let point = point(&mut rest)?;

@@ -29,11 +29,11 @@ mistakes! {
     EvidenceMajority,
     /// includes want 2F
     IncludesOfOthers,
-    /// evidence is held to the set at r-1
+    /// evidence is checked against the set at r-1
     EvidenceSet,
-    /// includes are held to the set at r
+    /// includes are checked against the set at r
     IncludesSet,
-    /// witness is held to the set at r-1
+    /// witness is checked against the set at r-1
     WitnessSet,
     /// the genesis payload is refused by its bytes
     GenesisPayloadBytes,
@@ -43,13 +43,13 @@ mistakes! {
     AuthorFirst,
     /// the sets at r-1 and r-2 are tested before the author
     CountsFirst,
-    /// the peers of indirect targets are tested behind the structure
+    /// the peers of indirect targets are tested after the structure
     TargetsLate,
     /// at genesis the peers of indirect targets are not tested
     TargetsPastGenesis,
     /// evidence that is empty with the author included is reported of evidence
     EmptyEvidence,
-    /// a lacking previous point is tested behind the author in maps
+    /// a lacking previous point is tested after the author in maps
     PrevPointLate,
     /// the author in witness is tested before evidence
     WitnessBeforeEvidence,
@@ -149,15 +149,15 @@ mistakes! {
     EqualPrevTime,
     /// all of is_proof_ok's reasons are set, the last stays
     AllOfProof,
-    /// where a regular point is required the previous point is held to 4 and 5
+    /// where a regular point is required the previous point is checked against 4 and 5
     ProofWhereRegular,
-    /// a trigger behind any proof is the last one
+    /// a trigger after any proof is the last one
     AnyTriggerIsLast,
     /// an anchor as new as the target is newer
     AsNewIsNewer,
     /// the newest anchor of a dependency is its link's target
     TopIsTarget,
-    /// 11 is tested behind 12
+    /// 11 is tested after 12
     TimeBehindAnchors,
     /// the trigger's 12 is tested before the proof's
     TriggerAnchorFirst,
@@ -175,7 +175,7 @@ mistakes! {
     BoundOfAnyRound,
     /// a trigger's bound is its proof link's target
     BoundIsTarget,
-    /// the anchor time of proofs is held to 8
+    /// the anchor time of proofs is checked against 8
     AnchorTimeOfProofs,
     /// a version of the author goes on to be checked
     VersionsChecked,

@@ -206,7 +206,7 @@ impl Rules<'_> {
         let point = self.point();
         let includes: Vec<Peer> = point.includes.iter().map(|(peer, _)| *peer).collect();
         let witness: Vec<Peer> = point.witness.iter().map(|(peer, _)| *peer).collect();
-        // at genesis the includes are held to the set of r
+        // at genesis the includes are checked against the set of r
         let set_back = u32::from(self.above() > 0);
         let evidence_back = if self.made(Mistake::EvidenceSet) { set_back } else { 0 };
         let includes_back = if self.made(Mistake::IncludesSet) { 0 } else { set_back };
@@ -230,7 +230,7 @@ impl Rules<'_> {
         self.check_unknown(&witness, witness_back, WITNESS)
     }
 
-    /// F of the set so many rounds back; the genesis set has none.
+    /// F of the set n rounds back; the genesis set has none.
     fn f(&self, back: u32) -> usize {
         let count = self.peers(back).len();
         match (self.above() == back, self.made(Mistake::FloorOfPeers)) {

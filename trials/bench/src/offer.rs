@@ -17,7 +17,7 @@ const BOOKS: [(usize, usize); 8] =
     [(4, 100), (4, 1_000), (4, 4_095), (13, 100), (13, 1_000), (13, 4_095), (100, 300), (100, 1_000)];
 
 const ROUNDS: usize = 101;
-/// A round reads about so many bytes in each way.
+/// A round reads about n bytes in each way.
 const BYTES: usize = 2_000_000;
 /// So many of the last entries are offered once, to see that the book is what offers leave.
 const CHECKED: usize = 100;
@@ -108,7 +108,7 @@ impl<'a> Offering<'a> {
         }
     }
 
-    /// The slice has to be the book of so many points.
+    /// The slice has to be the book of n points.
     fn check(&self, points: usize) -> Result<(), String> {
         let same = self.slice == self.dag.book(points, self.entries + 1);
         if same { Ok(()) } else { Err(format!("the slice is not the book of {points} points")) }

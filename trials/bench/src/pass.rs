@@ -1,6 +1,6 @@
 //! A plain pass over bytes, which times are held against.
 
-/// The bytes as words of 64 bits, summed. Eight sums at a time: with fewer the time would hang on where the linker puts the
+/// The bytes as words of 64 bits, summed. Eight sums at a time: with fewer the time would depend on where the linker puts the
 /// loop.
 pub fn sum(bytes: &[u8]) -> u64 {
     let (lines, rest) = bytes.as_chunks::<64>();

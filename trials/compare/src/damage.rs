@@ -119,7 +119,7 @@ fn change_at(random: &mut Random, bytes: &mut [u8], place: usize) {
     bytes[place] = random.pick(&[flipped, flipped, other, 0, 255, old.wrapping_add(1), old.wrapping_sub(1)]);
 }
 
-/// Writes a number at a limit over a field's first bytes, or over the eight behind them.
+/// Writes a number at a limit over a field's first bytes, or over the eight after them.
 fn change_number(random: &mut Random, bytes: &mut [u8]) {
     let fields = fields(bytes);
     if fields.is_empty() {
@@ -205,7 +205,7 @@ fn change_rows(random: &mut Random, bytes: &mut Vec<u8>) {
     replace(bytes, field, &content);
 }
 
-/// A row, or a row and its digest, stands once more in place of what is behind it.
+/// A row, or a row and its digest, stands once more in place of what is after it.
 fn repeat_row(random: &mut Random, bytes: &mut [u8]) {
     let width = random.pick(&[32, 64]);
     let long: Vec<Field> = fields(bytes).into_iter().filter(|field| field.length >= 2 * width).collect();
@@ -231,7 +231,7 @@ fn repeat_field(random: &mut Random, bytes: &mut Vec<u8>) {
     bytes.splice(to.start..end, copy);
 }
 
-/// An entry stands once more, behind any other.
+/// An entry stands once more, after any other.
 fn repeat_entry(random: &mut Random, list: &mut Vec<u8>) {
     let entries = entries(list);
     if entries.is_empty() {

@@ -1,4 +1,4 @@
-//! What a call leaves behind, and what it has to.
+//! What a call leaves, and what it has to.
 
 use book::Offer;
 use oracle::Answer;
@@ -9,7 +9,7 @@ use wutherdish::lent::{self, ANSWER};
 /// What lent bytes hold before a call.
 pub const FILL: u8 = 0xA5;
 
-/// What a call has to leave behind: its number or 0, the answer's bytes, and the peers at the buffer's front.
+/// What a call has to leave: its number or 0, the answer's bytes, and the peers at the buffer's front.
 #[derive(Clone, PartialEq, Eq)]
 pub struct Expected {
     pub number: u8,

@@ -8,7 +8,7 @@ use oracle::{read, write};
 /// Direct entries of the longest list that is permuted.
 const LONGEST: usize = 4;
 
-/// The judge case of this seed at this place with every order of its direct entries, and behind each one every order of
+/// The judge case of this seed at this place with every order of its direct entries, and after each one every order of
 /// its indirect ones; none if the list is unreadable or longer.
 pub fn permuted(seed: u64, place: u64) -> Vec<Case> {
     let case = cases::case(seed, place);

@@ -48,7 +48,7 @@ pub fn file(program: &str, path: &str) -> Result<(), String> {
     Ok(())
 }
 
-/// A feed's points behind its settings and the schedule that knows most; some so often that they outgrow the program's buffer,
+/// A feed's points after its settings and the schedule that knows most; some so often that they outgrow the program's buffer,
 /// some damaged in a byte, some cut off.
 fn input(random: &mut Random, feed: Feed) -> Vec<u8> {
     let mut input = feed.book().settings().to_vec();

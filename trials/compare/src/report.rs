@@ -8,7 +8,7 @@ use oracle::file::Case;
 
 use crate::lent::{Expected, FILL, Lent};
 
-/// The case in hex, what was expected and what the library left behind.
+/// The case in hex, what was expected and what the library left.
 pub fn report(case: &Case, heading: &str, expected: Option<&Expected>, lent: &Lent) -> String {
     let mut lines = inputs(case);
     lines.extend(answers(heading, expected, lent));

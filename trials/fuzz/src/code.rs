@@ -19,7 +19,7 @@ pub struct Code {
 /// Where it shows which way the code goes.
 #[derive(Clone, Copy, PartialEq, Eq, Debug)]
 pub enum Site {
-    /// A function begins here, or code that is only jumped to: it stands behind a jump that is always made.
+    /// A function begins here, or code that is only jumped to: it stands after a jump that is always made.
     Reached,
     /// A conditional jump, with its condition's code.
     Jump { condition: u8, target: u64, next: u64 },

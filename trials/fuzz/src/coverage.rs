@@ -63,9 +63,9 @@ struct Watched {
     idle_in_all: Cell<u32>,
 }
 
-/// A site that showed nothing new in so many traps of a call is let alone until the next.
+/// A site that showed nothing new in n traps of a call is let alone until the next.
 const IDLE: u32 = 2;
-/// In so many of all calls, and it is watched in one call of `SELDOM`.
+/// In n of all calls, and it is watched in one call of `SELDOM`.
 const IDLE_IN_ALL: u32 = 1_000;
 const SELDOM: u64 = 8;
 
@@ -86,7 +86,7 @@ impl Watched {
         }
     }
 
-    /// One in so many calls watches it.
+    /// One in n calls watches it.
     fn seldom(&self) -> u64 {
         if self.idle_in_all.get() < IDLE_IN_ALL { 1 } else { SELDOM }
     }

@@ -145,7 +145,7 @@ impl Fuzzer {
     }
 }
 
-/// What the call left behind against what it had to.
+/// What the call left against what it had to.
 pub fn compare(desk: &Desk, model: &Model, call: &Call, number: u8, layout: u64) -> Result<(), String> {
     let expected = model.expected(call, (layout >> 7) as u8)?;
     let name = Call::NAMES[call.kind()];

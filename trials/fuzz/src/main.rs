@@ -18,7 +18,7 @@ use hard_use::model::Model;
 use hard_use::watch;
 
 const USAGE: &str = "fuzz COMMAND
-  led SEED RUNS SEEDS FOLDER [FILE]   so many changed calls, made of SEEDS generated cases and the cases of a file; what
+  led SEED RUNS SEEDS FOLDER [FILE]   RUNS changed calls, made of SEEDS generated cases and the cases of a file; what
                                       leads somewhere new is kept, changed further, and saved in the folder at the end,
                                       with a list of the ways that were not gone
   blind SEED RUNS SEEDS FOLDER [FILE] the same, but only the seeds are changed

@@ -87,7 +87,7 @@ fn change_numbers(random: &mut Random, call: &mut Call) {
     }
 }
 
-/// The same bytes to another of the calls. An offer's book is then the case's settings, with some zeros behind.
+/// The same bytes to another of the calls. An offer's book is then the case's settings, with some zeros after.
 fn another_kind(random: &mut Random, call: Call) -> Call {
     match call {
         Call::Case(case @ Case::Verify { .. }) => Call::Case(as_judge(case)),

@@ -15,7 +15,7 @@ const LONGEST_BOOK: usize = 20_000;
 const BEGIN: u8 = 4;
 const OFFER: u8 = 5;
 
-/// Undamaged calls of a seed: so many cases, and as many offers to books.
+/// Undamaged calls of a seed: n cases, and as many offers to books.
 pub fn generated(seed: u64, count: u64) -> Vec<Call> {
     let whole = |place| calls(Source::Generated, seed, place);
     let mut all: Vec<Call> = (0..count).flat_map(whole).collect();

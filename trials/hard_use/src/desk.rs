@@ -1,4 +1,4 @@
-//! Calls the library on lent bytes, and compares what it left behind with what it had to.
+//! Calls the library on lent bytes, and compares what it left with what it had to.
 
 use std::io;
 use std::time::Duration;
@@ -98,7 +98,7 @@ impl Desk {
     }
 }
 
-/// Whether a buffer holds these bytes, and behind them what it was filled with.
+/// Whether a buffer holds these bytes, and after them what it was filled with.
 fn same(name: &str, buffer: &Buffer, expected: &[u8]) -> Result<(), String> {
     let found = buffer.bytes();
     let Some((front, rest)) = found.split_at_checked(expected.len()) else {

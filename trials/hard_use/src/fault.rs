@@ -10,7 +10,7 @@ const LONG: Duration = Duration::from_secs(60);
 
 #[derive(Clone, Copy, PartialEq, Eq, Debug)]
 pub enum Fault {
-    /// The byte in front of what is lent, or the one behind it, is read.
+    /// The byte in front of what is lent, or the one after it, is read.
     ReadBefore(Lent),
     ReadPast(Lent),
     /// One of them is changed.

@@ -35,7 +35,7 @@ fn blobs(kind: u8, blobs: &[&[u8]]) -> Vec<u8> {
     out
 }
 
-/// A call of a file; answers behind it are passed over. None of another kind, or if it isn't laid out so.
+/// A call of a file; answers after it are passed over. None of another kind, or if it isn't laid out so.
 pub fn read((kind, blobs): &Blobs<'_>) -> Option<Call> {
     Some(match (*kind, &blobs[..]) {
         (VERIFY, [settings, schedule, record, peer_buffer, ..]) => Call::Case(Case::Verify {

@@ -6,7 +6,7 @@ use oracle::file::Case;
 
 use crate::call::Call;
 
-/// Shifts every peer and digest of a call behind the same bytes, as many for all: what was equal stays equal, and what
+/// Shifts every peer and digest of a call after the same bytes, as many for all: what was equal stays equal, and what
 /// was in order stays in order unless too little of it is left.
 pub fn share_fronts(random: &mut Random, call: &mut Call) {
     let length = random.pick(&[1, 4, 7, 8, 8, 9, 15, 16, 16, 17, 23, 24, 24, 25, 28, 30]);

@@ -11,9 +11,9 @@ use hard_use::watch;
 use hard_use::worker::{Plan, Worker};
 
 const USAGE: &str = "hard_use COMMAND
-  run SEED PLACES [THREADS]   the calls of so many places, each on bytes between guard pages, against the model
+  run SEED PLACES [THREADS]   the calls of PLACES places, each on bytes between guard pages, against the model
   place SEED PLACE            the calls of one place
-  self-test [EVERY]           makes faults beside the calls, and mistakes in the model, all or one in so many; each has to
+  self-test [EVERY]           makes faults beside the calls, and mistakes in the model, all or one in EVERY; each has to
                               be noticed
 THREADS is 1 or 2, by default 2";
 

@@ -77,7 +77,7 @@ impl Buffer {
         self.own_bytes(self.start, self.length).copy_from_slice(bytes);
     }
 
-    /// Lends so many bytes that all hold `fill`, likewise.
+    /// Lends n bytes that all hold `fill`, likewise.
     pub fn lend_filled(&mut self, length: usize, side: Side, fill: u8) {
         self.settle(length, side, fill);
         self.own_bytes(self.start, self.length).fill(fill);

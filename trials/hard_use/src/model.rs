@@ -1,4 +1,4 @@
-//! What the library has to leave behind: the oracle's answer, and the plain book's.
+//! What the library has to leave: the oracle's answer, and the plain book's.
 
 use book::{Book, Offer};
 use oracle::Answer;
@@ -15,7 +15,7 @@ pub struct Model {
     pub book_mistake: Option<book::Mistake>,
 }
 
-/// What a call has to leave behind.
+/// What a call has to leave.
 pub struct Expected {
     pub number: u8,
     /// None if it keeps its bytes.

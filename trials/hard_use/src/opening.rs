@@ -5,7 +5,7 @@ use cases::random::Random;
 
 use crate::call::Call;
 
-/// One in so many slices is around the greatest length, of 16 MiB.
+/// One in n slices is around the greatest length, of 16 MiB.
 const LONG: usize = 1_000;
 
 pub fn opening(random: &mut Random, seed: u64, place: u64) -> Call {

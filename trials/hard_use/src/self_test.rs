@@ -18,7 +18,7 @@ const MISTAKE_FEEDS: u64 = 128;
 /// Short, so that the call that sleeps is noticed soon.
 const BOUND: Duration = Duration::from_millis(500);
 
-/// All faults, and of the mistakes one in so many.
+/// All faults, and of the mistakes one in n.
 pub fn run(every: usize) -> Result<(), String> {
     faults()?;
     let mut worker = Worker::default();

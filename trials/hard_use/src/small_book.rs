@@ -1,4 +1,4 @@
-//! Offers to small books that no feed left behind: of a case's settings and points, in any state, then damaged or not.
+//! Offers to small books that no feed left: of a case's settings and points, in any state, then damaged or not.
 
 use book::{Entry, Offer, Root, State};
 use cases::random::Random;
@@ -44,7 +44,7 @@ fn book(random: &mut Random, settings: &[u8], list: &[u8], record: usize) -> Vec
     bytes
 }
 
-/// The records in a list: from a tag 1 to the end of the tag 9 behind it.
+/// The records in a list: from a tag 1 to the end of the tag 9 after it.
 fn records(list: &[u8]) -> Vec<Vec<u8>> {
     let (mut records, mut rest) = (Vec::new(), list);
     while let Some(head) = rest.first_chunk::<3>() {

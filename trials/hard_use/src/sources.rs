@@ -69,7 +69,7 @@ impl Source {
     }
 }
 
-/// The calls of a place whose calls don't hang on one another.
+/// The calls of a place whose calls don't depend on one another.
 pub fn calls(source: Source, seed: u64, place: u64) -> Vec<Call> {
     let mut random = Random::new(!seed.rotate_left(16), place);
     let cases = match source {

@@ -1,6 +1,7 @@
 -- `of_verdict` meets its contract: each arm gives the answer of its case.
 use mathlib.Core.Path.{ap, _∙_}
-use Rattle.answer.specs.Answer.{named, plain, valuesOf}
+use Rattle.rules.specs.Answer.{named, plain}
+use Rattle.answer.specs.Code.{valuesOf}
 use borrow.Author.Needs.{needs}
 use Rattle.answer.proofs.of_verdict.Statement.{statement}
 use Rattle.answer.proofs.of_verdict.Tie as tie

@@ -1,6 +1,6 @@
 -- `of_verified` meets its contract: each arm gives the answer of its case.
 use mathlib.Core.Path.{ap, _∙_}
-use Rattle.answer.specs.Answer.{plain}
+use Rattle.rules.specs.Answer.{plain}
 use borrow.Author.Needs.{needs}
 use Rattle.answer.proofs.of_verified.Statement.{statement}
 use Rattle.answer.proofs.of_verified.Tie as tie

@@ -1,8 +1,9 @@
--- `put_answer` meets its contract: its three parts stand one behind the other.
+-- `put_answer` meets its contract: its three parts stand one after the other.
 use mathlib.Core.Path.{refl}
 use denote.Ref.{now}
-use Rattle.answer.specs.Answer.{answerOf, headBytes, numberBytes, rootBytes, answerBytes}
-use Rattle.answer.proofs.Laws.{put-three}
+use Rattle.answer.specs.Code.{answerOf}
+use Rattle.rules.specs.Answer.{headBytes, numberBytes, rootBytes, answerBytes}
+use Rattle.write.proofs.Laws.{put-three}
 use borrow.Author.Needs.{needs}
 use Rattle.answer.proofs.put_answer.Statement.{statement}
 use Rattle.answer.proofs.put_answer.Tie as tie

@@ -1,13 +1,13 @@
--- `put_head` meets its contract: two stores, a number and two ids, one behind the other.
+-- `put_head` meets its contract: two stores, a number and two ids, one after the other.
 use native.Mathlib.Omega.{arith}
 use mathlib.Core.Path.{_≡_, refl, _∙_}
 use mathlib.Core.List.{[], _∷_, _++_}
 use lib.ListN.{length, length-set}
 use denote.Ref.{now}
 use Rattle.parts.specs.Bytes.{littleBytes, bigBytes}
-use Rattle.write.proofs.Laws.{put-is, put-put}
-use Rattle.answer.specs.Answer.{answerOf, headBytes}
-use Rattle.answer.proofs.Laws.{put-three}
+use Rattle.write.proofs.Laws.{put-is, put-put, put-three}
+use Rattle.answer.specs.Code.{answerOf}
+use Rattle.rules.specs.Answer.{headBytes}
 use borrow.Author.Needs.{needs}
 use Rattle.answer.proofs.put_head.Statement.{statement}
 use Rattle.answer.proofs.put_head.Tie as tie

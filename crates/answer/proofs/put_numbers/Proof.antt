@@ -1,13 +1,12 @@
--- `put_numbers` meets its contract: two stores and two numbers, one behind the other.
+-- `put_numbers` meets its contract: two stores and two numbers, one after the other.
 use native.Mathlib.Omega.{arith}
 use mathlib.Core.Path.{_≡_, refl, _∙_}
 use mathlib.Core.List.{[], _∷_}
 use lib.ListN.{length, length-set}
 use denote.Ref.{now}
 use Rattle.parts.specs.Bytes.{littleBytes}
-use Rattle.write.proofs.Laws.{put-is}
-use Rattle.answer.specs.Answer.{numberBytes}
-use Rattle.answer.proofs.Laws.{put-three}
+use Rattle.write.proofs.Laws.{put-is, put-three}
+use Rattle.rules.specs.Answer.{numberBytes}
 use borrow.Author.Needs.{needs}
 use Rattle.answer.proofs.put_numbers.Statement.{statement}
 use Rattle.answer.proofs.put_numbers.Tie as tie

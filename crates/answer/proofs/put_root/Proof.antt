@@ -1,4 +1,4 @@
--- `put_root` meets its contract: a store, an id and a store, one behind the other.
+-- `put_root` meets its contract: a store, an id and a store, one after the other.
 use Prim.Native.Nat.{_<_}
 use native.Mathlib.Omega.{arith}
 use mathlib.Core.Path.{_≡_, refl, _∙_}
@@ -6,9 +6,10 @@ use mathlib.Core.List.{[], _∷_}
 use lib.ListN.{length, length-set}
 use denote.Ref.{now}
 use Rattle.parts.specs.Bytes.{bigBytes}
-use Rattle.parts.specs.Parts.{number}
-use Rattle.answer.specs.Answer.{rootBytes}
-use Rattle.answer.proofs.Laws.{set-put, put-three}
+use Rattle.parts.specs.Code.{number}
+use Rattle.rules.specs.Answer.{rootBytes}
+use Rattle.answer.proofs.Laws.{set-put}
+use Rattle.write.proofs.Laws.{put-three}
 use borrow.Author.Needs.{needs}
 use Rattle.answer.proofs.put_root.Statement.{statement}
 use Rattle.answer.proofs.put_root.Tie as tie

@@ -3,8 +3,9 @@ use native.Mathlib.Omega.{arith}
 use mathlib.Core.Path.{_≡_, ap, sym, _∙_}
 use mathlib.Core.Option.{some}
 use denote.Ref.{now}
-use Rattle.schedule.specs.Settings.{Settings, readSettings, settingsOf, readSettingsOf}
-use Rattle.plain_book.proofs.RoundTrip.{settings-length}
+use Rattle.schedule.specs.Settings.{Settings, readSettings}
+use Rattle.schedule.specs.Code.{settingsOf, readSettingsOf}
+use Rattle.books.proofs.RoundTrip.{settings-length}
 use Rattle.book.proofs.OpenLaws.{no-settings, too-short, too-long, is-open}
 use borrow.Author.Needs.{needs}
 use Rattle.book.proofs.open.Statement.{statement}

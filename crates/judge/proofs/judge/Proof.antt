@@ -7,12 +7,14 @@ use lib.ListN.{length}
 use denote.Ref.{now}
 use borrow.Author.Tests.{not-true, not-false}
 use Rattle.point.specs.Point.{PointInfo, inDomain}
-use Rattle.point.specs.Reading.{readPoint, pointOf, readPointOf}
-use Rattle.schedule.specs.Settings.{Settings, readSettings, settingsOf, readSettingsOf}
-use Rattle.schedule.specs.Schedule.{Schedule, readSchedule, scheduleOf}
-use Rattle.verify.specs.Call.{Input, Tested, taken, tested}
+use Rattle.point.specs.Reading.{readPoint}
+use Rattle.point.specs.Code.{pointOf, readPointOf}
+use Rattle.schedule.specs.Settings.{Settings, readSettings}
+use Rattle.schedule.specs.Code.{settingsOf, readSettingsOf, scheduleOf}
+use Rattle.schedule.specs.Schedule.{Schedule, readSchedule}
+use Rattle.rules.specs.Judge.{Input, Tested, admitted, tested, flagsOk}
 use Rattle.verify.proofs.Laws.{schedule-read, schedule-unread, no-settings, no-schedule, no-point, no-domain, no-room, all-taken}
-use Rattle.judge.specs.Judge.{beforeOf, flagsOk}
+use Rattle.judge.specs.Code.{beforeOf}
 use Rattle.judge.proofs.Laws.{answer-number, answer-taken}
 use borrow.Author.Needs.{needs}
 use Rattle.judge.proofs.judge.Statement.{statement}
@@ -69,7 +71,7 @@ input c = record { settings = settings (first (second c)); schedule = schedule (
 abbrev passed : tie.After-slice-known2 → tie.Else2
 passed c = c .before .before .before .before .before
 
-has-input : (c : tie.After-slice-known2) → all (start (first (second (passed c .before .before)))) ≡ taken (input (passed c .before .before))
+has-input : (c : tie.After-slice-known2) → all (start (first (second (passed c .before .before)))) ≡ admitted (input (passed c .before .before))
 has-input c =
     let d = passed c in
     let p = d .before .before in

@@ -5,11 +5,11 @@ use mathlib.Core.Option.{Option, none, some}
 use mathlib.Core.List.{List}
 use denote.Ref.{now}
 use Rattle.point.specs.Point.{PointInfo}
-use Rattle.point.specs.Reading.{pointOf}
-use Rattle.schedule.specs.Settings.{settingsOf}
-use Rattle.entries.specs.Entries.{Listed, readList}
-use Rattle.reasons.specs.Verdict.{verdictOf}
-use Rattle.judge_list.specs.JudgedList.{Judged, judgedListOf}
+use Rattle.point.specs.Code.{pointOf}
+use Rattle.schedule.specs.Code.{settingsOf}
+use Rattle.rules.specs.List.{Listed, readList}
+use Rattle.reasons.specs.Code.{verdictOf}
+use Rattle.judge_list.specs.Code.{ListJudged, judgedListOf}
 use Rattle.judge.proofs.Laws.{Over, Mismatch, answer-unread, was-read, answer-mismatch, answer-uncovered, answer-witness, answer-verdict}
 use borrow.Author.Needs.{needs}
 use Rattle.judge.proofs.judge_over_list.Statement.{statement}
@@ -24,7 +24,7 @@ list c = readList (now (c .args .list))
 abbrev start : tie.After-known-told → tie.Start
 start c = c .before .before .before .before .before .before
 
-abbrev judged : tie.After-known-told → Judged
+abbrev judged : tie.After-known-told → ListJudged
 judged c = record { verdict = verdictOf (c .before .verdict .given .0 .0); uncovered = c .before .verdict .given .0 .1 .0 }
 
 was-judged : (c : tie.After-known-told) →

@@ -2,13 +2,13 @@
 use Prim.Native.Nat.{ℕ, _-_}
 use mathlib.Core.Option.{Option}
 use Rattle.point.specs.Point.{PointId, prevIdWith}
-use Rattle.point.specs.Reading.{pointIdOf}
+use Rattle.point.specs.Code.{pointIdOf}
 use mathlib.Core.Path.{_≡_, ap, sym, _∙_}
 use mathlib.Core.Bool.{true}
 use lib.Dec.{eqb}
 use borrow.Author.Tests.{eq-eqb, ne-eqb, not-true, not-false}
-use Rattle.map.specs.Rows.{foundOf}
-use Rattle.mismatch.specs.Mismatch.{isId}
+use Rattle.map.specs.Code.{foundOf}
+use Rattle.rules.specs.Mismatch.{isId}
 use Rattle.judge_list.proofs.Laws.{prev-other-round, prev-other-author, prev-digest}
 use borrow.Author.Needs.{needs}
 use Rattle.judge_list.proofs.is_prev.Statement.{statement}

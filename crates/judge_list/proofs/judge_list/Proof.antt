@@ -1,11 +1,11 @@
 -- `judge_list` meets its contract: what the walk came to, by the laws of the walk.
 use mathlib.Core.Path.{refl, ap, sym, _∙_}
 use denote.Ref.{now}
-use Rattle.point.specs.Reading.{pointOf}
-use Rattle.schedule.specs.Settings.{settingsOf}
-use Rattle.reasons.specs.Verdict.{verdictOf}
-use Rattle.entries.specs.Entries.{readList}
-use Rattle.judge_list.specs.Walk.{walkOf, walkedListOf}
+use Rattle.point.specs.Code.{pointOf}
+use Rattle.schedule.specs.Code.{settingsOf}
+use Rattle.reasons.specs.Code.{verdictOf}
+use Rattle.rules.specs.List.{readList}
+use Rattle.judge_list.specs.Code.{walkOf, walkedListOf}
 use Rattle.judge_list.proofs.WalkLaws.{judged-unread, judged-walked}
 use borrow.Author.Needs.{needs}
 use Rattle.judge_list.proofs.judge_list.Statement.{statement}

@@ -2,10 +2,10 @@
 use mathlib.Core.Path.{ap, sym, _∙_}
 use denote.Ref.{now}
 use Rattle.point.specs.Point.{through}
-use Rattle.schedule.specs.Settings.{settingsOf}
-use Rattle.entries.specs.Entries.{aimOf, entryOf}
-use Rattle.validate.specs.Validated.{judgingOf}
-use Rattle.judge_list.specs.Walk.{stepAs, viewedOf}
+use Rattle.schedule.specs.Code.{settingsOf}
+use Rattle.judge_entries.specs.Code.{aimOf, entryOf}
+use Rattle.judge_step.specs.Code.{judgingOf}
+use Rattle.judge_list.specs.Code.{stepAs, viewedOf}
 use Rattle.judge_list.proofs.Laws.{targeted}
 use borrow.Author.Needs.{needs}
 use Rattle.judge_list.proofs.judge_listed.Statement.{statement}

@@ -6,9 +6,10 @@ use mathlib.Core.Option.{some}
 use denote.Ref.{now}
 use borrow.Author.Needs.{needs}
 use borrow.Author.Tests.{not-true, not-false}
-use Rattle.schedule.specs.Settings.{settingsOf}
-use Rattle.entries.specs.Entries.{readEntry, listedOf, readListedOf, Placed}
-use Rattle.judge_list.specs.Walk.{viewedOf, walkOf}
+use Rattle.schedule.specs.Code.{settingsOf}
+use Rattle.rules.specs.List.{readEntry}
+use Rattle.judge_entries.specs.Code.{listedOf, readListedOf, EntryPlaced}
+use Rattle.judge_list.specs.Code.{viewedOf, walkOf}
 use Rattle.judge_list.proofs.Laws.{next-unread, next-disordered, next-ordered, placed-listed}
 use Rattle.judge_list.proofs.judge_next.Statement.{statement}
 use Rattle.judge_list.proofs.judge_next.Tie as tie
@@ -29,7 +30,7 @@ entry c =
 
 placed : (c : tie.After-x) →
     let x = c .x .given .0 .0 in
-    (0 < x .size) × Placed (slice (c .before .before)) (x .state) (x .place) (x .size)
+    (0 < x .size) × EntryPlaced (slice (c .before .before)) (x .state) (x .place) (x .size)
 placed c =
     let r = c .before .before in
     placed-listed (slice r) (c .x .given .0 .0) (r .read-entry .result) (c .x .given .1) (r .read-entry .ensures .1)

@@ -1,9 +1,9 @@
 -- `step` meets its contract by what its three calls told.
 use mathlib.Core.Path.{ap, sym, _∙_}
-use Rattle.schedule.specs.Settings.{settingsOf}
-use Rattle.entries.specs.Entries.{aimOf, entryOf, partOf, listedOf}
-use Rattle.validate.specs.Validated.{judgingOf}
-use Rattle.judge_list.specs.Walk.{stepAs, viewedOf, walkOf}
+use Rattle.schedule.specs.Code.{settingsOf}
+use Rattle.judge_entries.specs.Code.{aimOf, entryOf, partOf, listedOf}
+use Rattle.judge_step.specs.Code.{judgingOf}
+use Rattle.judge_list.specs.Code.{stepAs, viewedOf, walkOf}
 use Rattle.judge_list.proofs.Laws.{walked}
 use borrow.Author.Needs.{needs}
 use Rattle.judge_list.proofs.step.Statement.{statement}

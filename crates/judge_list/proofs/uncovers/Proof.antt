@@ -1,11 +1,11 @@
 -- `uncovers` meets its contract: each `return` rewrites with the tests that led there.
 use mathlib.Core.Path.{ap, sym, _∙_}
 use mathlib.Core.Bool.{not, and-false}
-use Rattle.verifier.specs.DagPoint.{isDropped}
-use Rattle.entries.specs.Entries.{dagPointOf}
-use Rattle.check_valid.specs.Views.{pointViewOf}
-use Rattle.mismatch.specs.Mismatch.{isId, uncovers}
-use Rattle.judge_list.specs.Walk.{prevIn}
+use Rattle.rules.specs.DagPoint.{isDropped}
+use Rattle.judge_entries.specs.Code.{dagPointOf}
+use Rattle.judge_valid.specs.Code.{pointViewOf}
+use Rattle.rules.specs.Mismatch.{isId, uncovers}
+use Rattle.judge_list.specs.Code.{prevIn}
 use borrow.Author.Needs.{needs}
 use Rattle.judge_list.proofs.uncovers.Statement.{statement}
 use Rattle.judge_list.proofs.uncovers.Tie as tie

@@ -8,10 +8,11 @@ use lib.Seq.{drop-drop}
 use denote.Ref.{now}
 use Rattle.base.proofs.Lists.{rest}
 use borrow.Author.Needs.{needs}
-use Rattle.point.specs.Reading.{pointOf}
-use Rattle.schedule.specs.Settings.{Settings, settingsOf}
-use Rattle.entries.specs.Entries.{readEntry, listFrom, readList}
-use Rattle.judge_list.specs.Walk.{Viewed, viewed, Next, nextWith, walkWith, walkStart, viewedOf, walkOf, nextOf}
+use Rattle.point.specs.Code.{pointOf}
+use Rattle.schedule.specs.Settings.{Settings}
+use Rattle.schedule.specs.Code.{settingsOf}
+use Rattle.rules.specs.List.{readEntry, listFrom, readList}
+use Rattle.judge_list.specs.Code.{Viewed, viewed, Next, nextWith, walkWith, walkStart, viewedOf, walkOf, nextOf}
 use Rattle.judge_list.proofs.Laws.{turn-unread, turn-read, too-many, walk-end, viewed-by, next-within}
 use Rattle.judge_list.proofs.walk_list.Statement.{statement}
 use Rattle.judge_list.proofs.walk_list.Tie as tie

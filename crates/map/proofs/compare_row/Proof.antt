@@ -4,7 +4,8 @@ use native.Mathlib.Omega.{arith}
 use mathlib.Core.Path.{ap, sym, _∙_}
 use lib.ListN.{length}
 use denote.Ref.{now}
-use Rattle.parts.specs.Parts.{number, order}
+use Rattle.parts.specs.Code.{number}
+use Rattle.parts.specs.Parts.{order}
 use Rattle.map.specs.Rows.{peerAt}
 use Rattle.map.proofs.Laws.{peersOf-at, peersOf-room}
 use Rattle.map.proofs.compare_row.Statement.{statement}

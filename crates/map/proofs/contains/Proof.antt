@@ -2,7 +2,8 @@
 use mathlib.Core.Path.{ap, sym, _∙_}
 use borrow.Author.Needs.{needs}
 use Rattle.base.specs.Base.{isSome}
-use Rattle.map.specs.Rows.{has, positionOf}
+use Rattle.map.specs.Rows.{has}
+use Rattle.map.specs.Code.{positionOf}
 use Rattle.map.proofs.contains.Statement.{statement}
 use Rattle.map.proofs.contains.Tie as tie
 

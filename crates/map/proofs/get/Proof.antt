@@ -4,8 +4,9 @@ use mathlib.Core.Path.{_≡_, ap, sym, _∙_}
 use mathlib.Core.Option.{some}
 use denote.Ref.{now}
 use borrow.Author.Needs.{needs}
-use Rattle.parts.specs.Parts.{number}
-use Rattle.map.specs.Rows.{pairsOf, peers, find, positionOf}
+use Rattle.parts.specs.Code.{number}
+use Rattle.map.specs.Rows.{pairsOf, peers, find}
+use Rattle.map.specs.Code.{positionOf}
 use Rattle.map.proofs.Laws.{peers-pairsOf, peers-length, find-some, get-some, get-none}
 use Rattle.map.proofs.get.Statement.{statement}
 use Rattle.map.proofs.get.Tie as tie

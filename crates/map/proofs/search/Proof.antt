@@ -4,7 +4,8 @@ use native.Mathlib.Omega.{arith}
 use mathlib.Core.Path.{_≡_, sym, _∙_}
 use lib.ListN.{getD}
 use denote.Ref.{now}
-use Rattle.parts.specs.Parts.{number, order}
+use Rattle.parts.specs.Code.{number}
+use Rattle.parts.specs.Parts.{order}
 use Rattle.parts.proofs.Laws.{order-less, order-same, order-more}
 use Rattle.map.specs.Rows.{peersOf}
 use Rattle.map.proofs.Laws.{peersOf-fits, find-rising, Bracket, bracket-start, bracket-up, bracket-down, bracket-none}

@@ -2,7 +2,8 @@
 use native.Mathlib.Omega.{arith}
 use mathlib.Core.Path.{_≡_, sym, _∙_}
 use borrow.Author.Needs.{needs}
-use Rattle.parts.specs.Parts.{number, order, orderThen}
+use Rattle.parts.specs.Code.{number}
+use Rattle.parts.specs.Parts.{order, orderThen}
 use Rattle.parts.specs.declared.Order.the-variants.{Same}
 use Rattle.parts.proofs.Laws.{Words, number-order, then-any, then-same}
 use Rattle.parts.proofs.compare.Statement.{statement}

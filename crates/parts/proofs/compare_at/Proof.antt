@@ -5,7 +5,8 @@ use mathlib.Core.Path.{_≡_, sym, _∙_}
 use denote.Ref.{now}
 use borrow.Author.Needs.{needs}
 use Rattle.parts.specs.Bytes.{idAt, Bytes}
-use Rattle.parts.specs.Parts.{order, orderThen, orderOfRest}
+use Rattle.parts.specs.Parts.{order, orderThen}
+use Rattle.parts.specs.Code.{orderOfRest}
 use Rattle.parts.specs.declared.Order.{Order}
 use Rattle.parts.proofs.Laws.{places-order, then-less, then-more, then-same}
 use Rattle.parts.proofs.compare_at.Statement.{statement}

@@ -1,7 +1,7 @@
 -- `parts::compare_rest` meets its contract: the first words that differ decide, or else the last.
 use mathlib.Core.Path.{sym, _∙_}
 use borrow.Author.Needs.{needs}
-use Rattle.parts.specs.Parts.{orderOfRest}
+use Rattle.parts.specs.Code.{orderOfRest}
 use Rattle.parts.proofs.Laws.{then-any, then-same}
 use Rattle.parts.proofs.compare_rest.Statement.{statement}
 use Rattle.parts.proofs.compare_rest.Tie as tie

@@ -5,7 +5,8 @@ use mathlib.Core.Path.{_≡_, ap, sym, _∙_}
 use denote.Ref.{now}
 use borrow.Author.Needs.{needs}
 use Rattle.parts.specs.Bytes.{bigAt, idAt, Bytes}
-use Rattle.parts.specs.Parts.{number, order, orderThen}
+use Rattle.parts.specs.Code.{number}
+use Rattle.parts.specs.Parts.{order, orderThen}
 use Rattle.parts.specs.declared.Order.the-variants.{Same}
 use Rattle.parts.proofs.Laws.{Words, place-order, then-less, then-more}
 use Rattle.parts.proofs.compare_to.Statement.{statement}

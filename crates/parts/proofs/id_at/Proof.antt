@@ -1,6 +1,6 @@
 use mathlib.Core.Path.{sym}
 use denote.Ref.{now}
-use Rattle.parts.specs.Parts.{number}
+use Rattle.parts.specs.Code.{number}
 use Rattle.parts.proofs.Laws.{big-words}
 use borrow.Author.Needs.{needs}
 use Rattle.parts.proofs.id_at.Statement.{statement}

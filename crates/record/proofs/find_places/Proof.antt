@@ -1,4 +1,4 @@
--- `record::find_places` meets its contract: each field starts behind the one before.
+-- `record::find_places` meets its contract: each field starts after the one before.
 use native.Mathlib.Omega.{arith}
 use mathlib.Core.Path.{_≡_, refl, ap, _∙_}
 use denote.Ref.{now}

@@ -1,7 +1,8 @@
 -- `record::is_well_shaped` meets its contract.
 use mathlib.Core.Path.{ap, sym, _∙_}
 use borrow.Author.Needs.{needs}
-use Rattle.record.specs.Record.{endOf, wellShaped}
+use Rattle.record.specs.Code.{endOf}
+use Rattle.record.specs.Record.{wellShaped}
 use Rattle.record.proofs.is_well_shaped.Statement.{statement}
 use Rattle.record.proofs.is_well_shaped.Tie as tie
 

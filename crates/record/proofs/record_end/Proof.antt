@@ -20,7 +20,7 @@ Inv-loop s code k₀ at₀ k at = (k ≤ 9) × (at ≤ length s) × (recordEnd s
 abbrev μ-loop : tie.MeasureT-loop
 μ-loop s code k₀ at₀ k at = 9 - k
 
--- one turn: the field of row k, and behind it those of the rows from k + 1 on
+-- one turn: the field of row k, and after it those of the rows from k + 1 on
 turn : (c : tie.After-field-ok Inv-loop μ-loop) →
     let l = c .before .before .before in
     let s = now (l .before .before .args .s) in

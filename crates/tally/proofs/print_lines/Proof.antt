@@ -3,7 +3,7 @@ use Prim.Native.Nat.{_-_, _≤_}
 use native.Mathlib.Omega.{arith}
 use mathlib.Core.Path.{subst}
 use lib.ListN.{take, length-take}
-use Rattle.feed.specs.Tally.{Begins}
+use Rattle.tally_feed.specs.Code.{Begins}
 use borrow.Author.Needs.{needs}
 use Rattle.tally.proofs.print_lines.Statement.{statement}
 use Rattle.tally.proofs.print_lines.Tie as tie

@@ -3,7 +3,7 @@ use Prim.Native.Nat.{_-_, _≤_}
 use native.Mathlib.Omega.{arith}
 use mathlib.Core.Path.{_≡_, subst}
 use lib.ListN.{length, take, drop, length-take}
-use Rattle.feed.specs.Tally.{Within}
+use Rattle.tally_feed.specs.Code.{Within}
 use Rattle.tally.specs.Window.{Lies}
 use borrow.Author.Needs.{needs}
 use Rattle.tally.proofs.print_points.Statement.{statement}

@@ -7,13 +7,14 @@ use denote.Ref.{now}
 use Rattle.map.specs.Rows.{peersOf, pairsOf}
 use Rattle.record.specs.Record.{wellShaped}
 use Rattle.point.specs.Point.{PointInfo}
-use Rattle.point.specs.Reading.{pointOf}
+use Rattle.point.specs.Code.{pointOf}
 use Rattle.point.proofs.Laws.{readable}
-use Rattle.schedule.specs.Settings.{Settings, settingsOf}
-use Rattle.schedule.specs.Schedule.{Schedule, scheduleOf}
-use Rattle.verifier.specs.Verify.{Scheduled, scheduled, newRows, wellFormedRows, peerRows, faults, verify}
-use Rattle.verifier.specs.Found.{verifiedOf}
-use Rattle.check_peers.proofs.Laws.{Told, told-first, told-second, told-third}
+use Rattle.schedule.specs.Settings.{Settings}
+use Rattle.schedule.specs.Code.{settingsOf, scheduleOf}
+use Rattle.schedule.specs.Schedule.{Schedule}
+use Rattle.rules.specs.Verify.{Scheduled, scheduled, newRows, wellFormedRows, peerRows, faults, verify}
+use Rattle.reasons.specs.Code.{verifiedOf}
+use Rattle.verify_peers.proofs.Laws.{Told, told-first, told-second, told-third}
 use Rattle.verify.proofs.Laws.{told-new, told-well-formed}
 use borrow.Author.Needs.{needs}
 use Rattle.verify.proofs.verify_point.Statement.{statement}

@@ -1,7 +1,7 @@
--- `write::put_id` meets its contract: four words, one behind the other.
+-- `write::put_id` meets its contract: four words, one after the other.
 use native.Mathlib.Omega.{arith}
 use denote.Ref.{now}
-use Rattle.parts.specs.Parts.{number}
+use Rattle.parts.specs.Code.{number}
 use Rattle.parts.proofs.Laws.{Words}
 use Rattle.write.proofs.Laws.{put-words}
 use borrow.Author.Needs.{needs}

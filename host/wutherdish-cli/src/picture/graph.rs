@@ -46,7 +46,7 @@ pub struct Edge {
 
 /// All points and ways.
 pub struct Graph<'a> {
-    /// The points by round and author; versions in the book's order, those that are not kept behind them.
+    /// The points by round and author; versions in the book's order, those that are not kept after them.
     pub nodes: Vec<Node<'a>>,
     /// The ways.
     pub edges: BTreeSet<Edge>,

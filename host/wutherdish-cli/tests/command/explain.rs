@@ -114,7 +114,7 @@ fn what_stands_before_a_bad_record_is_explained() {
     let (_, behind) = Point::read(&behind[1..]).expect("the second point can be read");
     let third = feed.len() - behind.len();
     assert!(front.len() < second && second < third);
-    // the tag of the third point's payload, behind leader byte and id
+    // the tag of the third point's payload, after leader byte and id
     let place = third + 1 + 71;
     assert_eq!(feed[place], 2);
     feed[place] = 3;

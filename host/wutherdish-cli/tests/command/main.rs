@@ -5,6 +5,7 @@ mod explain;
 mod files;
 mod names;
 mod network;
+mod record;
 mod room;
 mod run;
 mod show;

@@ -1,14 +1,14 @@
 //! Runs the command.
 
 use std::io::Write;
-use std::path::PathBuf;
+use std::path::{Path, PathBuf};
 use std::process::{Command, Stdio};
 
 use wutherdish::{Schedule, Settings};
 use wutherdish_drills::{Answer, Drill, Input};
 
-/// The folder of the repository.
-const ROOT: &str = concat!(env!("CARGO_MANIFEST_DIR"), "/../../");
+/// The repository's root, from the crate's folder, where cargo runs its tests.
+const ROOT: &str = "../../";
 
 /// What a run left.
 #[derive(Debug)]
@@ -18,8 +18,13 @@ pub struct Ran {
     pub err: String,
 }
 
+/// The command's file. Cargo says where it is when it runs a test, so a tree that was built and then moved is tested itself.
+fn program() -> PathBuf {
+    std::env::var_os("CARGO_BIN_EXE_wutherdish").expect("cargo runs the test").into()
+}
+
 pub fn command(arguments: &[&str]) -> Command {
-    let mut command = Command::new(env!("CARGO_BIN_EXE_wutherdish"));
+    let mut command = Command::new(program());
     command.args(arguments).stdin(Stdio::piped()).stdout(Stdio::piped()).stderr(Stdio::piped());
     command
 }
@@ -32,7 +37,7 @@ pub fn fed(arguments: &[&str], input: &[u8]) -> Ran {
 /// Runs a script of the shell in which `$0` is the command and `$@` its arguments.
 pub fn shell(script: &str, arguments: &[&str], input: &[u8]) -> Ran {
     let mut command = Command::new("bash");
-    command.args(["-c", script, env!("CARGO_BIN_EXE_wutherdish")]).args(arguments);
+    command.args(["-c", script]).arg(program()).args(arguments);
     command.stdin(Stdio::piped()).stdout(Stdio::piped()).stderr(Stdio::piped());
     ran(command, input)
 }
@@ -77,7 +82,10 @@ pub fn split_front(feed: &[u8]) -> (&[u8], &[u8]) {
 
 /// The name of a file to write, which is not there yet; each test names its own.
 pub fn scratch(name: &str) -> String {
-    let path = PathBuf::from(env!("CARGO_TARGET_TMPDIR")).join(name);
+    let built = program().parent().and_then(Path::parent).expect("a folder for each profile").to_owned();
+    let folder = built.join("tmp");
+    std::fs::create_dir_all(&folder).expect("the folder is made");
+    let path = folder.join(name);
     // one that an earlier run left
     let _ = std::fs::remove_file(&path);
     path.to_str().expect("its path is text").to_owned()

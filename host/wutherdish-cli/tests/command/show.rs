@@ -185,9 +185,9 @@ fn a_damaged_book_is_refused() {
         assert_eq!(ran.err, format!("wutherdish: standard input: {}\n", wanted(&Book::found(bytes))));
     };
     let unreadable = |book: &Book<Vec<u8>>| book.kept().expect_err("it can't be read").to_string();
-    // the tag of the first entry's payload, behind its id
+    // the tag of the first entry's payload, after its id
     bad(47 + 71, 3, &unreadable);
-    // a byte behind the entries, and a round that no point has: only a call notices
+    // a byte after the entries, and a round that no point has: only a call notices
     bad(65_535, 1, &|_| Refusal::Book.to_string());
     bad(47 + 3 + 3, 0x80, &|_| Refusal::Book.to_string());
 }

@@ -87,7 +87,8 @@ fn help_and_version() {
     for arguments in [&["--help"][..], &["-h"]] {
         assert_eq!(done(arguments, &[]), help);
     }
-    assert_eq!(done(&["--version"], &[]), concat!("wutherdish ", env!("CARGO_PKG_VERSION"), "\n"));
+    let version = done(&["--version"], &[]);
+    assert_eq!(version, concat!("wutherdish ", env!("CARGO_PKG_VERSION"), "\nlibrary 0.1, format 1, ABI 1\n"));
 }
 
 #[test]
@@ -129,7 +130,8 @@ fn assert_bad(arguments: &[&str], input: &[u8], wanted: &str) {
 
 #[test]
 fn bad_input_is_1() {
-    let neither = "standard input: byte 0: expected a feed or a book (tag 32), or a case (1 or 2)";
+    let neither =
+        "standard input: byte 0: expected a feed or a book (tag 32), a point record (tag 1), or a case (1 or 2)";
     for command in ["explain", "show"] {
         assert_bad(&[command, "-"], &[], neither);
         assert_bad(&[command, "-"], b"text", neither);

@@ -5,7 +5,7 @@
 pub struct Element {
     pub name: String,
     pub attributes: Vec<(String, String)>,
-    /// The text right behind its tag.
+    /// The text right after its tag.
     pub text: String,
 }
 

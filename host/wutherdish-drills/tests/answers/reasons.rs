@@ -1,4 +1,4 @@
-//! What the reasons carry: each drill shows the fault that it says, and none that stands before or behind it.
+//! What the reasons carry: each drill shows the fault that it says, and none that stands before or after it.
 
 use wutherdish::AnchorStageRole::{Proof, Trigger};
 use wutherdish::{IllFormedReason, InvalidReason, PeerCount, PeerId, PointMap, StructureIssue, UninitVset, Verdict};

@@ -119,7 +119,7 @@ pub fn case_answer(bytes: &[u8]) -> Answer {
     }
 }
 
-/// The blobs of a case, which has nothing behind them and as many as its kind asks for.
+/// The blobs of a case, which has nothing after them and as many as its kind asks for.
 pub fn blobs(bytes: &[u8]) -> Vec<&[u8]> {
     let (head, mut rest) = bytes.split_at(2);
     let mut blobs = Vec::new();

@@ -33,15 +33,14 @@ fn the_repository() {
 }
 
 #[test]
-fn a_fifth_export_without_a_contract() {
-    let fifth =
-        "#[no_mangle]\npub extern \"C\" fn wutherdish_fifth(book: &mut [u8]) -> u8 {\n    0\n}\n\n#[no_mangle]\n";
-    let mut exports = changed("#[no_mangle]\n", fifth);
-    exports.symbols.insert("wutherdish_fifth".to_string());
+fn one_more_export_without_a_contract() {
+    let more = "#[no_mangle]\npub extern \"C\" fn wutherdish_more(book: &mut [u8]) -> u8 {\n    0\n}\n\n#[no_mangle]\n";
+    let mut exports = changed("#[no_mangle]\n", more);
+    exports.symbols.insert("wutherdish_more".to_string());
     let faults = [
-        "wutherdish_fifth says nothing of its result",
-        "wutherdish_fifth says nothing of book",
-        "wutherdish_fifth is not in the header",
+        "wutherdish_more says nothing of its result",
+        "wutherdish_more says nothing of book",
+        "wutherdish_more is not in the header",
     ];
     assert_eq!(exports.faults(), faults);
 }

@@ -107,7 +107,7 @@ fn a_faults_place_is_its_field() {
     assert!(unreadable > CASES / 20, "{unreadable} of {CASES} were unreadable");
 }
 
-/// A field of so many rows of this width, by rising first bytes, behind a front.
+/// A field of n rows of this width, by rising first bytes, after a front.
 fn rows(tag: u8, front: &[u8], count: u16, width: usize) -> Vec<u8> {
     let length = (front.len() + usize::from(count) * width) as u16;
     let mut bytes = [&[tag], &length.to_le_bytes()[..], front].concat();

@@ -53,7 +53,7 @@ impl Random {
         }
     }
 
-    /// A schedule whose spans rise, of at most so many peers each.
+    /// A schedule whose spans rise, of at most n peers each.
     pub fn schedule(&mut self, most: usize) -> Schedule {
         let spans = 1 + self.below(4);
         (0..spans).fold(Schedule::new(self.number()), |schedule, place| {
@@ -85,7 +85,7 @@ impl Random {
         }
     }
 
-    /// A point with any numbers in it, and at most so many peers in each map.
+    /// A point with any numbers in it, and at most n peers in each map.
     pub fn point(&mut self, most: usize) -> Point {
         let [includes, witness, evidence] = std::array::from_fn(|_| self.below(most + 1));
         Point {

@@ -20,7 +20,7 @@ pub fn arrival(listed: &Listed, turns: &Rc<Turns>, turn: usize) -> (DagPointFutu
 
 /// The direct entries as rounds of a DAG.
 pub struct Arrivals {
-    /// r-1, and r-2 behind it where it is there.
+    /// r-1, and r-2 after it where it is there.
     pub prev: DagRound,
     /// A dropped entry stands in the list, and no dependency is left to carry it.
     pub spare_drop: bool,
@@ -62,7 +62,7 @@ fn round_of(
 }
 
 /// The first dropped entry ends the list. Its turn goes to a dependency that is lacking, else to a point
-/// that is listed behind it and so never seen, else to a version of the author's point.
+/// that is listed after it and so never seen, else to a version of the author's point.
 struct Dropped {
     /// The turn, until something carries it.
     turn: Option<usize>,
@@ -100,7 +100,7 @@ impl Dropped {
         }
         match place {
             Some(place) => arrival(&direct[place], turns, place),
-            // behind the first dropped one: never seen
+            // after the first dropped one: never seen
             None => (DagPointFuture::in_turn(None, turns, direct.len() - 1), Cert::default()),
         }
     }

@@ -1,5 +1,5 @@
 //! Stands in for thiserror, whose version in Debian can't read the source's messages: an error shows
-//! itself as its `Debug` does. Messages are for logs only; no verdict hangs on them.
+//! itself as its `Debug` does. Messages are for logs only; no verdict depends on them.
 
 use proc_macro::{TokenStream, TokenTree};
 
@@ -17,7 +17,7 @@ pub fn error(item: TokenStream) -> TokenStream {
     code.parse().unwrap()
 }
 
-/// The word behind `struct` or `enum`.
+/// The word after `struct` or `enum`.
 fn name_of(item: TokenStream) -> String {
     let mut words = item.into_iter().filter_map(|token| match token {
         TokenTree::Ident(word) => Some(word.to_string()),

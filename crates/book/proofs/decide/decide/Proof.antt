@@ -1,6 +1,6 @@
 -- `decide` meets its contract: a book that does not read is number 10.
 use mathlib.Core.Path.{subst}
-use Rattle.read_book.specs.ReadBook.{BookRead}
+use Rattle.book_read.specs.Code.{BookRead}
 use Rattle.book.proofs.OfferLaws.{unread, number-decides}
 use borrow.Author.Needs.{needs}
 use Rattle.book.proofs.decide.decide.Statement.{statement}

@@ -9,12 +9,13 @@ use denote.Ref.{now}
 use borrow.Author.Tests.{not-true, not-false}
 use Rattle.parts.specs.Bytes.{Bytes}
 use Rattle.point.specs.Point.{PointInfo, inDomain}
-use Rattle.point.specs.Reading.{readPoint, pointOf, readPointOf}
-use Rattle.schedule.specs.Settings.{Settings, settingsOf}
-use Rattle.schedule.specs.Schedule.{Schedule, readSchedule, scheduleOf}
+use Rattle.point.specs.Reading.{readPoint}
+use Rattle.point.specs.Code.{pointOf, readPointOf}
+use Rattle.schedule.specs.Settings.{Settings}
+use Rattle.schedule.specs.Code.{settingsOf, scheduleOf}
+use Rattle.schedule.specs.Schedule.{Schedule, readSchedule}
 use Rattle.verify.proofs.Laws.{schedule-read, schedule-unread}
-use Rattle.plain_book.specs.Offer.{Offer}
-use Rattle.book.specs.Decided.{offerOf}
+use Rattle.books.specs.Offer.{Offer, offerOf}
 use Rattle.book.proofs.Tests.{no-schedule, no-point, no-domain, no-leader, no-buffer, all-passed, input-refused}
 use Rattle.book.proofs.OfferLaws.{refused-decides}
 use borrow.Author.Needs.{needs}

@@ -5,12 +5,12 @@ use mathlib.Core.Option.{none}
 use lib.ListN.{length}
 use denote.Ref.{now}
 use Rattle.parts.specs.Bytes.{Bytes}
-use Rattle.verify.specs.Call.{Input}
-use Rattle.plain_book.specs.Kept.{Book, find}
-use Rattle.plain_book.specs.Offer.{Offer, isFull}
-use Rattle.index.specs.Index.{FoundAt}
-use Rattle.read_book.proofs.Laws.{found-kept, absent-kept}
-use Rattle.book.specs.Decided.{offerOf, inputOf}
+use Rattle.rules.specs.Judge.{Input}
+use Rattle.books.specs.Kept.{Book, findKept}
+use Rattle.books.specs.Offer.{Offer, isFull, offerOf}
+use Rattle.book_index.specs.Code.{FoundAt}
+use Rattle.book_read.proofs.Laws.{found-kept, absent-kept}
+use Rattle.book.specs.Code.{inputOf}
 use Rattle.book.proofs.Tests.{is-there, no-room, full-is}
 use Rattle.book.proofs.OfferLaws.{refused-decides, end-within}
 use borrow.Author.Needs.{needs}
@@ -34,7 +34,7 @@ abbrev input : tie.After-find → Input
 input c = let a = start c .args in inputOf (a .conf) (now (a .schedule)) (a .spans) (now (a .rec)) (a .info)
 
 -- what the tests told
-is-new : (c : tie.After-enum-told) → let f = c .before .before in find (book f) (input f .point .id) ≡ none
+is-new : (c : tie.After-enum-told) → let f = c .before .before in findKept (book f) (input f .point .id) ≡ none
 is-new c =
     let f = c .before .before in
     absent-kept (start f .pre .0 .holds) _ (subst (FoundAt _ _ _ _) (c .enum-told .given .1) (f .find .ensures))

@@ -5,7 +5,7 @@ use mathlib.Core.Path.{ap, _∙_}
 use lib.ListN.{length, length-drop}
 use denote.Ref.{now}
 use Rattle.base.proofs.Lists.{rest}
-use Rattle.plain_book.specs.Layout.{keptFront}
+use Rattle.books.specs.Layout.{keptFront}
 use Rattle.book.proofs.Tests.{kept-placed, front-place, front-none}
 use borrow.Author.Needs.{needs}
 use Rattle.book.proofs.decide.flag_at.Statement.{statement}

@@ -5,13 +5,13 @@ use mathlib.Core.Path.{_≡_, ap, sym, _∙_, subst}
 use mathlib.Core.Option.{some}
 use mathlib.Core.List.{List}
 use denote.Ref.{now}
-use Rattle.parts.specs.Parts.{number}
+use Rattle.parts.specs.Code.{number}
 use Rattle.parts.specs.Bytes.{Bytes}
-use Rattle.map.specs.Rows.{foundOf}
+use Rattle.map.specs.Code.{foundOf}
 use Rattle.point.specs.Point.{PointId, PointInfo, prevId}
-use Rattle.point.specs.Reading.{pointOf}
-use Rattle.index.specs.Index.{FoundAt}
-use Rattle.index.specs.declared.Place.the-variants.{At}
+use Rattle.point.specs.Code.{pointOf}
+use Rattle.book_index.specs.Code.{FoundAt}
+use Rattle.book_index.specs.declared.Place.the-variants.{At}
 use Rattle.book.proofs.Tests.{prev-none, prev-some}
 use Rattle.book.proofs.OfferLaws.{no-prev, absent-mark, found-mark}
 use borrow.Author.Needs.{needs}

@@ -1,6 +1,6 @@
 -- `before_list` meets its contract: a verification that didn't pass ends it.
 use mathlib.Core.Path.{ap}
-use Rattle.verifier.specs.Found.{verifiedOf}
+use Rattle.reasons.specs.Code.{verifiedOf}
 use Rattle.judge.proofs.Laws.{before-failed, before-passed, buffered}
 use borrow.Author.Needs.{needs}
 use Rattle.judge.proofs.before.before_list.Statement.{statement}

@@ -1,8 +1,8 @@
 -- `of_verified` meets its contract: a verification that passed has no error.
 use mathlib.Core.Path.{ap, _∙_, _≡_}
 use Rattle.base.proofs.Impossible.{impossible}
-use Rattle.verifier.specs.Found.{verifiedOf}
-use Rattle.judge.specs.Judge.{ofError}
+use Rattle.reasons.specs.Code.{verifiedOf}
+use Rattle.rules.specs.Judge.{ofError}
 use borrow.Author.Needs.{needs}
 use Rattle.judge.proofs.before.of_verified.Statement.{statement}
 use Rattle.judge.proofs.before.of_verified.Tie as tie

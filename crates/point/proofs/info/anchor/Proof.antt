@@ -4,7 +4,7 @@ use mathlib.Core.Bool.{true, false}
 use borrow.Author.Needs.{needs}
 use denote.Ref.{now}
 use Rattle.point.specs.Point.{target}
-use Rattle.point.specs.Reading.{pointIdOf, pointOf}
+use Rattle.point.specs.Code.{pointIdOf, pointOf}
 use Rattle.point.proofs.Laws.{link-in, view-is}
 use Rattle.point.proofs.info.anchor.Statement.{statement}
 use Rattle.point.proofs.info.anchor.Tie as tie

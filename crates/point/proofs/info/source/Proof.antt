@@ -3,7 +3,7 @@ use mathlib.Core.Path.{_≡_, ap, _∙_}
 use borrow.Author.Needs.{needs}
 use denote.Ref.{now}
 use Rattle.point.specs.Point.{through, anchorLink, orZero}
-use Rattle.point.specs.Reading.{throughOf, pointOf}
+use Rattle.point.specs.Code.{throughOf, pointOf}
 use Rattle.point.proofs.Laws.{link-in, source-is}
 use Rattle.point.proofs.info.source.Statement.{statement}
 use Rattle.point.proofs.info.source.Tie as tie

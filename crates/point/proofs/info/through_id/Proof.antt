@@ -1,7 +1,7 @@
 -- `through_id` meets its contract.
 use mathlib.Core.Path.{ap, sym, _∙_}
 use borrow.Author.Needs.{needs}
-use Rattle.map.specs.Rows.{foundOf}
+use Rattle.map.specs.Code.{foundOf}
 use Rattle.point.specs.Point.{throughId}
 use Rattle.point.proofs.info.through_id.Statement.{statement}
 use Rattle.point.proofs.info.through_id.Tie as tie

@@ -4,7 +4,8 @@ use mathlib.Core.Option.{some}
 use borrow.Author.Tests.{eq-eqb, ne-eqb}
 use borrow.Author.Needs.{needs}
 use denote.Ref.{now}
-use Rattle.point.specs.Reading.{readThrough, readThroughOf, throughOf, readLink}
+use Rattle.point.specs.Reading.{readThrough, readLink}
+use Rattle.point.specs.Code.{readThroughOf, throughOf}
 use Rattle.point.proofs.read.read_link.Statement.{statement}
 use Rattle.point.proofs.read.read_link.Tie as tie
 

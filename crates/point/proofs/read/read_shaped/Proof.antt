@@ -11,7 +11,8 @@ use denote.Ref.{now}
 use Rattle.record.specs.Record.{rows, rowOf, startOf, contentOf, wellShaped}
 use Rattle.record.specs.declared.Places.{Places}
 use Rattle.record.proofs.Laws.{end-is, shaped-end, content-least}
-use Rattle.point.specs.Reading.{readLink, readRole, pointWith, readPoint, linkOf, readLinkOf, readRoleOf}
+use Rattle.point.specs.Reading.{readLink, readRole, pointWith, readPoint}
+use Rattle.point.specs.Code.{linkOf, readLinkOf, readRoleOf}
 use Rattle.point.proofs.Laws.{unrowed, shaped-reads}
 use Rattle.point.proofs.read.read_shaped.Statement.{statement}
 use Rattle.point.proofs.read.read_shaped.Tie as tie

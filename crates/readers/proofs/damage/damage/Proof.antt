@@ -1,4 +1,4 @@
--- `damage` is safe: there is room for one byte behind the record.
+-- `damage` is safe: there is room for one byte after the record.
 use native.Mathlib.Omega.{arith}
 use lib.ListN.{length-set}
 use borrow.Author.Needs.{needs}

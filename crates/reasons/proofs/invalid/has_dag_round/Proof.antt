@@ -1,7 +1,8 @@
 -- `has_dag_round` meets its contract: each arm by what `dag_round` told.
 use mathlib.Core.Path.{sym, ap, _∙_}
 use borrow.Author.Needs.{needs}
-use Rattle.reasons.specs.Invalid.{isYes, dagRoundOf}
+use Rattle.reasons.specs.Invalid.{isYes}
+use Rattle.reasons.specs.Code.{dagRoundOf}
 use Rattle.reasons.proofs.invalid.has_dag_round.Statement.{statement}
 use Rattle.reasons.proofs.invalid.has_dag_round.Tie as tie
 

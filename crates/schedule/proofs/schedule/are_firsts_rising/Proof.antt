@@ -5,7 +5,7 @@ use mathlib.Core.Path.{_≡_, refl, sym, _∙_}
 use lib.ListN.{length, take, drop}
 use borrow.Author.Needs.{needs}
 use Rattle.map.specs.Rows.{rising}
-use Rattle.schedule.specs.Schedule.{firstsOf}
+use Rattle.schedule.specs.Code.{firstsOf}
 use Rattle.schedule.proofs.Laws.{firsts-rise, firsts-fall, firsts-end}
 use Rattle.schedule.proofs.schedule.are_firsts_rising.Statement.{statement}
 use Rattle.schedule.proofs.schedule.are_firsts_rising.Tie as tie

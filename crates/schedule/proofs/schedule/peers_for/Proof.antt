@@ -7,7 +7,8 @@ use lib.ListN.{length, take, length-take, length-map}
 use denote.Ref.{now}
 use borrow.Author.Needs.{needs}
 use Rattle.map.specs.Rows.{peersOf}
-use Rattle.schedule.specs.Schedule.{spanFor, peersFor, scheduleOf, peerBytes, indexOf}
+use Rattle.schedule.specs.Schedule.{spanFor, peersFor}
+use Rattle.schedule.specs.Code.{scheduleOf, peerBytes, indexOf}
 use Rattle.schedule.proofs.Laws.{spansOf-length, spansOf-peers, span-below, no-span-no-peers}
 use Rattle.schedule.proofs.schedule.peers_for.Statement.{statement}
 use Rattle.schedule.proofs.schedule.peers_for.Tie as tie

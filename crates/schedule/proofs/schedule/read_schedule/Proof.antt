@@ -8,7 +8,8 @@ use borrow.Author.Tests.{not-true, not-false}
 use borrow.Author.Needs.{needs}
 use Rattle.base.specs.Base.{isEmpty}
 use Rattle.base.proofs.Bool.{clash}
-use Rattle.schedule.specs.Schedule.{lastOk, spansOf}
+use Rattle.schedule.specs.Schedule.{lastOk}
+use Rattle.schedule.specs.Code.{spansOf}
 use Rattle.schedule.proofs.Laws.{read-is, not-empty, last-within, unread}
 use Rattle.schedule.proofs.schedule.read_schedule.Statement.{statement}
 use Rattle.schedule.proofs.schedule.read_schedule.Tie as tie
@@ -23,7 +24,7 @@ filled c =
     let four : length (r .spans) ≡ 4 = sym (length-map (r .spans) _) ∙ d .read-spans .ok .1 .1 .0 .1 .0 .1 in
     not-empty _ (take (r .count) (r .spans)) (omega (arith, length-take (r .count) (r .spans)))
 
--- the bytes behind the spans are the last known round
+-- the bytes after the spans are the last known round
 known : (c : tie.Else3) →
     let d = c .before .before .before .before .before .before in
     lastOk (now (d .before .before .args .s)) (d .read-spans .result .end) ≡ true

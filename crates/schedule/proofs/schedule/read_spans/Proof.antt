@@ -1,4 +1,4 @@
--- `schedule::schedule::read_spans` meets its contract. The invariant: behind the spans that are stored stands what is left to read from `at` on.
+-- `schedule::schedule::read_spans` meets its contract. The invariant: after the spans that are stored stands what is left to read from `at` on.
 use Prim.Native.Nat.{_+_, _-_, _≤_}
 use native.Mathlib.Omega.{arith}
 use mathlib.Core.Path.{_≡_, refl, ap, sym, _∙_}
@@ -9,7 +9,8 @@ use borrow.Author.Needs.{needs}
 use Rattle.base.specs.Base.{pick}
 use Rattle.record.specs.Record.{nextAt}
 use Rattle.record.proofs.Laws.{next-within}
-use Rattle.schedule.specs.Schedule.{spanAt, lastAt, spanThen, spansThen, scheduleFrom, spanOf, spansOf}
+use Rattle.schedule.specs.Schedule.{spanAt, lastAt, spanThen, scheduleFrom}
+use Rattle.schedule.specs.Code.{spansThen, spanOf, spansOf}
 use Rattle.schedule.proofs.Laws.{Filled, filled-full, filled-end, filled-step, span-held, from-step, from-none, stored}
 use Rattle.schedule.proofs.schedule.read_spans.Statement.{statement}
 use Rattle.schedule.proofs.schedule.read_spans.Tie as tie
@@ -20,7 +21,7 @@ Inv-loop s spans₀ count₀ at₀ spans count at = (count ≤ 4) × (at ≤ len
 abbrev μ-loop : tie.MeasureT-loop
 μ-loop s spans₀ count₀ at₀ spans count at = 4 - count
 
--- one turn: the span at `at` and what is left behind it, or the last known round
+-- one turn: the span at `at` and what is left it, or the last known round
 turn : (c : tie.After-is-span Inv-loop μ-loop) →
     let l = c .before .before in
     let s = now (l .before .before .args .s) in

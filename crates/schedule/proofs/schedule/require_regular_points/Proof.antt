@@ -6,7 +6,8 @@ use mathlib.Core.List.{List}
 use mathlib.Core.Option.{some}
 use borrow.Author.Tests.{eq-eqb, ne-eqb}
 use borrow.Author.Needs.{needs}
-use Rattle.schedule.specs.Schedule.{spanFor, requireRegularPoints, scheduleOf, indexOf}
+use Rattle.schedule.specs.Schedule.{spanFor, requireRegularPoints}
+use Rattle.schedule.specs.Code.{scheduleOf, indexOf}
 use Rattle.schedule.proofs.Laws.{span-past}
 use Rattle.schedule.proofs.schedule.require_regular_points.Statement.{statement}
 use Rattle.schedule.proofs.schedule.require_regular_points.Tie as tie

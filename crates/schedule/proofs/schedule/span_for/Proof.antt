@@ -6,7 +6,8 @@ use mathlib.Core.List.{List}
 use lib.ListN.{length, take, length-map}
 use borrow.Author.Needs.{needs}
 use Rattle.schedule.specs.declared.schedule.Span as code
-use Rattle.schedule.specs.Schedule.{lastStarted, spanFor, spansOf, scheduleOf}
+use Rattle.schedule.specs.Schedule.{lastStarted, spanFor}
+use Rattle.schedule.specs.Code.{spansOf, scheduleOf}
 use Rattle.schedule.proofs.Laws.{take-most, last-here, last-before, span-past, span-known}
 use Rattle.schedule.proofs.schedule.span_for.Statement.{statement}
 use Rattle.schedule.proofs.schedule.span_for.Tie as tie

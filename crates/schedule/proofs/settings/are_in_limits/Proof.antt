@@ -1,7 +1,8 @@
 -- `schedule::settings::are_in_limits` meets its contract: each `return` rewrites with the tests that led there.
 use mathlib.Core.Path.{sym}
 use borrow.Author.Tests.{le-leb, lt-leb}
-use Rattle.schedule.specs.Settings.{inLimits, settingsOf}
+use Rattle.schedule.specs.Settings.{inLimits}
+use Rattle.schedule.specs.Code.{settingsOf}
 use Rattle.schedule.proofs.Laws.{limits-last}
 use Rattle.schedule.proofs.settings.are_in_limits.Statement.{statement}
 use Rattle.schedule.proofs.settings.are_in_limits.Tie as tie

@@ -6,7 +6,8 @@ use denote.Ref.{now}
 use borrow.Author.Tests.{eq-eqb, ne-eqb, not-true, not-false}
 use borrow.Author.Needs.{needs}
 use Rattle.base.specs.Base.{pick}
-use Rattle.schedule.specs.Settings.{settingsOf, readSettings}
+use Rattle.schedule.specs.Code.{settingsOf}
+use Rattle.schedule.specs.Settings.{readSettings}
 use Rattle.schedule.proofs.Laws.{read-as}
 use Rattle.schedule.proofs.settings.read_settings.Statement.{statement}
 use Rattle.schedule.proofs.settings.read_settings.Tie as tie

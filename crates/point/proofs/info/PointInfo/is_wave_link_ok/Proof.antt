@@ -4,7 +4,7 @@ use mathlib.Core.Bool.{not, _&&_, and-assoc}
 use mathlib.Core.Logic.{⊎-elim}
 use borrow.Author.Needs.{needs}
 use Rattle.point.specs.Point.{isWaveLinkOk, isWaveFarEnough}
-use Rattle.point.specs.Reading.{linkOf}
+use Rattle.point.specs.Code.{linkOf}
 use Rattle.point.proofs.Laws.{later-proof}
 use Rattle.point.proofs.info.PointInfo.is_wave_link_ok.Statement.{statement}
 use Rattle.point.proofs.info.PointInfo.is_wave_link_ok.Tie as tie

@@ -1,0 +1,115 @@
+-- Laws of what was looked up: an entry that was read at a place is the one that stands there.
+use Prim.Native.Nat.{ℕ, _+_, _-_, _≤_}
+use native.Mathlib.Omega.{arith}
+use mathlib.Core.Path.{_≡_, ap, sym, _∙_, subst}
+use mathlib.Core.Bool.{Bool, false, _||_}
+use mathlib.Core.Option.{some}
+use mathlib.Core.List.{List}
+use lib.ListN.{length, getD, take, drop, length-drop}
+use Rattle.base.proofs.Option.{none-some}
+use Rattle.judge_valid.specs.Code.{pointViewOf}
+use Rattle.point.specs.Point.{PointId, Through, AnchorLink, Indirect, PointInfo, prevId, anchorLink}
+use Rattle.point.specs.declared.data.AnchorStageRole.{AnchorStageRole}
+use Rattle.schedule.specs.Settings.{Settings}
+use Rattle.point.specs.Code.{pointIdOf, pointOf}
+use Rattle.point.specs.Reading.{readPoint}
+use Rattle.point.specs.declared.info.PointId as code-id
+use Rattle.rules.specs.DagPoint.{NotFound, Entry, PointView, pointView}
+use Rattle.judge_step.specs.Code.{Judging, directStep, indirectStep, indirectFold}
+use Rattle.judge_valid.specs.declared.view.PointView as code-view
+use Rattle.rules.specs.Mismatch.{isVersion, isId}
+use Rattle.judge_list.specs.Code.{prevIn}
+use Rattle.book_index.specs.Code.{FoundAt}
+use Rattle.book_index.specs.declared.Place.{Place}
+use Rattle.book_index.specs.declared.Place.the-variants.{At, Absent}
+use Rattle.judge_entries.specs.Code.{dagPointOf, partOf, ReadFrom, EntryPlaced}
+use Rattle.judge_entries.specs.declared.DagPoint as code-point
+use Rattle.judge_entries.specs.declared.DagPoint.the-variants as case-point
+use Rattle.books.specs.Kept.{Kept, Book}
+use Rattle.books.specs.Lists.{dagPoint, lookup, targetEntry}
+use Rattle.books.specs.Layout.{KeptFront, keptFront}
+use Rattle.book_layout.specs.Code.{statusOf, keptOf, readKeptOf, KeptPlaced}
+use Rattle.book_layout.specs.Code as layout
+use Rattle.book_layout.specs.declared.read.Kept as code-kept
+use Rattle.book_layout.specs.declared.read.ReadKept as code-read
+use Rattle.book_layout.specs.declared.read.ReadKept.the-variants as case-read
+use Rattle.book_judge.specs.Code.{marked, Asked, shown, lookedOf, Looks}
+use Rattle.book_judge.specs.declared.look.Looked as code-looked
+use Rattle.book_read.proofs.Laws.{found-kept, absent-kept}
+use Rattle.book_judge.proofs.Laws.{looked-kept, looked-absent, step-looked, indirect-judged}
+
+-- what `kept_at` says of the entry that starts at a place
+abbrev pub LookedAt : List ℕ → ℕ → Bool → code-looked.Looked → Type 0
+LookedAt s place covered x =
+    EntryPlaced s (x .state) (x .place) (x .end)
+    × ((y : KeptFront) → keptFront (drop place s) ≡ some y → (first : Bool) → lookedOf s x first ≡ shown (y .kept) covered first)
+
+placed-kept : (s : List ℕ) (r : code-read.ReadKept) (k : code-kept.Kept) → r ≡ case-read.Kept k → KeptPlaced s r → layout.KeptAt s k
+placed-kept s r k e h = rw e at h
+
+module _ (s : List ℕ) (place : ℕ) (part : List ℕ) (e : part ≡ drop place s) (inside : place ≤ length s) (covered : Bool)
+    (r : code-read.ReadKept) (front : readKeptOf part r ≡ keptFront part) where
+  pub looked-none : r ≡ case-read.Unreadable → LookedAt s place covered (record { state = case-point.Dropped; certified = false; place = place; end = place })
+  looked-none g = (
+    record { ordered = omega arith; inside = inside; read = tt },
+    λ y f. none-some (ap (readKeptOf part) (sym g) ∙ (front ∙ (ap keptFront e ∙ f))),
+  )
+
+  module _ (k : code-kept.Kept) (g : r ≡ case-read.Kept k) (placed : KeptPlaced part r) where
+    pub kept-end : place + k .place ≤ length s
+    kept-end = omega (arith, placed-kept part r k g placed .inside, ap length e, length-drop place s)
+
+    pub looked-some : (state : code-point.DagPoint) (certified : Bool) →
+        ((t : List ℕ) → dagPointOf t state ≡ dagPoint (pointOf t (k .info)) (statusOf (k .status))) →
+        ((t : List ℕ) → readPoint t ≡ some (pointOf t (k .info)) → ReadFrom t state) →
+        certified ≡ (k .certified || covered) →
+        LookedAt s place covered (record { state = state; certified = certified; place = place; end = place + k .place })
+    looked-some state certified dag from c =
+        let t = partOf s place (place + k .place) in
+        let h : take (k .place) part ≡ t = let n : place + k .place - place ≡ k .place = omega arith in rw (n, e) in (
+          record {
+            ordered = omega arith;
+            inside = kept-end;
+            read = from t (subst (λ (z : List ℕ). readPoint z ≡ some (pointOf z (k .info))) h (placed-kept part r k g placed .read));
+          },
+          λ y f first.
+              let w : keptOf (take (k .place) part) k ≡ y .kept = let q = ap (readKeptOf part) (sym g) ∙ (front ∙ (ap keptFront e ∙ f)) in cc in
+              rw (dag t, c) (ap (λ (z : Kept). shown z covered first) (ap (λ (z : List ℕ). keptOf z k) (sym h) ∙ w)),
+        )
+
+-- ---- the entry of an id
+
+pub found-there : (s : List ℕ) (n : ℕ) (at : List ℕ) (i : PointId) (r x : Place) → r ≡ x → FoundAt s n at i r → FoundAt s n at i x
+found-there s n at i r x e h = rw e at h
+
+covered-prev : (v : PointView) (q : PointInfo) (i : PointId) (covered : Bool) → v ≡ pointView q → covered ≡ isId (prevIn v) i → covered ≡ isId (prevId q) i
+unfolding pointView prevId
+covered-prev v q i covered e h = h ∙ ap (λ (o : _). isId o i) (ap prevIn e)
+
+abbrev absent : PointId → Bool → Entry
+absent i covered = record { state = NotFound i; certified = covered; firstValid = false }
+
+module _ {s : List ℕ} {b : Book} {n : ℕ} {at : List ℕ} {v : code-view.PointView} {q : PointInfo} (a : Asked s b n at v q) (covered : Bool) where
+  pub looks-found : (i : PointId) → covered ≡ isId (prevIn (pointViewOf v)) i → (j : ℕ) → FoundAt s n at i (At j) → (x : code-looked.Looked) → LookedAt s (getD at j 0) covered x →
+      Looks s x (lookup (marked q b) q i)
+  looks-found i c j f x l =
+      let w = found-kept (a .holds) i j f in
+      let e = lookup (marked q b) q i in
+      l .1 _ (a .holds .fronts j (w .kept) (w .rest) (w .there)) (e .firstValid)
+      ∙ (ap (λ (t : Bool). shown (w .kept) t (e .firstValid)) (covered-prev (pointViewOf v) q i covered (a .view) c) ∙ looked-kept b q i (w .kept) (w .found))
+
+  pub looks-absent : (i : code-id.PointId) → covered ≡ isId (prevIn (pointViewOf v)) (pointIdOf i) → FoundAt s n at (pointIdOf i) Absent →
+      Looks s (record { state = case-point.NotFound i; certified = covered; place = 0; end = 0 }) (lookup (marked q b) q (pointIdOf i))
+  looks-absent i c f =
+      rw (looked-absent b q (pointIdOf i) (absent-kept (a .holds) (pointIdOf i) f))
+      (ap (absent (pointIdOf i)) (covered-prev (pointViewOf v) q (pointIdOf i) covered (a .view) c))
+
+-- ---- judging what was looked up
+
+module _ (s : List ℕ) (l : code-looked.Looked) (b : Book) (q : PointInfo) (i : PointId) (looks : Looks s l (lookup b q i)) (c : Settings) (p : PointView) (v : p ≡ pointView q) (j x : Judging) where
+  pub dependency-judged : (required : Bool) → isVersion q i ≡ false → x ≡ directStep c required p j (lookedOf s l false) → x ≡ directStep c required p j (lookup b q i)
+  dependency-judged required n h = step-looked c required p b q i j x (dagPointOf (partOf s (l .place) (l .end)) (l .state)) (l .certified) v n looks h
+
+  pub target-judged : (g : AnchorStageRole) (t : Through) (k : AnchorLink) → k ≡ Indirect i t → k ≡ anchorLink g q → ((first : Bool) → x ≡ indirectStep c p g t j (lookedOf s l first)) →
+      x ≡ indirectFold c q j (targetEntry b q g k)
+  target-judged g t k e a h = indirect-judged c p b q g i t j x (lookedOf s l (lookup b q i .firstValid)) k v e a looks (h (lookup b q i .firstValid))

@@ -1,0 +1,88 @@
+-- `judge_versions` meets its contract. The invariant: the versions so far, over the entries that are left, give what all entries give.
+use native.Mathlib.Omega.{arith}
+use mathlib.Core.Path.{refl, ap, _∙_}
+use Prim.Native.Nat.{_-_, _≤_}
+use borrow.Author.Needs.{needs}
+use Rattle.judge_valid.specs.Code.{pointViewOf}
+use Rattle.schedule.specs.Code.{settingsOf}
+use Rattle.judge_step.specs.Code.{judgingOf}
+use Rattle.books.specs.Kept.{Book}
+use Rattle.book_read.specs.Code.{Holds}
+use Rattle.book_judge.specs.Code.{Versions, versionsOf}
+use Rattle.book_index.specs.Code.{idOf}
+use Rattle.book_read.proofs.Laws.{found-kept}
+use denote.Ref.{now}
+use Rattle.point.proofs.Ids.{same-refl}
+use Rattle.book_judge.proofs.Versions.{versionsFold, VersionsLeft, fold-step, fold-end, versions-folded}
+use Rattle.book_judge.proofs.direct.judge_versions.Statement.{statement}
+use Rattle.book_judge.proofs.direct.judge_versions.Tie as tie
+
+abbrev Inv-loop : tie.InvT-loop
+Inv-loop conf required p book n at so-far₀ j₀ so-far j =
+    (j ≤ n)
+    × ((b : Book) → Holds book b n at →
+    VersionsLeft (settingsOf conf) required (pointViewOf p) b (versionsFold (settingsOf conf) required (pointViewOf p) (versionsOf so-far₀) b) j (versionsOf so-far))
+
+abbrev μ-loop : tie.MeasureT-loop
+μ-loop conf required p book n at so-far₀ j₀ so-far j = n - j
+
+abbrev start : tie.At-loop Inv-loop μ-loop → tie.Start Inv-loop μ-loop
+start l = l .before .before .before
+
+loop-holds : tie.Need-loop-holds Inv-loop μ-loop
+loop-holds c = (search needs, λ b h. refl)
+
+mul-judge-version : tie.Need-mul-judge-version Inv-loop μ-loop
+mul-judge-version c = let st = start (c .before) in omega (arith, st .pre .0, st .good)
+
+shared-slice-read-judge-version : tie.Need-shared-slice-read-judge-version Inv-loop μ-loop
+shared-slice-read-judge-version c = let st = start (c .before .before) in omega (arith, st .pre .0)
+
+cast-judge-version : tie.Need-cast-judge-version Inv-loop μ-loop
+cast-judge-version c = omega (arith, c .shared-slice-known3 .given (c .before .before .loop .j))
+
+judge-version-requires : tie.Need-judge-version-requires Inv-loop μ-loop
+judge-version-requires c κs = start (c .before .before) .pre .1 (c .before .before .loop .j) (c .before .loop-test .taken)
+
+add-j : tie.Need-add-j Inv-loop μ-loop
+add-j c = search needs
+
+loop-less : tie.Need-loop-less Inv-loop μ-loop
+loop-less c = search needs
+
+loop-again : tie.Need-loop-again Inv-loop μ-loop
+loop-again c =
+    let l = c .before .before .before in
+    let st = start l in
+    let j = l .loop .j in (
+      search needs,
+      λ b h.
+          let x = found-kept h (idOf (now (st .args .book)) (now (st .args .at)) j) j (c .before .before .loop-test .taken, same-refl _) in
+          fold-step (settingsOf (st .args .conf)) (st .args .required) (pointViewOf (st .args .p)) b _ j (versionsOf (l .loop .so-far)) (l .loop .inv .1 b h)
+          (x .kept) (x .rest) (versionsOf (c .judge-version .result)) (x .there) (c .judge-version .ensures _ (h .fronts j (x .kept) (x .rest) (x .there)) (h .ids j (x .kept) (x .rest) (x .there))),
+    )
+
+returns : tie.Need-returns Inv-loop μ-loop
+returns c =
+    λ b h.
+    let l = c .before .before in
+    let st = start l in
+    ap (λ (w : Versions). w .judging)
+    (fold-end (settingsOf (st .args .conf)) (st .args .required) (pointViewOf (st .args .p)) b _ (l .loop .j) (versionsOf (l .loop .so-far)) (l .loop .inv .1 b h) (omega (arith, h .count, c .before .loop-test .left)))
+    ∙ versions-folded (settingsOf (st .args .conf)) (st .args .required) (pointViewOf (st .args .p)) b (h .once) (judgingOf (st .args .judging))
+
+pub judge-versions-spec : {M : Type 1} → statement M
+judge-versions-spec =
+    tie.close
+    (tie.spec
+    Inv-loop
+    μ-loop
+    loop-holds
+    mul-judge-version
+    shared-slice-read-judge-version
+    cast-judge-version
+    judge-version-requires
+    add-j
+    loop-less
+    loop-again
+    returns)

@@ -1,0 +1,155 @@
+// Judges a point by the lists that a book builds of its entries. The lists are never stored: each dependency is looked up, and
+// judged at once.
+mod direct;
+mod look;
+
+use judge_step::Judging;
+use judge_valid::PointView;
+use point::AnchorLink;
+use point::AnchorStageRole;
+use point::PointInfo;
+use reasons::Verdict;
+use schedule::Settings;
+ghost use mathlib.Core.Path.{_≡_};
+ghost use mathlib.Core.Bool.{true};
+ghost use mathlib.Core.List.{List};
+ghost use mathlib.Core.Option.{some};
+ghost use Prim.Native.Nat.{ℕ};
+ghost use Rattle.point.specs.Point as point;
+ghost use Rattle.point.specs.Point.{anchorLink, inDomain};
+ghost use Rattle.point.specs.Code.{linkOf, pointOf};
+ghost use Rattle.point.specs.Reading.{readPoint};
+ghost use Rattle.schedule.specs.Code.{settingsOf};
+ghost use Rattle.reasons.specs.Code.{verdictOf};
+ghost use Rattle.judge_step.specs.Code.{indirectFold, judgingOf};
+ghost use Rattle.book_index.specs.Code.{Index};
+ghost use Rattle.books.specs.Kept.{Book};
+ghost use Rattle.books.specs.Lists.{targetEntry, isTriggerFirst, indirectList};
+ghost use Rattle.book_read.specs.Code.{Holds};
+ghost use Rattle.book_judge.specs.Code.{marked, overBook, Asked};
+
+// Judges the target of a link, if it is indirect.
+fn judge_target(
+    conf: Settings,
+    p: PointView,
+    role: AnchorStageRole,
+    link: AnchorLink,
+    book: &[u8],
+    n: usize,
+    at: &[u32],
+    next: &[u16],
+    heads: &[u16],
+    so_far: Judging,
+) -> Judging
+    requires { ⌜ Index (now book) n (now at) (now next) (now heads) ⌝ }
+    ensures { λ r. ⌜ ((b : Book) (q : point.PointInfo) → Asked (now (book .entry)) b n (now (at .entry)) p q → linkOf link ≡ anchorLink role q → judgingOf r ≡ indirectFold (settingsOf conf) q (judgingOf «so_far») (targetEntry (marked q b) q role (linkOf link))) ⌝ }
+{
+    match link {
+        AnchorLink::Direct(_) => so_far,
+        AnchorLink::Indirect(indirect) => {
+            let to = indirect.to;
+            let through = indirect.through;
+            let x = look::lookup(p, to, book, n, at, next, heads);
+            let state = x.state;
+            let place = x.place;
+            let end = x.end;
+            judge_step::judge_indirect(
+                conf,
+                role,
+                through,
+                p,
+                &book[place..end],
+                state,
+                x.certified,
+                so_far,
+            )
+        }
+    }
+}
+
+// Whether the trigger link's target has the higher round.
+fn is_trigger_first(proof: AnchorLink, trigger: AnchorLink) -> bool
+    ensures { λ r. ⌜ r ≡ isTriggerFirst (linkOf proof) (linkOf trigger) ⌝ }
+{
+    match proof {
+        AnchorLink::Direct(_) => false,
+        AnchorLink::Indirect(first) => match trigger {
+            AnchorLink::Direct(_) => false,
+            AnchorLink::Indirect(second) => {
+                let a = first.to;
+                let b = second.to;
+                a.round < b.round
+            }
+        },
+    }
+}
+
+// Judges the indirect entries: the target with the higher round first, the proof's on a tie.
+fn judge_targets(
+    conf: Settings,
+    p: PointView,
+    info: PointInfo,
+    book: &[u8],
+    n: usize,
+    at: &[u32],
+    next: &[u16],
+    heads: &[u16],
+    so_far: Judging,
+) -> Judging
+    requires { ⌜ Index (now book) n (now at) (now next) (now heads) ⌝ }
+    ensures { λ r. ⌜ ((b : Book) (s : List ℕ) → Asked (now (book .entry)) b n (now (at .entry)) p (pointOf s info) → judgingOf r ≡ indirectFold (settingsOf conf) (pointOf s info) (judgingOf «so_far») (indirectList (marked (pointOf s info) b) (pointOf s info))) ⌝ }
+{
+    let proof = info.anchor_proof;
+    let trigger = info.anchor_trigger;
+    let to_proof = AnchorStageRole::Proof;
+    let to_trigger = AnchorStageRole::Trigger;
+    if is_trigger_first(proof, trigger) {
+        let first = judge_target(
+            conf,
+            p,
+            to_trigger,
+            trigger,
+            book,
+            n,
+            at,
+            next,
+            heads,
+            so_far,
+        );
+        return judge_target(conf, p, to_proof, proof, book, n, at, next, heads, first);
+    }
+    let first = judge_target(conf, p, to_proof, proof, book, n, at, next, heads, so_far);
+    judge_target(
+        conf,
+        p,
+        to_trigger,
+        trigger,
+        book,
+        n,
+        at,
+        next,
+        heads,
+        first,
+    )
+}
+
+// Judges a point whose list is needed.
+pub fn judge_book(
+    conf: Settings,
+    required: bool,
+    rec: &[u8],
+    info: PointInfo,
+    book: &[u8],
+    n: usize,
+    at: &[u32],
+    next: &[u16],
+    heads: &[u16],
+) -> Verdict
+    requires { ⌜ readPoint (now rec) ≡ some (pointOf (now rec) info) ⌝ }
+    requires { ⌜ Index (now book) n (now at) (now next) (now heads) ⌝ }
+    ensures { λ r. ⌜ ((b : Book) → Holds (now (book .entry)) b n (now (at .entry)) → inDomain (pointOf (now (rec .entry)) info) ≡ true → verdictOf r ≡ overBook (settingsOf conf) required (pointOf (now (rec .entry)) info) b) ⌝ }
+{
+    let p = judge_valid::point_view(rec, info);
+    let direct = direct::judge_direct_list(conf, required, rec, p, book, n, at, next, heads);
+    judge_list::verdict(judge_targets(conf, p, info, book, n, at, next, heads, direct))
+}

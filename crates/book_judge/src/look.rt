@@ -1,0 +1,94 @@
+// What a book says of a dependency.
+use book_index::Place;
+use book_layout::ReadKept;
+use judge_entries::DagPoint;
+use judge_valid::PointView;
+use point::PointId;
+ghost use mathlib.Core.Path.{_≡_};
+ghost use mathlib.Core.Bool.{Bool, _||_};
+ghost use mathlib.Core.Option.{some};
+ghost use Prim.Native.Nat.{_≤_};
+ghost use lib.ListN.{length, drop};
+ghost use Rattle.point.specs.Point as point;
+ghost use Rattle.point.specs.Code.{pointIdOf};
+ghost use Rattle.judge_entries.specs.Code.{EntryPlaced};
+ghost use Rattle.book_index.specs.Code.{Index};
+ghost use Rattle.books.specs.Kept.{Book};
+ghost use Rattle.books.specs.Lists.{lookup};
+ghost use Rattle.books.specs.Layout.{KeptFront, keptFront};
+ghost use Rattle.book_judge.specs.Code.{marked, Asked, shown, lookedOf, Looks};
+
+// An entry whose record stands from `place` to `end`.
+pub struct Looked {
+    pub state: DagPoint,
+    pub certified: bool,
+    pub place: usize,
+    pub end: usize,
+}
+
+pub fn either(a: bool, b: bool) -> bool
+    ensures { λ r. ⌜ r ≡ (a || b) ⌝ }
+{
+    if a {
+        return true;
+    }
+    b
+}
+
+// The entry that starts at a place; covered says that a certificate covers it whatever its mark.
+pub fn kept_at(book: &[u8], place: usize, covered: bool) -> Looked
+    requires { ⌜ place ≤ length (now book) ⌝ }
+    ensures { λ r. ⌜ EntryPlaced (now (book .entry)) (r .state) (r .place) (r .end) ⌝ }
+    ensures { λ r. ⌜ ((x : KeptFront) → keptFront (drop place (now (book .entry))) ≡ some x → (first : Bool) → lookedOf (now (book .entry)) r first ≡ shown (x .kept) covered first) ⌝ }
+{
+    let read = book_layout::read_kept(&book[place..]);
+    match read {
+        ReadKept::Kept(k) => {
+            let info = k.info;
+            let status = k.status;
+            let end = place + k.place;
+            let state = book_layout::dag_point(info, status);
+            let certified = either(k.certified, covered);
+            Looked {
+                state,
+                certified,
+                place,
+                end,
+            }
+        }
+        ReadKept::Unreadable => Looked {
+            state: DagPoint::Dropped,
+            certified: false,
+            place,
+            end: place,
+        },
+    }
+}
+
+// What the book says of an id. The previous point counts as certified: its mark is made before the list is judged, and it counts so
+// even if it is not kept.
+pub fn lookup(
+    p: PointView,
+    id: PointId,
+    book: &[u8],
+    n: usize,
+    at: &[u32],
+    next: &[u16],
+    heads: &[u16],
+) -> Looked
+    requires { ⌜ Index (now book) n (now at) (now next) (now heads) ⌝ }
+    ensures { λ r. ⌜ EntryPlaced (now (book .entry)) (r .state) (r .place) (r .end) ⌝ }
+    ensures { λ r. ⌜ ((b : Book) (q : point.PointInfo) → Asked (now (book .entry)) b n (now (at .entry)) p q → Looks (now (book .entry)) r (lookup (marked q b) q (pointIdOf id))) ⌝ }
+{
+    let covered = judge_list::is_prev(p, id);
+    let found = book_index::find(book, n, at, next, heads, id);
+    match found {
+        Place::At(j) => kept_at(book, at[j] as usize, covered),
+        Place::Absent => Looked {
+            state: DagPoint::NotFound(id),
+            certified: covered,
+            place: 0,
+            end: 0,
+        },
+    }
+}

@@ -1,0 +1,129 @@
+-- What the code's values stand for, and what its functions promise each other.
+use mathlib.Core.Bool.{Bool, false, _||_}
+use mathlib.Core.Option.{Option, none, some}
+use mathlib.Core.List.{List, [], _∷_}
+use Rattle.point.specs.Point.{PointInfo, prevId, PointId, Through, through, prevIdWith}
+use Rattle.schedule.specs.Settings.{Settings}
+use Rattle.reasons.specs.Verdict.{Verdict}
+use Rattle.reasons.specs.Code.{verdictOf}
+use Rattle.rules.specs.Validate.{ofResult, overLists}
+use Rattle.rules.specs.List.{Listed, directs, indirects, isInOrder}
+use Rattle.rules.specs.Mismatch.{uncovered, uncovers}
+use Rattle.judge_list.specs.declared.JudgedList as code
+use Rattle.judge_list.specs.declared.JudgedList.the-variants as case
+use Prim.Native.Nat.{ℕ, _≤_, _<_}
+use Rattle.point.specs.Code.{linkOf}
+use Rattle.point.specs.declared.data.AnchorStageRole.{AnchorStageRole}
+use Rattle.point.specs.declared.data.AnchorStageRole.the-variants.{Proof, Trigger}
+use Rattle.rules.specs.DagPoint.{Entry, PointView, pointView}
+use Rattle.base.specs.Base.{pick, isSome}
+use Rattle.judge_step.specs.Code.{Judging, start, directStep, indirectStep, judgingOf}
+use Rattle.judge_valid.specs.Code.{pointViewOf}
+use Rattle.point.specs.declared.info.PointInfo as code-info
+use Rattle.judge_valid.specs.declared.view.PointView as code-view
+use Rattle.judge_list.specs.declared.Walk as code-walk
+use Rattle.judge_list.specs.declared.Next as code-next
+use Rattle.judge_list.specs.declared.Next.the-variants as case-next
+use Rattle.judge_list.specs.declared.WalkedList as code-list
+use Rattle.judge_list.specs.declared.WalkedList.the-variants as case-list
+
+pub record ListJudged : Type 0 where
+  pub verdict : Verdict
+  pub uncovered : Bool
+
+abbrev pub judgedWith : Settings → Bool → PointInfo → Option (List Listed) → Option ListJudged
+judgedWith c required p none = none
+judgedWith c required p (some l) =
+    some (record {
+      verdict = ofResult (overLists c required p (directs l) (indirects l));
+      uncovered = uncovered (prevId p) (directs l) (indirects l);
+    })
+
+-- what the code's value stands for
+abbrev pub judgedListOf : code.JudgedList → Option ListJudged
+judgedListOf (case.Judged v b) = some (record { verdict = verdictOf v; uncovered = b })
+judgedListOf case.Unreadable = none
+
+pub record Walk : Type 0 where
+  pub judging : Judging
+  pub uncovered : Bool
+
+-- of the judged point: what judging asks of it, and what its links go through
+pub record Viewed : Type 0 where
+  pub view : PointView
+  pub proof : Through
+  pub trigger : Through
+
+unfoldable pub viewed : PointInfo → Viewed
+unfolding pointView
+viewed p = record { view = pointView p; proof = through (p .anchorProof); trigger = through (p .anchorTrigger) }
+
+-- an entry is judged by what it is for
+abbrev pub stepAs : Option AnchorStageRole → Settings → Bool → Viewed → Judging → Entry → Judging
+stepAs none c required p j e = directStep c required (p .view) j e
+stepAs (some Proof) c required p j e = indirectStep c (p .view) Proof (p .proof) j e
+stepAs (some Trigger) c required p j e = indirectStep c (p .view) Trigger (p .trigger) j e
+
+-- PointInfo::prev_id
+abbrev pub prevIn : PointView → Option PointId
+prevIn p = prevIdWith (p .id) (p .prevDigest)
+
+unfoldable pub walkStep : Settings → Bool → Viewed → Walk → Listed → Walk
+unfolding directStep indirectStep uncovers
+walkStep c required p w x =
+    record {
+      judging = stepAs (x .aim) c required p (w .judging) (x .entry);
+      uncovered = w .uncovered || uncovers (prevIn (p .view)) (x .entry);
+    }
+
+unfoldable pub walkFold : Settings → Bool → Viewed → Walk → List Listed → Walk
+unfolding walkStep
+walkFold c required p w [] = w
+walkFold c required p w (x ∷ l) = walkFold c required p (walkStep c required p w x) l
+
+-- the walk after one entry more, whether that one is of an indirect target, and how many bytes it takes
+pub record Next : Type 0 where
+  pub walk : Walk
+  pub behind : Bool
+  pub size : ℕ
+
+abbrev pub nextWith : Settings → Bool → Viewed → Bool → Walk → Option Listed → Option Next
+nextWith c required p behind w none = none
+nextWith c required p behind w (some x) =
+    pick (isInOrder behind (x .aim))
+    (some (record { walk = walkStep c required p w x; behind = isSome (x .aim); size = x .size }))
+    none
+
+-- over a list, if it could be read
+abbrev pub walkWith : Settings → Bool → Viewed → Walk → Option (List Listed) → Option Walk
+walkWith c required p w none = none
+walkWith c required p w (some l) = some (walkFold c required p w l)
+
+abbrev pub walkStart : Walk
+walkStart = record { judging = start; uncovered = false }
+
+-- ---- what the code's values stand for
+
+abbrev pub viewedOf : code-view.PointView → code-info.PointInfo → Viewed
+viewedOf p i =
+    record {
+      view = pointViewOf p;
+      proof = through (linkOf (i .«anchor_proof»));
+      trigger = through (linkOf (i .«anchor_trigger»));
+    }
+
+abbrev pub walkOf : code-walk.Walk → Walk
+walkOf w = record { judging = judgingOf (w .judging); uncovered = w .uncovered }
+
+abbrev pub walkedListOf : code-list.WalkedList → Option Walk
+walkedListOf (case-list.Walked w) = some (walkOf w)
+walkedListOf case-list.Unreadable = none
+
+abbrev pub nextOf : code-next.Next → Option Next
+nextOf (case-next.Judged w b n) = some (record { walk = walkOf w; behind = b; size = n })
+nextOf case-next.Unreadable = none
+
+-- the next entry takes up bytes of what is left
+abbrev pub NextWithin : ℕ → code-next.Next → Type 0
+NextWithin most (case-next.Judged w b n) = (0 < n) × (n ≤ most)
+NextWithin most case-next.Unreadable = Unit

@@ -1,0 +1,212 @@
+-- Laws for callers: judging entry by entry gives what `overLists` says of whole lists, and a point that is not invalid passed every
+-- check of every entry.
+use Prim.Native.Nat.{ℕ}
+use mathlib.Core.Path.{_≡_, refl, sym, ap, _∙_}
+use mathlib.Core.Bool.{Bool, true, false, not, _&&_, _||_}
+use mathlib.Core.Option.{Option, none, some}
+use mathlib.Core.List.{List, [], _∷_, _++_}
+use Rattle.base.specs.Base.{pick, when, lastOf, isSome, isEmpty}
+use Rattle.base.proofs.Bool.{and-right}
+use Rattle.point.specs.Point.{PointInfo}
+use Rattle.point.specs.declared.data.AnchorStageRole.{AnchorStageRole}
+use Rattle.schedule.specs.Settings.{Settings}
+use Rattle.reasons.specs.Invalid.{InvalidReason, DependencyRoundDropped, InvalidDependency}
+use Rattle.rules.specs.DagPoint.{Entry, IndirectEntry, isDropped, PointView, pointView}
+use Rattle.rules.specs.Validate.{entryTrail, directTrail, indirectEntryTrail, indirectTrail, entryRecord, join, directRecord, indirectRecord, resultWith, overLists}
+use Rattle.rules.specs.List.{Listed, isInOrder, listFrom, directThen, directs, indirectThen, indirects}
+use Rattle.judge_entries.proofs.Order.{inOrder, in-order, behind-target}
+use Rattle.judge_step.specs.Code.{Judging, laterOf, orDropped, start, directStep, indirectStep, directFold, targetStep, indirectFold, resultOf}
+
+-- ---- the last reason
+
+later-none : (o : Option InvalidReason) → laterOf none o ≡ o
+later-none none = refl
+later-none (some r) = refl
+
+later-assoc : (a b d : Option InvalidReason) → laterOf (laterOf a b) d ≡ laterOf a (laterOf b d)
+later-assoc a b none = refl
+later-assoc a b (some r) = refl
+
+-- a list that isn't empty has a last reason, which replaces any
+later-last : (l : List InvalidReason) (x : InvalidReason) (o : Option InvalidReason) → laterOf o (lastOf (x ∷ l)) ≡ lastOf (x ∷ l)
+unfolding lastOf
+later-last [] x o = refl
+later-last (y ∷ l) x o = later-last l y o
+
+some-last : (l : List InvalidReason) (x : InvalidReason) → isSome (lastOf (x ∷ l)) ≡ true
+unfolding lastOf
+some-last [] x = refl
+some-last (y ∷ l) x = some-last l y
+
+last-append : (a b : List InvalidReason) → lastOf (a ++ b) ≡ laterOf (lastOf a) (lastOf b)
+unfolding lastOf
+last-append [] b = sym (later-none (lastOf b))
+last-append (x ∷ []) [] = refl
+last-append (x ∷ []) (y ∷ l) = sym (later-last l y (some x))
+last-append (x ∷ y ∷ a) b = last-append (y ∷ a) b
+
+-- whether a reason is set, once those of an entry are taken in
+set-later : (t : List InvalidReason) (d : Option InvalidReason) → isSome (laterOf d (lastOf t)) ≡ (isSome d || not (isEmpty t))
+unfolding lastOf
+set-later [] none = refl
+set-later [] (some r) = refl
+set-later (x ∷ l) none = ap isSome (later-last l x none) ∙ some-last l x
+set-later (x ∷ l) (some r) = ap isSome (later-last l x (some r)) ∙ some-last l x
+
+-- ---- the lists, entry by entry
+
+-- what judging has found
+record Found (d i : Option InvalidReason) (w : Option InvalidDependency) (j : Judging) : Type 0 where
+  pub direct : j .direct ≡ d
+  pub indirect : j .indirect ≡ i
+  pub recorded : j .recorded ≡ w
+
+abbrev judging : Option InvalidReason → Option InvalidReason → Option InvalidDependency → Bool → Judging
+judging d i w ended = record { direct = d; indirect = i; recorded = w; ended = ended }
+
+-- a dropped entry sets its reason only if none is set
+dropped-last : (d : Option InvalidReason) → orDropped d ≡ laterOf d (lastOf (when (not (isSome d)) DependencyRoundDropped))
+unfolding lastOf
+dropped-last none = refl
+dropped-last (some r) = refl
+
+-- the reasons of an entry before those after it, which go by whether one is set
+later-behind : (t : List InvalidReason) (d : Option InvalidReason) (behind : Bool → List InvalidReason) →
+    laterOf (laterOf d (lastOf t)) (lastOf (behind (isSome (laterOf d (lastOf t))))) ≡ laterOf d (lastOf (t ++ behind (isSome d || not (isEmpty t))))
+later-behind t d behind =
+    ap (λ (b : Bool). laterOf (laterOf d (lastOf t)) (lastOf (behind b))) (set-later t d)
+    ∙ later-assoc d (lastOf t) (lastOf (behind (isSome d || not (isEmpty t))))
+    ∙ ap (laterOf d) (sym (last-append t (behind (isSome d || not (isEmpty t)))))
+
+module _ (c : Settings) (required : Bool) (p : PointView) where
+  -- after a dropped entry nothing is found, nor recorded
+  ended-stays : (es : List Entry) (d i : Option InvalidReason) (w : Option InvalidDependency) →
+      directFold c required p (judging d i w true) es ≡ judging d i w true
+  unfolding directFold directStep
+  ended-stays [] d i w = refl
+  ended-stays (e ∷ l) d i w = ended-stays l d i w
+
+  -- one more entry, dropped or not, that gives the reasons t
+  one-more : (b : Bool) (l : List Entry) (t : List InvalidReason) (behind : Bool → List InvalidReason) (d i : Option InvalidReason) (w joined all : Option InvalidDependency) →
+      Found (laterOf (laterOf d (lastOf t)) (lastOf (behind (isSome (laterOf d (lastOf t)))))) i all (directFold c required p (judging (laterOf d (lastOf t)) i joined false) l) →
+      Found
+      (laterOf d (lastOf (pick b (when (not (isSome d)) DependencyRoundDropped) (t ++ behind (isSome d || not (isEmpty t))))))
+      i
+      (pick b w all)
+      (directFold c required p (pick b (judging (orDropped d) i w true) (judging (laterOf d (lastOf t)) i joined false)) l)
+  one-more true l t behind d i w joined all f =
+      let e = ended-stays l (orDropped d) i w in
+      record {
+        direct = ap (λ (j : Judging). j .direct) e ∙ dropped-last d;
+        indirect = ap (λ (j : Judging). j .indirect) e;
+        recorded = ap (λ (j : Judging). j .recorded) e;
+      }
+  one-more false l t behind d i w joined all f =
+      record { direct = f .direct ∙ later-behind t d behind; indirect = f .indirect; recorded = f .recorded }
+
+  directs-judged : (es : List Entry) (d i : Option InvalidReason) (w : Option InvalidDependency) →
+      Found (laterOf d (lastOf (directTrail c required p (isSome d) es))) i (directRecord c p w es) (directFold c required p (judging d i w false) es)
+  unfolding directFold directStep directTrail directRecord lastOf
+  directs-judged [] d i w = record { direct = refl; indirect = refl; recorded = refl }
+  directs-judged (e ∷ l) d i w =
+      one-more
+      (isDropped (e .state))
+      l
+      (entryTrail c required p e)
+      (λ (set : Bool). directTrail c required p set l)
+      d
+      i
+      w
+      (join w (entryRecord c p e))
+      (directRecord c p (join w (entryRecord c p e)) l)
+      (directs-judged l (laterOf d (lastOf (entryTrail c required p e))) i (join w (entryRecord c p e)))
+
+module _ (c : Settings) (p : PointInfo) where
+  indirects-judged : (ts : List IndirectEntry) (j : Judging) →
+      Found (j .direct) (laterOf (j .indirect) (lastOf (indirectTrail c (pointView p) ts))) (indirectRecord c p (j .recorded) ts) (indirectFold c p j ts)
+  unfolding indirectFold indirectStep indirectTrail indirectRecord pointView lastOf
+  indirects-judged [] j = record { direct = refl; indirect = refl; recorded = refl }
+  indirects-judged (a ∷ l) j =
+      let t = indirectEntryTrail c (a .role) (pointView p) (a .entry .state) in
+      let f = indirects-judged l (targetStep c p (a .role) j (a .entry)) in
+      record {
+        direct = f .direct;
+        indirect =
+            f .indirect
+            ∙ later-assoc (j .indirect) (lastOf t) (lastOf (indirectTrail c (pointView p) l))
+            ∙ ap (laterOf (j .indirect)) (sym (last-append t (indirectTrail c (pointView p) l)));
+        recorded = f .recorded;
+      }
+
+result-found : (d i : Option InvalidReason) (w : Option InvalidDependency) (j : Judging) → Found d i w j → resultOf j ≡ resultWith (laterOf i d) w
+result-found d i w j f = rw (f .direct, f .indirect, f .recorded)
+
+first-of-both : (a b : List InvalidReason) → laterOf (lastOf b) (lastOf a) ≡ lastOf (pick (isEmpty a) b a)
+unfolding lastOf
+first-of-both [] b = refl
+first-of-both (x ∷ l) b = later-last l x (lastOf b)
+
+module _ (c : Settings) (required : Bool) (p : PointInfo) where
+  -- the direct entries one by one, then the indirect ones
+  pub fold-over-lists : (es : List Entry) (ts : List IndirectEntry) →
+      resultOf (indirectFold c p (directFold c required (pointView p) start es) ts) ≡ overLists c required p es ts
+  unfolding overLists
+  fold-over-lists es ts =
+      let dt = directTrail c required (pointView p) false es in
+      let it = indirectTrail c (pointView p) ts in
+      let w = indirectRecord c p (directRecord c (pointView p) none es) ts in
+      let j = directFold c required (pointView p) start es in
+      let f = directs-judged c required (pointView p) es none none none in
+      let g = indirects-judged c p ts j in
+      result-found
+      (lastOf dt)
+      (lastOf it)
+      w
+      (indirectFold c p j ts)
+      (record {
+        direct = g .direct ∙ (f .direct ∙ later-none (lastOf dt));
+        indirect = g .indirect ∙ (ap (λ (o : Option InvalidReason). laterOf o (lastOf it)) (f .indirect) ∙ later-none (lastOf it));
+        recorded = g .recorded ∙ ap (λ (o : Option InvalidDependency). indirectRecord c p o ts) (f .recorded);
+      })
+      ∙ ap (λ (o : Option InvalidReason). resultWith o w) (first-of-both dt it)
+
+-- ---- a list as it stands
+
+-- an entry is judged by what it is for
+abbrev pub listedStep : Option AnchorStageRole → Settings → Bool → PointInfo → Judging → Entry → Judging
+listedStep none c required p j e = directStep c required (pointView p) j e
+listedStep (some g) c required p j e = targetStep c p g j e
+
+-- over a list as it stands, direct and indirect entries mixed
+unfoldable pub listedFold : Settings → Bool → PointInfo → Judging → List Listed → Judging
+unfolding directStep indirectStep pointView
+listedFold c required p j [] = j
+listedFold c required p j (x ∷ l) = listedFold c required p (listedStep (x .aim) c required p j (x .entry)) l
+
+module _ (c : Settings) (required : Bool) (p : PointInfo) where
+  parted : (l : List Listed) (behind : Bool) (j : Judging) → inOrder behind l ≡ true →
+      listedFold c required p j l ≡ indirectFold c p (directFold c required (pointView p) j (directs l)) (indirects l)
+  unfolding listedFold inOrder directs indirects directFold indirectFold
+  parted [] behind j h = refl
+  parted (x ∷ l) behind j h = go (x .aim) (parted l) h
+    where
+      go : (aim : Option AnchorStageRole) →
+          ((next : Bool) (k : Judging) → inOrder next l ≡ true → listedFold c required p k l ≡ indirectFold c p (directFold c required (pointView p) k (directs l)) (indirects l)) →
+          (isInOrder behind aim && inOrder (isSome aim) l) ≡ true →
+          listedFold c required p (listedStep aim c required p j (x .entry)) l
+          ≡ indirectFold c p (directFold c required (pointView p) j (directThen aim (x .entry) (directs l))) (indirectThen aim (x .entry) (indirects l))
+      go none f k = f false (directStep c required (pointView p) j (x .entry)) (and-right (isInOrder behind none) (inOrder false l) k)
+      go (some g) f k =
+          let ordered : inOrder true l ≡ true = and-right (isInOrder behind (some g)) (inOrder true l) k in
+          let e : directs l ≡ [] = behind-target l ordered in
+          rw e (rw e at (f true (targetStep c p g j (x .entry)) ordered))
+
+  -- entries one by one as they stand in a list that was read
+  pub listed-parted : (n : ℕ) (behind : Bool) (s : List ℕ) (l : List Listed) (j : Judging) → listFrom n behind s ≡ some l →
+      listedFold c required p j l ≡ indirectFold c p (directFold c required (pointView p) j (directs l)) (indirects l)
+  listed-parted n behind s l j h = parted l behind j (in-order n behind s l h)
+
+  pub listed-over-lists : (n : ℕ) (behind : Bool) (s : List ℕ) (l : List Listed) → listFrom n behind s ≡ some l →
+      resultOf (listedFold c required p start l) ≡ overLists c required p (directs l) (indirects l)
+  listed-over-lists n behind s l h =
+      ap (λ (j : Judging). resultOf j) (listed-parted n behind s l start h) ∙ fold-over-lists c required p (directs l) (indirects l)

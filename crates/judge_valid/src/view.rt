@@ -1,0 +1,116 @@
+// What judging asks of the point and of a dependency.
+use map::Found;
+use point::AnchorStageRole;
+use point::PointId;
+use point::PointInfo;
+use point::PointRole;
+ghost use mathlib.Core.Path.{_≡_};
+ghost use mathlib.Core.Option.{some};
+ghost use Rattle.point.specs.Point.{top};
+ghost use Rattle.point.specs.Code.{pointIdOf, pointOf};
+ghost use Rattle.point.specs.Reading.{readPoint};
+ghost use Rattle.rules.specs.DagPoint.{linkIds, pointView, depView, linksIn, topIn};
+ghost use Rattle.judge_valid.specs.Code.{linkIdsOf, pointViewOf, depViewOf};
+
+// The target and the source of a link.
+pub struct LinkIds {
+    pub target: PointId,
+    pub source: PointId,
+}
+
+// Of the judged point.
+pub struct PointView {
+    pub id: PointId,
+    pub role: PointRole,
+    pub time: u64,
+    pub anchor_time: u64,
+    pub prev_digest: Found,
+    pub proof: LinkIds,
+    pub trigger: LinkIds,
+}
+
+// Of a dependency.
+pub struct DepView {
+    pub id: PointId,
+    pub role: PointRole,
+    pub time: u64,
+    pub anchor_time: u64,
+    pub proof_top: PointId,
+    pub trigger_top: PointId,
+}
+
+impl PointView {
+    pub fn links(self, role: AnchorStageRole) -> LinkIds
+        ensures { λ r. ⌜ linkIdsOf r ≡ linksIn role (pointViewOf self) ⌝ }
+    {
+        match role {
+            AnchorStageRole::Proof => self.proof,
+            AnchorStageRole::Trigger => self.trigger,
+        }
+    }
+}
+
+impl DepView {
+    pub fn top(self, role: AnchorStageRole) -> PointId
+        ensures { λ r. ⌜ pointIdOf r ≡ topIn role (depViewOf self) ⌝ }
+    {
+        match role {
+            AnchorStageRole::Proof => self.proof_top,
+            AnchorStageRole::Trigger => self.trigger_top,
+        }
+    }
+}
+
+fn link_ids(rec: &[u8], info: PointInfo, role: AnchorStageRole) -> LinkIds
+    requires { ⌜ readPoint (now rec) ≡ some (pointOf (now rec) info) ⌝ }
+    ensures { λ r. ⌜ linkIdsOf r ≡ linkIds role (pointOf (now (rec .entry)) info) ⌝ }
+{
+    let view = point::anchor(rec, info, role);
+    let target = view.target;
+    let source = view.source;
+    LinkIds { target, source }
+}
+
+// What judging asks of the point that it judges.
+pub fn point_view(rec: &[u8], info: PointInfo) -> PointView
+    requires { ⌜ readPoint (now rec) ≡ some (pointOf (now rec) info) ⌝ }
+    ensures { λ r. ⌜ pointViewOf r ≡ pointView (pointOf (now (rec .entry)) info) ⌝ }
+{
+    let id = info.id;
+    let role = info.role;
+    PointView {
+        id,
+        role,
+        time: info.time,
+        anchor_time: info.anchor_time,
+        prev_digest: point::prev_digest(rec, info),
+        proof: link_ids(rec, info, AnchorStageRole::Proof),
+        trigger: link_ids(rec, info, AnchorStageRole::Trigger),
+    }
+}
+
+// The point itself where it has the role, else its link's target.
+fn top(rec: &[u8], info: PointInfo, role: AnchorStageRole) -> PointId
+    requires { ⌜ readPoint (now rec) ≡ some (pointOf (now rec) info) ⌝ }
+    ensures { λ r. ⌜ pointIdOf r ≡ top role (pointOf (now (rec .entry)) info) ⌝ }
+{
+    let view = point::anchor(rec, info, role);
+    view.top
+}
+
+// What judging asks of a dependency.
+pub fn dep_view(rec: &[u8], info: PointInfo) -> DepView
+    requires { ⌜ readPoint (now rec) ≡ some (pointOf (now rec) info) ⌝ }
+    ensures { λ r. ⌜ depViewOf r ≡ depView (pointOf (now (rec .entry)) info) ⌝ }
+{
+    let id = info.id;
+    let role = info.role;
+    DepView {
+        id,
+        role,
+        time: info.time,
+        anchor_time: info.anchor_time,
+        proof_top: top(rec, info, AnchorStageRole::Proof),
+        trigger_top: top(rec, info, AnchorStageRole::Trigger),
+    }
+}

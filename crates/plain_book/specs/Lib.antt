@@ -1,5 +1,0 @@
-pub mod Kept
-pub mod Lists
-pub mod Offer
-pub mod Layout
-pub mod Calls

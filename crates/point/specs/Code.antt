@@ -1,0 +1,92 @@
+-- What the code's values stand for.
+use Prim.Native.Nat.{ℕ}
+use mathlib.Core.Option.{Option, none, some}
+use mathlib.Core.List.{List}
+use Rattle.parts.specs.Code.{number}
+use Rattle.map.specs.Rows.{peersOf, pairsOf}
+use Rattle.record.specs.Record.{contentOf}
+use Rattle.point.specs.Point.{PointId, Through, Includes, Witness, AnchorLink, Direct, Indirect, PointInfo, Sticky, AnchorView}
+use Rattle.point.specs.declared.data.PointRole.{PointRole}
+use Rattle.point.specs.declared.data.AnchorStageRole.{AnchorStageRole}
+use Rattle.point.specs.declared.data.AnchorStageRole.the-variants.{Proof, Trigger}
+use Rattle.point.specs.declared.info.PointId as code-id
+use Rattle.point.specs.declared.link.Through as code-through
+use Rattle.point.specs.declared.link.Through.the-variants as case-through
+use Rattle.point.specs.declared.link.AnchorLink as code-link
+use Rattle.point.specs.declared.link.AnchorLink.the-variants as case-link
+use Rattle.point.specs.declared.info.PointInfo as code-info
+use Rattle.point.specs.declared.info.AnchorView as code-view
+use Rattle.point.specs.declared.read.ReadThrough as code-read-through
+use Rattle.point.specs.declared.read.ReadThrough.the-variants as case-read-through
+use Rattle.point.specs.declared.read.ReadLink as code-read-link
+use Rattle.point.specs.declared.read.ReadLink.the-variants as case-read-link
+use Rattle.point.specs.declared.read.ReadRole as code-read-role
+use Rattle.point.specs.declared.read.ReadRole.the-variants as case-read-role
+use Rattle.point.specs.declared.read.ReadPoint as code-read-point
+use Rattle.point.specs.declared.read.ReadPoint.the-variants as case-read-point
+use Rattle.point.specs.declared.info.ThroughId as code-through-id
+use Rattle.point.specs.declared.info.ThroughId.the-variants as case-through-id
+use Rattle.point.specs.declared.info.StickyAnchors as code-sticky
+use Rattle.point.specs.declared.info.StickyAnchors.the-variants as case-sticky
+
+-- ---- what the code's values stand for
+
+abbrev pub pointIdOf : code-id.PointId → PointId
+pointIdOf i = record { round = i .round; digest = number (i .digest); author = number (i .author) }
+
+abbrev pub throughOf : code-through.Through → Through
+throughOf (case-through.Includes x) = Includes (number x)
+throughOf (case-through.Witness x) = Witness (number x)
+
+abbrev pub linkOf : code-link.AnchorLink → AnchorLink
+linkOf (case-link.Direct t) = Direct (throughOf t)
+linkOf (case-link.Indirect l) = Indirect (pointIdOf (l .to)) (throughOf (l .through))
+
+-- a point of the code has no maps: they are parts of its record
+abbrev pub pointOf : List ℕ → code-info.PointInfo → PointInfo
+pointOf s i =
+    record {
+      id = pointIdOf (i .id);
+      payloadLen = i .«payload_len»;
+      payloadBytes = i .«payload_bytes»;
+      includes = pairsOf (contentOf s 2);
+      witness = pairsOf (contentOf s 3);
+      evidence = peersOf 32 (contentOf s 4);
+      anchorProof = linkOf (i .«anchor_proof»);
+      anchorTrigger = linkOf (i .«anchor_trigger»);
+      role = i .role;
+      time = i .time;
+      anchorTime = i .«anchor_time»;
+    }
+
+-- the link of a role
+abbrev pub linkIn : AnchorStageRole → code-info.PointInfo → AnchorLink
+linkIn Proof i = linkOf (i .«anchor_proof»)
+linkIn Trigger i = linkOf (i .«anchor_trigger»)
+
+abbrev pub viewOf : code-view.AnchorView → AnchorView
+viewOf v = record { top = pointIdOf (v .top); target = pointIdOf (v .target); source = pointIdOf (v .source) }
+
+abbrev pub readThroughOf : code-read-through.ReadThrough → Option Through
+readThroughOf (case-read-through.Through t) = some (throughOf t)
+readThroughOf case-read-through.Unreadable = none
+
+abbrev pub readLinkOf : code-read-link.ReadLink → Option AnchorLink
+readLinkOf (case-read-link.Link l) = some (linkOf l)
+readLinkOf case-read-link.Unreadable = none
+
+abbrev pub readRoleOf : code-read-role.ReadRole → Option PointRole
+readRoleOf (case-read-role.Role r) = some r
+readRoleOf case-read-role.Unreadable = none
+
+abbrev pub readPointOf : List ℕ → code-read-point.ReadPoint → Option PointInfo
+readPointOf s (case-read-point.Point i) = some (pointOf s i)
+readPointOf s case-read-point.Unreadable = none
+
+abbrev pub throughIdOf : code-through-id.ThroughId → Option PointId
+throughIdOf (case-through-id.Id i) = some (pointIdOf i)
+throughIdOf case-through-id.Absent = none
+
+abbrev pub stickyOf : code-sticky.StickyAnchors → Option Sticky
+stickyOf (case-sticky.Sticky n l) = some (record { seqNo = n; isLast = l })
+stickyOf case-sticky.NoSticky = none

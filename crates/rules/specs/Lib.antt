@@ -1,0 +1,11 @@
+pub mod Verify
+pub mod DagPoint
+pub mod Validate
+pub mod Unknown
+pub mod CheckIllFormed
+pub mod List
+pub mod Mismatch
+pub mod Judge
+pub mod Answer
+pub mod Passed
+pub mod Edges

@@ -1,0 +1,320 @@
+-- Judging: check_valid, check_indirect_links, dependency, is_proof_ok and check_trigger_proof of verifier.rs. What an entry says
+-- against a point is the list of reasons that it sets, in the order of the source: the trail. A later reason replaces an
+-- earlier one, so the verdict's reason is the trail's last. Root causes are recorded apart from it.
+use Prim.Native.Nat.{ℕ, _+_, _-_}
+use mathlib.Core.Bool.{Bool, true, false, not, _&&_, _||_}
+use mathlib.Core.Option.{Option, none, some}
+use mathlib.Core.List.{List, [], _∷_, _++_}
+use lib.Dec.{leb, ltb, eqb}
+use Rattle.base.specs.Base.{pick, when, concat, lastOf, isEmpty}
+use Rattle.point.specs.Point.{PointId, Through, Includes, Witness, PointInfo, isAnchorProof, isAnchorTrigger, isAnchorStage, Sticky, stickyAnchors, through, anchorLink, sameId}
+use Rattle.point.specs.declared.data.AnchorStageRole.{AnchorStageRole}
+use Rattle.point.specs.declared.data.AnchorStageRole.the-variants.{Proof, Trigger}
+use Rattle.point.specs.declared.data.PointMap.the-variants as map
+use Rattle.point.specs.declared.data.PointRole.{PointRole}
+use Rattle.schedule.specs.Settings.{Settings}
+use Rattle.rules.specs.DagPoint.{DagPoint, Valid, TransInvalid, Invalid, IllFormed, NotFound, Dropped, Entry, IndirectEntry, entryId, isDropped, PointView, pointView, linksIn, DepView, depView, topIn}
+use Rattle.reasons.specs.Invalid.{InvalidReason, NoRoundInDag, DependencyRoundDropped, NotTrigger, TerminalTriggerBeforeLastProof, TimeNotGreaterThanInPrevPoint, AnchorProofDoesntInheritAnchorTime, AnchorTimeNotInheritedFromProof, MustHaveReferencedPrevPoint, MustHaveSkippedRound, DependencyTimeTooFarInFuture, NewerAnchorInDependency, AnchorLink, AnchorLinkRole, AnchorLinkBadPath, BadStickySequence, TriggerProofMismatch, DepIllFormed, DepNotFound, hasDagRound, InvalidDependency}
+use Rattle.reasons.specs.Verdict as verdict
+
+-- ---- is_proof_ok: of the previous point q, the first reason alone
+
+-- "Some((_, false)) = proven.sticky_anchors()": a proof that is not its sequence's last
+abbrev pub isOpen : Option Sticky → Bool
+isOpen none = false
+isOpen (some k) = not (k .isLast)
+
+-- is_proof_ok returns at its first reason
+abbrev pub firstOnly : List InvalidReason → List InvalidReason
+firstOnly [] = []
+firstOnly (x ∷ l) = x ∷ []
+
+-- after a proof stands a trigger, and no terminal one before the sequence's last; neither is asked where regular points are
+-- required
+abbrev pub notTrigger : Bool → PointRole → PointRole → Bool
+notTrigger required own proven = not required && (isAnchorProof proven && not (isAnchorTrigger own))
+
+abbrev pub endsTooSoon : Bool → PointRole → PointRole → Bool
+endsTooSoon required own proven =
+    not required && (isAnchorProof proven && (not (isAnchorProof own) && isOpen (stickyAnchors proven)))
+
+unfoldable pub proofRow : Bool → PointView → DepView → List InvalidReason
+unfolding concat
+proofRow required p q =
+    firstOnly (concat
+    (when (notTrigger required (p .role) (q .role)) (NotTrigger (q .id))
+    ∷ when (endsTooSoon required (p .role) (q .role)) (TerminalTriggerBeforeLastProof (q .id))
+    ∷ when (leb (p .time) (q .time)) (TimeNotGreaterThanInPrevPoint (q .id))
+    ∷ when (isAnchorProof (p .role) && not (eqb (p .anchorTime) (q .time))) (AnchorProofDoesntInheritAnchorTime (q .id))
+    ∷ []))
+
+-- ---- check_trigger_proof
+
+unfoldable pub triggerProofRow : PointView → DepView → Bool → List InvalidReason
+unfolding sameId
+triggerProofRow p q isTarget =
+    when (leb (linksIn Proof p .target .round) (topIn Proof q .round) && not (sameId (linksIn Proof p .target) (topIn Proof q)))
+    (TriggerProofMismatch (q .id) isTarget)
+
+-- ---- check_valid, of a dependency q whose point is at hand
+
+-- "max_allowed_dep_time"
+unfoldable pub timeRow : Settings → PointView → DepView → List InvalidReason
+timeRow c p q = when (ltb (p .time + c .clockSkewMillis) (q .time)) (DependencyTimeTooFarInFuture (q .id))
+
+-- the dependency's top has a greater round than the link's target
+unfoldable pub newerRow : AnchorStageRole → PointView → DepView → List InvalidReason
+newerRow g p q = when (ltb (linksIn g p .target .round) (topIn g q .round)) (NewerAnchorInDependency g (q .id))
+
+abbrev pub seqNo : Option Sticky → Option ℕ
+seqNo none = none
+seqNo (some k) = some (k .seqNo)
+
+-- "seq_no.checked_add(1)" is n: of 255 that is None, and here it is 256, which no seq_no n is
+abbrev pub follows : Option ℕ → ℕ → Bool
+follows none n = false
+follows (some m) n = eqb (m + 1) n
+
+-- is_sticky_sequence_ok, of a proof with a sequence number above 0: it is within the limit and follows the target's
+unfoldable pub stickyRow : Settings → DepView → Option Sticky → List InvalidReason
+stickyRow c q none = []
+stickyRow c q (some k) =
+    when (ltb 0 (k .seqNo) && not (leb (k .seqNo) (c .stickyAnchors) && follows (seqNo (stickyAnchors (q .role))) (k .seqNo)))
+    (BadStickySequence (q .id) (seqNo (stickyAnchors (q .role))) (k .seqNo))
+
+-- of a link's target that has the role
+unfoldable pub reachedRow : Settings → AnchorStageRole → PointView → DepView → List InvalidReason
+unfolding stickyRow triggerProofRow
+reachedRow c Proof p q = stickyRow c q (stickyAnchors (p .role))
+reachedRow c Trigger p q = triggerProofRow p q true
+
+-- of a link's target: it must have the link's role (is_anchor_stage)
+unfoldable pub targetRow : Settings → AnchorStageRole → PointView → DepView → List InvalidReason
+unfolding sameId reachedRow
+targetRow c g p q =
+    pick (sameId (q .id) (linksIn g p .target))
+    (pick (isAnchorStage g (q .role)) (reachedRow c g p q) (AnchorLink g (q .id) ∷ []))
+    []
+
+-- "exclusion: anchor proof inherits time from candidate": any other point has the anchor time of what its proof link leads to
+unfoldable pub anchorTimeRow : PointView → DepView → List InvalidReason
+anchorTimeRow p q =
+    when (not (isAnchorProof (p .role)) && not (eqb (q .anchorTime) (p .anchorTime))) (AnchorTimeNotInheritedFromProof (q .id))
+
+-- of a link's source: what the link carries on
+unfoldable pub carriedRow : AnchorStageRole → PointView → DepView → List InvalidReason
+unfolding anchorTimeRow sameId triggerProofRow
+carriedRow Proof p q = anchorTimeRow p q
+carriedRow Trigger p q = pick (sameId (q .id) (linksIn Trigger p .target)) [] (triggerProofRow p q false)
+
+-- of a link's source: its top is the link's target
+unfoldable pub sourceRow : AnchorStageRole → PointView → DepView → List InvalidReason
+unfolding sameId carriedRow
+sourceRow g p q =
+    pick (sameId (q .id) (linksIn g p .source))
+    (when (not (sameId (topIn g q) (linksIn g p .target))) (AnchorLinkBadPath g (q .id)) ++ carriedRow g p q)
+    []
+
+-- of a dependency that is a link's target or source
+unfoldable pub anchorRows : Settings → PointView → DepView → List (List InvalidReason)
+unfolding targetRow sourceRow
+anchorRows c p q =
+    targetRow c Proof p q
+    ∷ targetRow c Trigger p q
+    ∷ sourceRow Proof p q
+    ∷ sourceRow Trigger p q
+    ∷ []
+
+-- the rows of one dependency, in the source's order
+unfoldable pub pointRows : Settings → Bool → Bool → PointView → DepView → List (List InvalidReason)
+unfolding concat proofRow timeRow newerRow anchorRows
+pointRows c required isPrevPoint p q =
+    pick isPrevPoint (proofRow required p q) []
+    ∷ timeRow c p q
+    ∷ newerRow Proof p q
+    ∷ newerRow Trigger p q
+    ∷ concat (anchorRows c p q)
+    ∷ []
+
+-- ---- check_valid, of one direct entry
+
+-- how an entry is taken: a dependency, the previous point, a version of the author's point at r-1 where none is referenced,
+-- or not at all
+pub data Taken : Type 0 where
+  asDependency : Taken
+  asPrevPoint : Taken
+  asVersion : Taken
+  aside : Taken
+
+abbrev pub takenOwn : PointId → Option ℕ → Taken
+takenOwn i none = asVersion
+takenOwn i (some d) = pick (eqb d (i .digest)) asPrevPoint aside
+
+unfoldable pub taken : PointView → PointId → Taken
+taken p i =
+    pick (eqb (i .round) (p .id .round - 1) && eqb (i .author) (p .id .author)) (takenOwn i (p .prevDigest)) asDependency
+
+unfoldable pub dependencyTrail : Settings → Bool → Bool → PointView → DagPoint → List InvalidReason
+unfolding concat pointRows depView
+dependencyTrail c required isPrevPoint p (Valid q) = concat (pointRows c required isPrevPoint p (depView q))
+dependencyTrail c required isPrevPoint p (TransInvalid q root n) = concat (pointRows c required isPrevPoint p (depView q))
+dependencyTrail c required isPrevPoint p (Invalid q n) = concat (pointRows c required isPrevPoint p (depView q))
+dependencyTrail c required isPrevPoint p (IllFormed i n) = DepIllFormed i n ∷ []
+dependencyTrail c required isPrevPoint p (NotFound i) = DepNotFound i ∷ []
+dependencyTrail c required isPrevPoint p Dropped = []
+
+-- a version that is first valid, or not found but certified, had to be referenced; a trans-invalid, invalid or ill-formed one had
+-- to be skipped; any other gives nothing. Versions give 9 or 10 and nothing else
+abbrev pub versionTrail : Entry → DagPoint → List InvalidReason
+versionTrail e (Valid q) = when (e .firstValid) (MustHaveReferencedPrevPoint (q .id))
+versionTrail e (TransInvalid q root n) = MustHaveSkippedRound (q .id) ∷ []
+versionTrail e (Invalid q n) = MustHaveSkippedRound (q .id) ∷ []
+versionTrail e (IllFormed i n) = MustHaveSkippedRound i ∷ []
+versionTrail e (NotFound i) = when (e .certified) (MustHaveReferencedPrevPoint i)
+versionTrail e Dropped = []
+
+abbrev pub entryTrailAs : Settings → Bool → PointView → Taken → Entry → List InvalidReason
+entryTrailAs c required p asDependency e = dependencyTrail c required false p (e .state)
+entryTrailAs c required p asPrevPoint e = dependencyTrail c required true p (e .state)
+entryTrailAs c required p asVersion e = versionTrail e (e .state)
+entryTrailAs c required p aside e = []
+
+unfoldable pub entryTrail : Settings → Bool → PointView → Entry → List InvalidReason
+unfolding dependencyTrail taken
+entryTrail c required p e = entryTrailAs c required p (taken p (entryId (e .state))) e
+
+-- the direct list: "A dropped entry ends the direct list and sets its reason only if none is set"; `set` says that one is
+unfoldable pub directTrail : Settings → Bool → PointView → Bool → List Entry → List InvalidReason
+unfolding entryTrail
+directTrail c required p set [] = []
+directTrail c required p set (e ∷ l) =
+    pick (isDropped (e .state))
+    (when (not set) DependencyRoundDropped)
+    (entryTrail c required p e ++ directTrail c required p (set || not (isEmpty (entryTrail c required p e))) l)
+
+-- ---- check_indirect_links
+
+-- of an indirect link's target that has the role: the anchor time of a proof, check_trigger_proof of a trigger
+abbrev pub indirectRow : AnchorStageRole → PointView → DepView → List InvalidReason
+indirectRow Proof p q = anchorTimeRow p q
+indirectRow Trigger p q = triggerProofRow p q true
+
+unfoldable pub indirectPointRows : Settings → AnchorStageRole → PointView → DepView → List (List InvalidReason)
+unfolding timeRow anchorTimeRow triggerProofRow
+indirectPointRows c g p q =
+    timeRow c p q
+    ∷ pick (isAnchorStage g (q .role)) (indirectRow g p q) (AnchorLinkRole g (q .id) ∷ [])
+    ∷ []
+
+unfoldable pub indirectEntryTrail : Settings → AnchorStageRole → PointView → DagPoint → List InvalidReason
+unfolding concat indirectPointRows depView
+indirectEntryTrail c g p (Valid q) = concat (indirectPointRows c g p (depView q))
+indirectEntryTrail c g p (TransInvalid q root n) = concat (indirectPointRows c g p (depView q))
+indirectEntryTrail c g p (Invalid q n) = concat (indirectPointRows c g p (depView q))
+indirectEntryTrail c g p (IllFormed i n) = DepIllFormed i n ∷ []
+indirectEntryTrail c g p (NotFound i) = DepNotFound i ∷ []
+indirectEntryTrail c g p Dropped = []
+
+-- "dropped ones are skipped"
+unfoldable pub indirectTrail : Settings → PointView → List IndirectEntry → List InvalidReason
+unfolding indirectEntryTrail
+indirectTrail c p [] = []
+indirectTrail c p (a ∷ l) = indirectEntryTrail c (a .role) p (a .entry .state) ++ indirectTrail c p l
+
+-- ---- dependency: what is recorded
+
+-- what an entry would have recorded, reached through t from a point of a round. The window is of trans-invalid entries alone:
+-- "while r−1 is less than the root's round plus commit_history_rounds".
+unfoldable pub recordOf : Settings → ℕ → Bool → Through → DagPoint → Option InvalidDependency
+recordOf c round certified t (Valid q) = none
+recordOf c round certified t (TransInvalid q root n) =
+    pick (certified || leb (root .round + c .commitHistoryRounds) (round - 1))
+    none
+    (some (record { to = root; reason = n; through = t }))
+recordOf c round certified t (Invalid q n) = pick certified none (some (record { to = q .id; reason = n; through = t }))
+recordOf c round certified t (IllFormed i n) = none
+recordOf c round certified t (NotFound i) = none
+recordOf c round certified t Dropped = none
+
+-- "A new one replaces the old if its round is greater, or equal and only the new reason has a DAG round"
+unfoldable pub isNewer : InvalidDependency → InvalidDependency → Bool
+isNewer old new =
+    ltb (old .to .round) (new .to .round)
+    || (eqb (old .to .round) (new .to .round) && (not (hasDagRound (old .reason)) && hasDagRound (new .reason)))
+
+unfoldable pub join : Option InvalidDependency → Option InvalidDependency → Option InvalidDependency
+unfolding isNewer
+join none new = new
+join (some old) none = some old
+join (some old) (some new) = pick (isNewer old new) (some new) (some old)
+
+-- a direct entry came through its author's place: includes at r-1, else witness
+abbrev pub directThrough : ℕ → PointId → Through
+directThrough round i = pick (eqb (i .round) (round - 1)) (Includes (i .author)) (Witness (i .author))
+
+abbrev pub recordAs : Settings → ℕ → Taken → Entry → Option InvalidDependency
+recordAs c round asDependency e = recordOf c round (e .certified) (directThrough round (entryId (e .state))) (e .state)
+recordAs c round asPrevPoint e = recordOf c round (e .certified) (directThrough round (entryId (e .state))) (e .state)
+recordAs c round asVersion e = none
+recordAs c round aside e = none
+
+unfoldable pub entryRecord : Settings → PointView → Entry → Option InvalidDependency
+unfolding taken recordOf
+entryRecord c p e = recordAs c (p .id .round) (taken p (entryId (e .state))) e
+
+unfoldable pub directRecord : Settings → PointView → Option InvalidDependency → List Entry → Option InvalidDependency
+unfolding join entryRecord
+directRecord c p old [] = old
+directRecord c p old (e ∷ l) = pick (isDropped (e .state)) old (directRecord c p (join old (entryRecord c p e)) l)
+
+-- an indirect entry came through its link's map and peer
+unfoldable pub indirectRecord : Settings → PointInfo → Option InvalidDependency → List IndirectEntry → Option InvalidDependency
+unfolding join recordOf
+indirectRecord c p old [] = old
+indirectRecord c p old (a ∷ l) =
+    indirectRecord c p (join old (recordOf c (p .id .round) (a .entry .certified) (through (anchorLink (a .role) p)) (a .entry .state))) l
+
+-- ---- validate
+
+pub data ValidateResult : Type 0 where
+  isInvalid : InvalidReason → ValidateResult
+  isTransInvalid : InvalidDependency → ValidateResult
+  isValid : ValidateResult
+
+abbrev pub ofResult : ValidateResult → verdict.Verdict
+ofResult (isInvalid r) = verdict.Invalid r
+ofResult (isTransInvalid d) = verdict.TransInvalid d
+ofResult isValid = verdict.Valid
+
+abbrev pub resultWith : Option InvalidReason → Option InvalidDependency → ValidateResult
+resultWith (some reason) d = isInvalid reason
+resultWith none (some d) = isTransInvalid d
+resultWith none none = isValid
+
+-- "Indirect entries are judged only if the direct ones gave no reason"; "Invalid wins over a record"
+unfoldable pub overLists : Settings → Bool → PointInfo → List Entry → List IndirectEntry → ValidateResult
+unfolding lastOf directTrail indirectTrail directRecord indirectRecord pointView
+overLists c required p es ts =
+    resultWith
+    (lastOf
+    (pick (isEmpty (directTrail c required (pointView p) false es)) (indirectTrail c (pointView p) ts)
+    (directTrail c required (pointView p) false es)))
+    (indirectRecord c p (directRecord c (pointView p) none es) ts)
+
+-- "Presence 0 and 1 give `NoRoundInDag` of evidence and of includes, the list unread. With presence 2, .. a non-empty witness
+-- gives `NoRoundInDag(Witness)` before any other reason."
+unfoldable pub presenceReason : ℕ → PointInfo → Option InvalidReason
+presenceReason n p =
+    pick (eqb n 0) (some (NoRoundInDag map.Evidence))
+    (pick (eqb n 1) (some (NoRoundInDag map.Includes))
+    (pick (eqb n 2 && not (isEmpty (p .witness))) (some (NoRoundInDag map.Witness)) none))
+
+abbrev pub validateWith : Option InvalidReason → ValidateResult → ValidateResult
+validateWith (some reason) result = isInvalid reason
+validateWith none result = result
+
+-- Verifier::validate of a point above genesis, past check_ill_formed: regular points required or not, how many rounds are present, the
+-- two lists
+unfoldable pub validate : Settings → Bool → ℕ → PointInfo → List Entry → List IndirectEntry → ValidateResult
+unfolding presenceReason overLists
+validate c required presence p es ts = validateWith (presenceReason presence p) (overLists c required p es ts)

@@ -1,0 +1,3 @@
+pub mod Tally
+pub mod Printed
+pub mod Code

@@ -1,4 +1,0 @@
-pub mod Verify
-pub mod Found
-pub mod DagPoint
-pub mod Validate

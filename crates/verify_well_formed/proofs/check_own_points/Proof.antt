@@ -1,0 +1,145 @@
+-- `check_own_points` meets its contract: after each test, what is left of the table.
+use Prim.Native.Nat.{ℕ}
+use native.Mathlib.Omega.{arith}
+use mathlib.Core.Path.{_≡_, ap, sym, _∙_}
+use mathlib.Core.Bool.{Bool, not, _&&_}
+use mathlib.Core.List.{List}
+use lib.ListN.{drop}
+use lib.Dec.{eqb}
+use denote.Ref.{now}
+use Rattle.base.specs.Base.{concat, firstOf, isSome, isEmpty}
+use Rattle.base.proofs.Tables.{row-here, row-behind, last-test}
+use Rattle.base.proofs.Lists.{empty-length}
+use Rattle.map.specs.Rows.{has, peers, rising}
+use Rattle.map.proofs.Laws.{peers-pairsOf}
+use Rattle.point.specs.Point.{PointInfo, prevDigest, requiresPrevPoint}
+use Rattle.point.specs.Code.{pointOf}
+use Rattle.point.proofs.Laws.{readable}
+use Rattle.rules.specs.Verify.{equal, ownPointRows}
+use borrow.Author.Needs.{needs}
+use Rattle.verify_well_formed.proofs.check_own_points.Statement.{statement}
+use Rattle.verify_well_formed.proofs.check_own_points.Tie as tie
+
+abbrev start : tie.After-is-found → tie.Start
+start c = c .before .before .before .before .before .before .before
+
+abbrev point : tie.Start → PointInfo
+point c = pointOf (now (c .args .rec)) (c .args .info)
+
+-- what each test told of the point
+prev : (c : tie.After-is-found) → c .is-found .result ≡ isSome (prevDigest (point (start c)))
+prev c = c .is-found .ensures ∙ ap isSome (c .before .prev-digest .ensures)
+
+lacks : (c : tie.After-lacks-prev-point) →
+    let p = point (start (c .before)) in
+    (requiresPrevPoint (p .role) && not (isSome (prevDigest p))) ≡ c .lacks-prev-point .result
+lacks c =
+    let p = point (start (c .before)) in
+    sym (c .lacks-prev-point .ensures ∙ ap (λ (b : Bool). requiresPrevPoint (p .role) && not b) (prev (c .before)))
+
+unequal : (c : tie.After-equal) →
+    let p = point (start (c .before .before .before .before)) in
+    equal (isEmpty (p .evidence)) (isSome (prevDigest p)) ≡ c .equal .result
+unequal c =
+    let f = c .before .before .before .before in
+    let b = start f in
+    let p = point b in
+    let empty : eqb (c .before .count .result) 0 ≡ isEmpty (p .evidence) = rw (c .before .count .ensures, b .pre .1 .2) (sym (empty-length (p .evidence))) in
+    sym (c .equal .ensures ∙ (ap (λ (b : Bool). equal b (f .is-found .result)) empty ∙ ap (equal (isEmpty (p .evidence))) (prev f)))
+
+among-evidence : (c : tie.After-contains) →
+    let p = point (start (c .before .before .before .before .before .before)) in
+    has (p .evidence) (p .id .author) ≡ c .contains .result
+among-evidence c =
+    let b = start (c .before .before .before .before .before .before) in
+    let p = point b in
+    sym (c .contains .ensures ∙ ap (λ (l : List ℕ). has l (p .id .author)) (b .pre .1 .2))
+
+among-witness : (c : tie.After-contains2) →
+    let p = point (start (c .before .before .before .before .before .before .before .before)) in
+    has (peers (p .witness)) (p .id .author) ≡ c .contains2 .result
+among-witness c =
+    let b = start (c .before .before .before .before .before .before .before .before) in
+    let p = point b in
+    sym (c .contains2 .ensures ∙ ap (λ (l : List ℕ). has l (p .id .author)) (sym (peers-pairsOf (now (b .args .witness))) ∙ ap peers (b .pre .1 .1)))
+
+-- what is left of the table
+has-prev : (c : tie.Else1) →
+    let p = point (start (c .before .before)) in
+    firstOf (concat (ownPointRows p)) ≡ firstOf (concat (drop 1 (ownPointRows p)))
+unfolding ownPointRows
+has-prev c = row-behind _ _ _ (lacks (c .before) ∙ c .if1 .left)
+
+proven : (c : tie.Else2) →
+    let p = point (start (c .before .before .before .before .before)) in
+    firstOf (concat (ownPointRows p)) ≡ firstOf (concat (drop 2 (ownPointRows p)))
+unfolding ownPointRows
+proven c = has-prev (c .before .before .before) ∙ row-behind _ _ _ (unequal (c .before) ∙ c .if2 .left)
+
+not-evidence : (c : tie.Else3) →
+    let p = point (start (c .before .before .before .before .before .before .before)) in
+    firstOf (concat (ownPointRows p)) ≡ firstOf (concat (drop 3 (ownPointRows p)))
+unfolding ownPointRows
+not-evidence c = proven (c .before .before) ∙ row-behind _ _ _ (among-evidence (c .before) ∙ c .if3 .left)
+
+prev-digest-requires : tie.Need-prev-digest-requires
+prev-digest-requires c κs = search needs
+
+is-found-requires : tie.Need-is-found-requires
+is-found-requires c κs = search needs
+
+lacks-prev-point-requires : tie.Need-lacks-prev-point-requires
+lacks-prev-point-requires c κs = search needs
+
+returns : tie.Need-returns
+unfolding ownPointRows
+returns c = sym (row-here _ _ _ (lacks (c .before) ∙ c .if1 .taken))
+
+count-requires : tie.Need-count-requires
+count-requires c κs = search needs
+
+equal-requires : tie.Need-equal-requires
+equal-requires c κs = search needs
+
+returns-2 : tie.Need-returns-2
+unfolding ownPointRows
+returns-2 c = sym (has-prev (c .before .before .before) ∙ row-here _ _ _ (unequal (c .before) ∙ c .if2 .taken))
+
+contains-requires : tie.Need-contains-requires
+contains-requires c κs =
+    let b = start (c .before .before .before .before .before) in
+    (omega arith, ap rising (b .pre .1 .2) ∙ readable _ _ (b .pre .0) .evidence .rise)
+
+returns-3 : tie.Need-returns-3
+unfolding ownPointRows
+returns-3 c = sym (proven (c .before .before) ∙ row-here _ _ _ (among-evidence (c .before) ∙ c .if3 .taken))
+
+contains-requires-2 : tie.Need-contains-requires-2
+contains-requires-2 c κs =
+    let b = start (c .before .before .before .before .before .before .before) in
+    (omega arith, ap rising (sym (peers-pairsOf (now (b .args .witness))) ∙ ap peers (b .pre .1 .1)) ∙ readable _ _ (b .pre .0) .witness .rise)
+
+returns-4 : tie.Need-returns-4
+unfolding ownPointRows
+returns-4 c = sym (not-evidence (c .before .before) ∙ row-here _ _ _ (among-witness (c .before) ∙ c .if4 .taken))
+
+returns-5 : tie.Need-returns-5
+unfolding ownPointRows
+returns-5 c = sym (not-evidence (c .before .before) ∙ last-test _ _ (among-witness (c .before) ∙ c .if4 .left))
+
+pub check-own-points-spec : {M : Type 1} → statement M
+check-own-points-spec =
+    tie.close
+    (tie.spec
+    prev-digest-requires
+    is-found-requires
+    lacks-prev-point-requires
+    returns
+    count-requires
+    equal-requires
+    returns-2
+    contains-requires
+    returns-3
+    contains-requires-2
+    returns-4
+    returns-5)
