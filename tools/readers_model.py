@@ -1,8 +1,8 @@
 #!/usr/bin/env python3
 """readers_model.py FILE: what the program `readers` prints of FILE, by a model of its own.
 
-Written from document 01 (records, settings, schedules), docs/DECISIONS.md and data.rs, link.rs and info.rs, and not
-from the Rattle code. It also holds what it reads to the numbers 1, 2 and 3 of the cases' own answers.
+Written from document 01 (records, settings, schedules), docs/READINGS.md and data.rs, link.rs and info.rs, and not
+from the Rattle code. It also checks what it reads against the numbers 1, 2 and 3 of the cases' own answers.
 The sums say in which order what was read is mixed; that order alone is agreed on with the program.
 """
 import functools

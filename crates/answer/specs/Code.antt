@@ -6,8 +6,6 @@ use Rattle.point.specs.declared.data.PointMap.the-variants as map
 use Rattle.answer.specs.declared.Values as code-values
 use Rattle.answer.specs.declared.Answer as code
 
--- ---- what the code's values stand for
-
 abbrev pub valuesOf : code-values.Values → Values
 valuesOf v = values (v .map) (v .role) (v .first) (v .second) (v .unknown)
 

@@ -1,4 +1,4 @@
--- The two calls, on bytes: opening and offering.
+-- The two calls, on bytes: opening and offering; and a list of offers, one after the other.
 use Prim.Native.Nat.{ℕ, zero, suc, _≤_}
 use mathlib.Core.Logic.{_⊎_}
 use mathlib.Core.Bool.{_||_}

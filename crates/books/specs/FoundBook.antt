@@ -1,5 +1,5 @@
 -- The statement on found books: one claim about every list of offers since the opening. What is quoted is the
--- demand as docs/GUIDE.md paraphrases it.
+-- demand in the words of docs/GUIDE.md.
 use Prim.Native.Nat.{ℕ, _-_, _≤_, _<_}
 use mathlib.Core.Path.{_≡_}
 use mathlib.Core.Bool.{Bool, true, false, not, _&&_, _||_}

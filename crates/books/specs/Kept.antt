@@ -1,4 +1,4 @@
--- The plain book (document 01, "The book"): a list of entries, and the rule for marks.
+-- The plain book (document 01, "The book"): a list of entries, and what a mark does to one; Offer.antt says when it is made.
 use Prim.Native.Nat.{ℕ}
 use mathlib.Core.Bool.{Bool, false, _||_}
 use mathlib.Core.Option.{Option, none, some}

@@ -7,8 +7,6 @@ use Rattle.judge.specs.declared.before.JudgeAnswer.the-variants as case-
 use Rattle.judge.specs.declared.before.Before as code-before
 use Rattle.judge.specs.declared.before.Before.the-variants as case-before
 
--- ---- what the code's values stand for
-
 abbrev pub judgeAnswerOf : code-answer.JudgeAnswer → JudgeAnswer
 judgeAnswerOf (case-answer.Number n) = Number n
 judgeAnswerOf (case-answer.Verdict v) = Given (verdictOf v)

@@ -24,8 +24,6 @@ use Rattle.judge_entries.specs.declared.Listed as code-listed
 use Rattle.judge_entries.specs.declared.ReadListed as code-read-listed
 use Rattle.judge_entries.specs.declared.ReadListed.the-variants as case-read-listed
 
--- ---- what the code's values stand for
-
 -- of an entry's record, which stands apart
 abbrev pub dagPointOf : List ℕ → code-point.DagPoint → DagPoint
 dagPointOf s (case-point.Valid i) = Valid (pointOf s i)

@@ -102,8 +102,6 @@ walkWith c required p w (some l) = some (walkFold c required p w l)
 abbrev pub walkStart : Walk
 walkStart = record { judging = start; uncovered = false }
 
--- ---- what the code's values stand for
-
 abbrev pub viewedOf : code-view.PointView → code-info.PointInfo → Viewed
 viewedOf p i =
     record {

@@ -7,8 +7,6 @@ use Rattle.map.specs.declared.Position.the-variants.{At, Absent}
 use Rattle.map.specs.declared.Found.{Found}
 use Rattle.map.specs.declared.Found.the-variants as found
 
--- ---- what the code's answers stand for
-
 abbrev pub positionOf : Position → Option ℕ
 positionOf (At i) = some i
 positionOf Absent = none

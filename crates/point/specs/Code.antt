@@ -29,8 +29,6 @@ use Rattle.point.specs.declared.info.ThroughId.the-variants as case-thro
 use Rattle.point.specs.declared.info.StickyAnchors as code-sticky
 use Rattle.point.specs.declared.info.StickyAnchors.the-variants as case-sticky
 
--- ---- what the code's values stand for
-
 abbrev pub pointIdOf : code-id.PointId → PointId
 pointIdOf i = record { round = i .round; digest = number (i .digest); author = number (i .author) }
 

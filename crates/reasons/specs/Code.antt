@@ -21,8 +21,6 @@ use Rattle.reasons.specs.declared.ill_formed.Verified.the-variants.{Pass
 use Rattle.reasons.specs.declared.ill_formed.Checked.{Checked}
 use Rattle.reasons.specs.declared.ill_formed.Checked.the-variants.{Sound, Issue}
 
--- ---- what the code's values stand for
-
 abbrev pub prevSeqNoOf : code-seq.PrevSeqNo → Option ℕ
 prevSeqNoOf (case-seq.SeqNo n) = some n
 prevSeqNoOf case-seq.NoSeqNo = none

@@ -219,6 +219,8 @@ unfoldable pub answerBytes : Answer → List ℕ
 unfolding headBytes numberBytes rootBytes
 answerBytes a = headBytes a ++ numberBytes a ++ rootBytes a
 
+-- ---- what the C calls return and leave in the answer: document 01's number, or 0 for a verdict; with a number no byte changes
+
 abbrev pub verifyNumber : VerifyAnswer → ℕ
 verifyNumber (Number n) = n
 verifyNumber (Verdict v) = 0

@@ -27,6 +27,8 @@ use Rattle.rules.specs.Mismatch.{mismatch, uncovered}
 use Rattle.reasons.specs.declared.ill_formed.VerifyError.the-variants as case-error
 use Rattle.reasons.specs.declared.ill_formed.WaveChecked.the-variants as case-wave
 
+-- ---- the numbers 1 to 5
+
 -- what a call that read its input goes on with
 pub record Input : Type 0 where
   pub settings : Settings
@@ -52,6 +54,8 @@ unfoldable pub tested : List ℕ → List ℕ → List ℕ → Bool → ℕ → 
 unfolding readSettings readSchedule readPoint inDomain
 tested settings schedule rec others size = testedWith (readSettings settings) (readSchedule schedule) (readPoint rec) others size
 
+-- ---- the call `verify`
+
 abbrev pub verifiedFrom : Option VerifyError → Verified
 verifiedFrom none = Passed
 verifiedFrom (some e) = Failed e
@@ -60,10 +64,13 @@ abbrev pub verifyWith : Tested → VerifyAnswer
 verifyWith (refused n) = case-verify.Number n
 verifyWith (admitted i) = case-verify.Verdict (verifiedFrom (verify (i .settings) (i .schedule) (i .point)))
 
+-- what the peer buffer holds after verifying, and after judging too
 abbrev pub verifyBuffer : Tested → List ℕ → List ℕ
 verifyBuffer (refused n) buffer = buffer
 verifyBuffer (admitted i) buffer =
     bufferWith (scheduled (i .settings) (i .schedule) (i .point)) (i .point) (verify (i .settings) (i .schedule) (i .point)) buffer
+
+-- ---- the call `judge`
 
 -- a number of document 01 in place of a verdict, or the verdict
 pub data JudgeAnswer : Type 0 where

@@ -1,10 +1,10 @@
-pub mod Verify
-pub mod DagPoint
-pub mod Validate
 pub mod Unknown
+pub mod Verify
 pub mod CheckIllFormed
+pub mod DagPoint
 pub mod List
 pub mod Mismatch
+pub mod Validate
 pub mod Judge
 pub mod Answer
 pub mod Passed

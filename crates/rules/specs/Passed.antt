@@ -1,4 +1,4 @@
--- That no check gave a reason: every row of every entry is empty. The law `trail-all` in proofs/Laws.antt says this of a verdict
+-- That no check gave a reason: every row of every entry is empty. The law `trail-all` in proofs/Passed.antt says this of a verdict
 -- over lists that is Valid or TransInvalid.
 use mathlib.Core.Path.{_≡_}
 use mathlib.Core.Bool.{Bool, true, false}

@@ -24,8 +24,6 @@ use Rattle.schedule.specs.declared.schedule.SpanIndex.the-variants as ca
 use Rattle.schedule.specs.declared.schedule.RequireRegularPoints as code-require
 use Rattle.schedule.specs.declared.schedule.RequireRegularPoints.the-variants as case-require
 
--- ---- what the code's values stand for
-
 abbrev pub settingsOf : code-settings.Settings → Settings
 settingsOf c =
     record {

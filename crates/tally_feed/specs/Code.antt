@@ -9,8 +9,6 @@ use Rattle.tally_feed.specs.declared.front.Front.the-variants as case-fr
 use Rattle.tally_feed.specs.declared.next.Next as code-next
 use Rattle.tally_feed.specs.declared.next.Next.the-variants as case-next
 
--- ---- what the code's answers stand for
-
 abbrev pub nextOf : Step → code-next.Next
 nextOf over = case-next.Over
 nextOf (last l r) = case-next.Last l

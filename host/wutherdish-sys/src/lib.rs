@@ -33,7 +33,7 @@ unsafe extern "C" {
         answer: *mut [u8; ANSWER],
     ) -> u8;
 
-    /// Judges a point by a list of its dependencies.
+    /// Judges a point by a list.
     ///
     /// # Safety
     ///

@@ -92,7 +92,7 @@ impl Display for Refusal {
                 "the slice to open a book in has under 47 or over 16777216 bytes, or a lent peer buffer under 8160"
             }
             Self::Horizon => "the point's round or the fourth after it is in no span of the schedule",
-            Self::Entries => "the list of dependencies can't be read, or a point in it is outside the domain",
+            Self::Entries => "the list can't be read, or a point in it is outside the domain",
             Self::Mismatch => "the list has an entry that is not the point's, or one twice, or lacks dependencies",
             Self::Uncovered => "the list has the point's previous point without a certificate",
             Self::Book => "the bytes are no book",

@@ -143,7 +143,7 @@ fn kept_features(book: &Book, point: &Point, features: &mut Vec<&'static str>) {
         features.push("kept: a second genesis point");
     }
     if before.iter().any(|entry| entry.id.round > point.id.round) {
-        features.push("kept: late, behind a higher round");
+        features.push("kept: late, after a higher round");
     }
     if book.used() == book.length() {
         features.push("kept: an exact fit");

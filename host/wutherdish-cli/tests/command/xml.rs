@@ -42,7 +42,7 @@ pub fn elements(document: &str) -> Vec<Element> {
             }
             elements.push(element);
         }
-        assert!(!open.is_empty() || text.trim().is_empty(), "no text stands behind the document");
+        assert!(!open.is_empty() || text.trim().is_empty(), "no text stands after the document");
     }
     assert!(open.is_empty() && !elements.is_empty(), "each element ends");
     elements
