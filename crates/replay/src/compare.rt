@@ -158,8 +158,8 @@ pub fn compare_opened(c: Counts, want: &[u8], number: u8, is_laid_out: bool) -> 
     count(c, is_expected, b"first difference: opening in case")
 }
 
-// Counts a case for which there is no room as different, and says so.
+// Counts a case for which there is no room apart, and says so: no call was made, so nothing was found different.
 pub fn no_room(c: Counts) -> Counts {
     print::difference(b"no room: case", c.place);
-    counts::one_different(c)
+    counts::one_no_room(c)
 }

@@ -1,5 +1,5 @@
-// How many cases there were of each kind, how many of them were answered otherwise, the place of the last, from 1, and the
-// length of the book that offers go to.
+// How many cases there were of each kind, how many of them were answered otherwise, for how many there was no room, the
+// place of the last, from 1, and the length of the book that offers go to.
 pub struct Counts {
     pub place: u64,
     pub verify: u64,
@@ -8,6 +8,7 @@ pub struct Counts {
     pub offer: u64,
     pub other: u64,
     pub different: u64,
+    pub no_room: u64,
     pub book: usize,
 }
 
@@ -19,6 +20,7 @@ pub const NONE: Counts = Counts {
     offer: 0,
     other: 0,
     different: 0,
+    no_room: 0,
     book: 0,
 };
 
@@ -65,6 +67,12 @@ pub fn one_other(c: Counts) -> Counts {
 pub fn one_different(c: Counts) -> Counts {
     let mut c = c;
     c.different = next(c.different);
+    c
+}
+
+pub fn one_no_room(c: Counts) -> Counts {
+    let mut c = c;
+    c.no_room = next(c.no_room);
     c
 }
 

@@ -3,8 +3,8 @@
 // data/judge.bin is a sample of the 6,437 judge cases among the vectors: the two smallest of each outcome (a number, or a
 // verdict with its reason) at each pair of flags, and of each outcome with the same map, role, issue, flag and root's reason.
 // data/books.bin has openings and offers, with the answers and the bytes of the plain book in Rust. Of
-// data/wrong_on_purpose.bin each case has one byte of what it expects changed, so all of them must be found different.
-// oracle/README.md says how the two are made.
+// data/wrong_on_purpose.bin each case has a change in what it expects, so all of them must be found different.
+// oracle/README.md says how the two are made. Of no file may there be a case for which there is no room.
 mod case;
 mod compare;
 mod counts;
@@ -31,6 +31,7 @@ fn report(c: Counts) {
     line(b"openings", c.open);
     line(b"offers", c.offer);
     line(b"other cases", c.other);
+    line(b"no room", c.no_room);
     print::share(b"different", c.different, c.place);
 }
 

@@ -8,7 +8,7 @@ use oracle::file::{answer_bytes, blobs};
 use oracle::sha256::sha256;
 
 /// What lent bytes hold before a call.
-const FILL: u8 = 0xA5;
+pub const FILL: u8 = 0xA5;
 
 /// Says every difference: of numbers, answers, unknown peers, and the book's bytes by their sha256.
 pub fn compare(path: &str) -> Result<(), String> {

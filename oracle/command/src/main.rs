@@ -27,7 +27,7 @@ const USAGE: &str = "oracle COMMAND
   store FILE             write the stored list
   stored FILE            replay it
   store-books FILE       write the stored books
-  wrong OUT FILE..       write cases of files, each with one byte of what it expects changed";
+  wrong OUT FILE..       write cases of files, each with a change in what it expects";
 
 fn main() -> ExitCode {
     let arguments: Vec<String> = std::env::args().skip(1).collect();

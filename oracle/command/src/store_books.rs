@@ -32,24 +32,52 @@ struct Seen {
     first: BTreeMap<Sight, usize>,
 }
 
+/// Why a feed is dropped: it begins with a given book, or one of its answers is a panic.
+#[derive(PartialEq, Eq)]
+enum Dropped {
+    Given,
+    Panic,
+}
+
 /// Openings; beginnings of feeds that show every answer and notice every mistake that these feeds can; and of the
 /// offers to damaged books the smallest for each.
 pub fn write(path: &str) -> Result<(), String> {
     let mut out = Vec::new();
     openings().for_each(|case| case.write(&mut out));
-    let feeds: Vec<Seen> = (0..FEEDS).filter_map(seen).collect();
+    let ((feeds, dropped), given) = std::thread::scope(|scope| {
+        let given = scope.spawn(given);
+        (all_seen(), given.join().expect("no panic"))
+    });
     let chosen = choose(&feeds);
     for (place, offers) in &chosen {
         feed_cases(*place, *offers).iter().for_each(|case| case.write(&mut out));
     }
-    let given = given();
     let cases: BTreeMap<_, _> = given.values().map(|(_, at, case)| (at, case)).collect();
     cases.values().for_each(|case| case.write(&mut out));
     std::fs::write(path, &out).map_err(|e| format!("{path}: {e}"))?;
     let (books, offers) = (chosen.len(), chosen.values().sum::<usize>());
     println!("{OPENINGS} openings, {books} books with {offers} offers, {} offers to given books", cases.len());
     report(feeds.iter().flat_map(|feed| feed.first.keys()).chain(given.keys()).collect());
+    report_dropped(&dropped);
     Ok(())
+}
+
+/// The feeds that can be stored, and why the others can't.
+fn all_seen() -> (Vec<Seen>, Vec<Dropped>) {
+    let (mut feeds, mut dropped) = (Vec::new(), Vec::new());
+    for place in 0..FEEDS {
+        match seen(place) {
+            Ok(feed) => feeds.push(feed),
+            Err(why) => dropped.push(why),
+        }
+    }
+    (feeds, dropped)
+}
+
+fn report_dropped(dropped: &[Dropped]) {
+    let count = |why: Dropped| dropped.iter().filter(|other| **other == why).count();
+    let (given, panic) = (count(Dropped::Given), count(Dropped::Panic));
+    println!("of {FEEDS} feeds dropped: {given} that begin with a given book, {panic} with a panic for an answer");
 }
 
 fn report(sights: BTreeSet<&Sight>) {
@@ -76,15 +104,15 @@ fn begin(place: u64) -> Option<(Feed, Book)> {
     feed.opened().then_some((feed, book))
 }
 
-fn seen(place: u64) -> Option<Seen> {
-    let (feed, mut book) = begin(place)?;
+fn seen(place: u64) -> Result<Seen, Dropped> {
+    let (feed, mut book) = begin(place).ok_or(Dropped::Given)?;
     let places = (0..Mistake::ALL.len()).filter(|at| !Mistake::ALL[*at].is_in_reading());
     let mut mistaken: Vec<(usize, Book)> = places.map(|at| (at, book.mistaken(Mistake::ALL[at]))).collect();
     let mut seen = Seen { place, sizes: Vec::new(), first: BTreeMap::new() };
     let mut size = 0;
     for (at, step) in feed.take(OFFERS).enumerate() {
         let answer = book.offer(&step.offer).answer;
-        let bytes = answer_bytes(&answer)?;
+        let bytes = answer_bytes(&answer).ok_or(Dropped::Panic)?;
         size += size_of(&step.offer) + bytes.len();
         seen.sizes.push(size);
         seen.first.entry(shown(&bytes)).or_insert(at);
@@ -96,7 +124,7 @@ fn seen(place: u64) -> Option<Seen> {
             same
         });
     }
-    Some(seen)
+    Ok(seen)
 }
 
 fn size_of(offer: &Offer) -> usize {

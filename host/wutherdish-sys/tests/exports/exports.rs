@@ -40,6 +40,9 @@ impl Exports {
         let mut names = BTreeSet::new();
         for (path, code) in &self.sources {
             let code = joined(code);
+            if code.contains("/*") {
+                faults.push(format!("{path} has a comment that is not a line's"));
+            }
             if !is_marked(&code) {
                 faults.push(format!("an export of {path} is not #[no_mangle] pub"));
             }
@@ -89,7 +92,7 @@ fn declared(header: &str) -> BTreeSet<String> {
     before.filter(|name| !name.is_empty() && name.starts_with(|c: char| c.is_alphabetic())).collect()
 }
 
-/// A source without comments, its words parted by single spaces.
+/// A source without the comments of lines, its words parted by single spaces.
 fn joined(code: &str) -> String {
     let lines: Vec<&str> = code.lines().map(|line| line.split("//").next().unwrap_or_default()).collect();
     lines.join(" ").split_whitespace().collect::<Vec<_>>().join(" ")

@@ -69,8 +69,43 @@ fn a_lent_slice_of_which_nothing_is_said() {
 fn what_is_said_of_itself() {
     let exports = changed("now (answer .exit) ≡ verifyAnswer", "now (answer .exit) ≡ same (now (answer .exit))");
     assert_eq!(exports.faults(), ["wutherdish_verify says nothing of answer"]);
+    let exports = changed("now (answer .exit) ≡ verifyAnswer", "now (answer .exit) ≡ same (now (answer.exit))");
+    assert_eq!(exports.faults(), ["wutherdish_verify says nothing of answer"]);
     let exports = changed("r ≡ openNumber", "r ≡ same r");
     assert_eq!(exports.faults(), ["wutherdish_open says nothing of its result"]);
+}
+
+#[test]
+fn what_always_holds() {
+    for more in ["⊎ Unit", "→ Unit", "× Unit", "≡ 0", "(λ x. x)", "Unit", "⌝ ⊎ ⌜ Unit", "(r)", "{r}"] {
+        let end = "(length (now (book .entry))) ⌝";
+        let exports = changed(end, &format!("(length (now (book .entry))) {more} ⌝"));
+        assert_eq!(exports.faults(), ["wutherdish_open says nothing of its result"], "{more}");
+        let end = "openBytes (now (settings .entry)) (now (book .entry)) ⌝";
+        let exports = changed(end, &format!("now (book .entry) {more} ⌝"));
+        assert_eq!(exports.faults(), ["wutherdish_open says nothing of book"], "{more}");
+    }
+}
+
+#[test]
+fn a_parameter_that_may_be_lent_unseen() {
+    for kind in ["&'a mut [u8]", "Lent", "&mut [u8; 113]", "&mut Book", "*mut u8", "(u8, &mut [u8]"] {
+        let exports = changed("(book: &mut [u8], settings", &format!("(book: {kind}, settings"));
+        let kind = kind.split(", &mut").next().expect("a first part");
+        let fault = format!("wutherdish_open has book of the type {kind:?}");
+        assert_eq!(exports.faults().first(), Some(&fault));
+    }
+    let exports = changed("(book: &mut [u8], settings", "(&mut self, settings");
+    assert_eq!(exports.faults(), [r#"wutherdish_open has &mut self of the type """#]);
+}
+
+#[test]
+fn a_contract_in_a_comment() {
+    let clause = line("ensures { λ r. ⌜ now (book .exit)");
+    let exports = changed(&clause, &format!("// {clause}"));
+    assert_eq!(exports.faults(), ["wutherdish_open says nothing of book"]);
+    let exports = changed(&clause, &format!("/* {clause} */"));
+    assert_eq!(exports.faults(), ["crates/wutherdish/src/lib.rt has a comment that is not a line's"]);
 }
 
 #[test]
@@ -111,7 +146,7 @@ fn a_symbol_of_no_source() {
 fn a_contract_is_read_clause_by_clause() {
     let call = Call::read("f(a: &[u8], b: &mut [u8; 4], n: u8) -> u8 requires { ⌜ x { y } ⌝ } ensures { ⌜ z ⌝ } { 0 }");
     assert_eq!(call.name, "f");
-    assert_eq!(call.lent, ["b"]);
+    assert_eq!(call.lent().collect::<Vec<_>>(), ["b"]);
     assert_eq!(
         call.clauses,
         [("requires".to_string(), "⌜ x { y } ⌝".to_string()), ("ensures".to_string(), "⌜ z ⌝".to_string())]
