@@ -1,14 +1,16 @@
 // Reads settings, a schedule and points from standard input, keeps the points in a book, and prints a line for each.
+mod points;
 mod print;
 mod window;
 
+use points::State;
+use points::Turn;
 use tally_feed::Front;
-use tally_feed::Next;
 use window::Window;
 ghost use mathlib.Core.Path.{_≡_};
 ghost use Prim.Native.Nat.{_≤_};
 ghost use lib.ListN.{length};
-ghost use Rattle.tally.specs.Window.{Lies};
+ghost use Rattle.tally.specs.Code.{Stands};
 
 const BOOK: usize = 65536;
 
@@ -17,45 +19,40 @@ const PEERS: usize = 8160;
 // The longest schedule: four spans of 255 peers, and the last known round.
 const SCHEDULE: usize = 32675;
 
-// Prints the lines of the points in the window and after it, and says whether all of them were read and printed. A proved loop
-// has to end, and nothing says that an input does: so it ends where a line could not be counted.
+// Prints the lines of the points from a state on, and says whether all of them were read and printed. A proved loop has to end, and
+// nothing says that an input does: so it ends where a line could not be counted.
 fn print_points(
     book: &mut [u8],
     schedule: &[u8],
     peers: &mut [u8],
     buf: &mut [u8],
-    first: Window,
+    first: State,
 ) -> bool
-    requires { ⌜ Lies (length (now buf)) first × (41127 ≤ length (now buf)) ⌝ }
+    requires { ⌜ Stands (length (now buf)) (length (now schedule)) first × (41127 ≤ length (now buf)) ⌝ }
 {
-    let mut w = first;
-    let mut place = 1;
-    while place < u64::MAX {
-        w = window::refill(buf, w);
+    let mut s = first;
+    while s.place < u64::MAX {
+        let w = window::refill(buf, s.window);
         if w.failed {
             print::unread();
             return false;
         }
-        let start = w.start;
-        let end = w.end;
-        let next = tally_feed::next_point(book, schedule, place, &buf[start..end], peers);
-        match next {
-            Next::Over => return true,
-            Next::Last(line) => return print::line(line),
-            Next::Point(line, size) => {
+        let turn = points::take_turn(book, schedule, peers, buf, points::with(s, w));
+        match turn {
+            Turn::Over => return true,
+            Turn::Last(line) => return print::line(line),
+            Turn::Point(line, next) => {
                 if !print::line(line) {
                     return false;
                 }
-                w = window::after(w, size);
-                place += 1;
+                s = next;
             }
         }
     }
     true
 }
 
-// The same, of the points that begin at a place of the first window, after settings and a schedule. The schedule's bytes are kept,
-// since the buffer will hold others.
+// The same, of the points that begin at a place of the first window.
 fn print_after(
     book: &mut [u8],
     schedule: &mut [u8],
@@ -67,9 +64,8 @@ fn print_after(
     requires { ⌜ (47 ≤ start) × (start ≤ 32722) × (32675 ≤ length (now schedule)) ⌝ }
     requires { ⌜ (w .start ≡ 0) × (start ≤ w .end) × (w .end ≤ length (now buf)) × (41127 ≤ length (now buf)) ⌝ }
 {
-    let n = start - 47;
-    write::put_slice(schedule, 0, &buf[47..start]);
-    print_points(book, &schedule[0..n], peers, buf, window::after(w, start))
+    let first = points::begin_points(schedule, buf, w, start);
+    print_points(book, schedule, peers, buf, first)
 }
 
 // Prints a line for each point, or the one line of settings or a schedule that can't be read.

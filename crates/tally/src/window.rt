@@ -4,10 +4,10 @@ ghost use mathlib.Core.Path.{_≡_};
 ghost use mathlib.Core.List.{_++_};
 ghost use Prim.Native.Nat.{_+_, _≤_};
 ghost use lib.ListN.{length, take, drop};
-ghost use Rattle.tally.specs.Window.{Lies, GotWithin, Filled, Refilled};
+ghost use Rattle.tally.specs.Code.{Lies, without, gotOf, GotWithin, Filled, Refilled};
 
-// The longest leader byte and record. With as much at hand the next point gives what it gives with all at hand (step-part of
-// crate feed), and so do settings and a schedule.
+// The longest leader byte and record. With as much at hand the next point gives what it gives with all at hand (`step-part` in
+// proofs/AtHand.antt of crate tally_feed), and so do settings and a schedule (`begin-part` there).
 const ENOUGH: usize = 41127;
 
 pub const ROOM: usize = 65536;
@@ -40,6 +40,20 @@ fn shift(buf: &mut [u8], from: usize, n: usize)
     }
 }
 
+// What an answer of read says of the room that it was lent.
+fn got_of(got: isize, room: &[u8]) -> Got
+    ensures { λ r. ⌜ r ≡ gotOf got (length (now (room .entry))) ⌝ }
+{
+    if got < 0 {
+        return Got::Failed;
+    }
+    let n = io::count(got, room);
+    if n == 0 {
+        return Got::Nothing;
+    }
+    Got::Bytes(n)
+}
+
 // Reads once, from a place of the buffer on.
 fn read_at(buf: &mut [u8], at: usize) -> Got
     requires { ⌜ at ≤ length (now buf) ⌝ }
@@ -47,14 +61,7 @@ fn read_at(buf: &mut [u8], at: usize) -> Got
     ensures { λ r. ⌜ GotWithin at (length (now (buf .entry))) r ⌝ }
 {
     let got = libc::read(STDIN_FILENO, &mut buf[at..]);
-    if got < 0 {
-        return Got::Failed;
-    }
-    let n = io::count(got, &buf[at..]);
-    if n == 0 {
-        return Got::Nothing;
-    }
-    Got::Bytes(n)
+    got_of(got, &buf[at..])
 }
 
 // Reads after the n bytes at the front until the buffer is full, or the input ends.
@@ -119,7 +126,7 @@ pub fn refill(buf: &mut [u8], w: Window) -> Window
 // Without the first n bytes.
 pub fn after(w: Window, n: usize) -> Window
     requires { ⌜ w .start + n ≤ w .end ⌝ }
-    ensures { λ r. ⌜ (r .start ≡ w .start + n) × (r .end ≡ w .end) ⌝ }
+    ensures { λ r. ⌜ r ≡ without w n ⌝ }
 {
     Window {
         start: w.start + n,

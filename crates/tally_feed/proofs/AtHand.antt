@@ -148,7 +148,7 @@ with-part n s (some c) h =
     ap (scheduleTo (take n s)) (schedule-part n s h)
     ∙ schedule-to-part n s (scheduleEnd s) (λ k e. omega (arith, schedule-most s k e))
 
-drop-part : (k n : ℕ) (s : List ℕ) → drop k (take (k + n) s) ≡ take n (drop k s)
+pub drop-part : (k n : ℕ) (s : List ℕ) → drop k (take (k + n) s) ≡ take n (drop k s)
 drop-part zero n s = let e : 0 + n ≡ n = omega arith in ap (λ (m : ℕ). take m s) e
 drop-part (suc k) n [] = simp (take-nil {A = ℕ}, drop-nil {A = ℕ})
 drop-part (suc k) n (x ∷ s) = let e : suc k + n ≡ suc (k + n) = omega arith in rw e (drop-part k n s)

@@ -1,4 +1,4 @@
--- What the program prints: each call gives what its contract says, of the part of the feed that is at hand.
+-- What the calls give one after the other, each what its contract says, with a part of the feed at hand.
 use Prim.Native.Nat.{ℕ, zero, suc}
 use mathlib.Core.List.{List, [], _∷_}
 use lib.ListN.{take, drop, replicate}

@@ -154,7 +154,8 @@ abbrev pub tallyFrom : List ℕ → List ℕ → List ℕ → code-front.Front �
 tallyFrom book peers feed front = tallyWith (begunBook (take 47 feed) book front) peers feed front
 
 -- what the program is to print of its standard input. Proved of the code are the parts: `begin`, `step` and `keptIn`; `printed-tally`
--- says that these parts, one after the other, give it.
+-- says that these parts, one after the other, give it. The program's own order of calls is not proved beyond its `take_turn`, which says
+-- where the next turn stands.
 unfoldable pub tally : List ℕ → Tally
 unfolding begin points openBytes
 tally feed = tallyFrom (replicate 65536 0) (replicate 8160 0) feed (begin 65536 feed)

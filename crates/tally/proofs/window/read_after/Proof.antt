@@ -3,7 +3,7 @@ use Prim.Native.Nat.{ℕ, _-_, _≤_, _+_, _<_}
 use native.Mathlib.Omega.{arith}
 use mathlib.Core.Path.{_≡_, refl, subst}
 use lib.ListN.{length, take}
-use Rattle.tally.specs.Window.{GotWithin}
+use Rattle.tally.specs.Code.{GotWithin}
 use Rattle.tally.proofs.Laws.{take-less}
 use borrow.Author.Needs.{needs}
 use Rattle.tally.proofs.window.read_after.Statement.{statement}
@@ -65,6 +65,7 @@ returns c =
         least = l .loop .inv .1;
         within = l .loop .inv .2;
         full = λ a f. let z : _≡_ {A = ℕ} 0 1 = cc in absurd (omega arith);
+        all = λ a. omega arith;
       },
     )
 
@@ -84,6 +85,7 @@ returns-2 c =
         least = l .loop .inv .1;
         within = l .loop .inv .2;
         full = λ a f. let z : _≡_ {A = ℕ} 0 1 = cc in absurd (omega arith);
+        all = λ a. let z : _≡_ {A = ℕ} 0 1 = cc in absurd (omega arith);
       },
     )
 
@@ -94,7 +96,7 @@ returns-3 : tie.Need-returns-3 Inv-loop μ-loop
 returns-3 c =
     let l = c .before in (
       l .loop .inv .3,
-      record { start = refl; least = l .loop .inv .1; within = l .loop .inv .2; full = λ a f. omega arith },
+      record { start = refl; least = l .loop .inv .1; within = l .loop .inv .2; full = λ a f. omega arith; all = λ a. let z : _≡_ {A = ℕ} 0 1 = cc in absurd (omega arith) },
     )
 
 pub read-after-spec : {M : Type 1} → statement M

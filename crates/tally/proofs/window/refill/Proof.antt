@@ -1,7 +1,8 @@
 -- `refill` meets its contract: nothing is moved, or what is at hand is moved to the front and more is read after it.
-use Prim.Native.Nat.{ℕ}
+use Prim.Native.Nat.{ℕ, _-_, _≤_}
 use native.Mathlib.Omega.{arith}
 use mathlib.Core.Path.{_≡_}
+use mathlib.Core.Bool.{true}
 use denote.Ref.{now}
 use Rattle.tally.proofs.Laws.{unmoved, refilled}
 use borrow.Author.Needs.{needs}
@@ -35,7 +36,9 @@ returns-3 c =
     let r = c .before .before in
     let h = r .before .before .before .before in
     let s = h .before .before .before .before .before .before in
-    refilled (now (s .args .buf)) (s .args .w) (s .pre .0) _ _ (r .read-after .result) (s .pre .1) (h .shift .ensures) (r .read-after .ensures .0) (r .read-after .ensures .1)
+    let all : s .args .w .«is_all» ≡ true → ⊥ = λ a. let z : _≡_ {A = ℕ} 0 1 = cc (a, h .before .before .if2 .left) in omega arith in
+    let few : 41127 ≤ s .args .w .end - s .args .w .start → ⊥ = λ a. omega (arith, a, h .before .before .before .if1 .left) in
+    refilled (now (s .args .buf)) (s .args .w) (s .pre .0) _ _ (r .read-after .result) all few (s .pre .1) (h .shift .ensures) (r .read-after .ensures .0) (r .read-after .ensures .1)
 
 pub refill-spec : {M : Type 1} → statement M
 refill-spec =

@@ -1,0 +1,80 @@
+// The points of a feed, one turn each: what a turn gives, and where the next one stands.
+use crate::window;
+use crate::window::Window;
+use tally_feed::Next;
+use tally_line::Line;
+ghost use mathlib.Core.Path.{_≡_};
+ghost use Prim.Native.Nat.{_-_, _≤_, _<_};
+ghost use lib.ListN.{length, take, drop};
+ghost use Rattle.tally_feed.specs.Tally.{step};
+ghost use Rattle.tally_feed.specs.Code.{bookAfter, peersAfter};
+ghost use Rattle.tally.specs.Code.{atHand, firstState, withWindow, turnOf, Stands, Leads};
+
+// Where the program stands: what is at hand, the place of the next line, and how many bytes of the schedule's buffer are the schedule.
+pub struct State {
+    pub window: Window,
+    pub place: u64,
+    pub schedule_len: usize,
+}
+
+// What a turn gives: nothing, at the feed's end; the last line; or a line, and where the next turn stands.
+pub enum Turn {
+    Over,
+    Last(Line),
+    Point(Line, State),
+}
+
+// Where the first turn stands, of points that begin at a place of the first window, after settings and a schedule. The schedule's
+// bytes are copied, since the buffer will hold others.
+pub fn begin_points(schedule: &mut [u8], buf: &[u8], w: Window, start: usize) -> State
+    requires { ⌜ (47 ≤ start) × (start ≤ 32722) × (32675 ≤ length (now schedule)) ⌝ }
+    requires { ⌜ (w .start ≡ 0) × (start ≤ w .end) × (w .end ≤ length (now buf)) ⌝ }
+    ensures { λ r. ⌜ r ≡ firstState w start ⌝ }
+    ensures { λ r. ⌜ take (start - 47) (now (schedule .exit)) ≡ drop 47 (take start (atHand (now (buf .entry)) w)) ⌝ }
+    ensures { λ r. ⌜ Stands (length (now (buf .entry))) (length (now (schedule .exit))) r ⌝ }
+{
+    write::put_slice(schedule, 0, &buf[47..start]);
+    State {
+        window: window::after(w, start),
+        place: 1,
+        schedule_len: start - 47,
+    }
+}
+
+// With another window.
+pub fn with(s: State, w: Window) -> State
+    ensures { λ r. ⌜ r ≡ withWindow s w ⌝ }
+{
+    State {
+        window: w,
+        place: s.place,
+        schedule_len: s.schedule_len,
+    }
+}
+
+// Offers the next point at hand to the book.
+pub fn take_turn(book: &mut [u8], schedule: &[u8], peers: &mut [u8], buf: &[u8], s: State) -> Turn
+    requires { ⌜ Stands (length (now buf)) (length (now schedule)) s × (s .place < 18446744073709551615) ⌝ }
+    ensures { λ r. ⌜ r ≡ turnOf s (step (take (s .«schedule_len») (now (schedule .entry))) (now (book .entry)) (now (peers .entry)) (s .place) (atHand (now (buf .entry)) (s .window))) ⌝ }
+    ensures { λ r. ⌜ now (book .exit) ≡ bookAfter (now (book .entry)) (step (take (s .«schedule_len») (now (schedule .entry))) (now (book .entry)) (now (peers .entry)) (s .place) (atHand (now (buf .entry)) (s .window))) ⌝ }
+    ensures { λ r. ⌜ now (peers .exit) ≡ peersAfter (now (peers .entry)) (step (take (s .«schedule_len») (now (schedule .entry))) (now (book .entry)) (now (peers .entry)) (s .place) (atHand (now (buf .entry)) (s .window))) ⌝ }
+    ensures { λ r. ⌜ Leads (length (now (buf .entry))) (length (now (schedule .entry))) r ⌝ }
+{
+    let w = s.window;
+    let start = w.start;
+    let end = w.end;
+    let n = s.schedule_len;
+    let next = tally_feed::next_point(book, &schedule[..n], s.place, &buf[start..end], peers);
+    match next {
+        Next::Over => Turn::Over,
+        Next::Last(line) => Turn::Last(line),
+        Next::Point(line, size) => Turn::Point(
+            line,
+            State {
+                window: window::after(w, size),
+                place: s.place + 1,
+                schedule_len: n,
+            },
+        ),
+    }
+}
