@@ -1,12 +1,12 @@
 //! One call of the library, the first of a table's row, for callgrind to count.
 
+use inputs::dag::Dag;
+use inputs::points::{bytes, bytes_with_lists};
 use oracle::numbers::KEPT;
 use wutherdish::lent::{self, ANSWER, PEER_BUFFER};
 
-use crate::dag::Dag;
 use crate::judge::{LEADER, PRESENCE};
 use crate::offer::Offering;
-use crate::points::{bytes, bytes_with_lists};
 
 /// Makes the call of a way: verify, judge, offer or refused.
 pub fn run(way: &str, peers: usize, entries: usize) -> Result<(), String> {
