@@ -28,7 +28,9 @@ pub fn records(list: &[u8]) -> Option<Vec<PointInfo>> {
                 rest.field(18, 69, 69)?;
                 records.push(point_info(&mut rest)?);
             }
-            3 | 4 => drop(rest.field(17, 68, 68)?),
+            3 | 4 => {
+                rest.field(17, 68, 68)?;
+            }
             5 => {}
             _ => return None,
         }

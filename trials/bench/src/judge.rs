@@ -5,16 +5,17 @@ use std::hint::black_box;
 use inputs::points::{Bytes, bytes_with_lists};
 use oracle::answer::VALID;
 use oracle::numbers::{self, Read};
-use oracle::steps::{DagRound, Judging, PointInfo};
+use oracle::steps::{DagRound, Judging};
 use oracle::{Answer, PEER_BUFFER, direct};
 use wutherdish::lent::{self, ANSWER};
 
+use crate::once::result_of;
 use crate::pass::sum;
 use crate::rounds::{count, median, rounds};
 
 /// The author leads no round, and all rounds are present.
-pub const LEADER: u8 = 0;
-pub const PRESENCE: u8 = 3;
+const LEADER: u8 = 0;
+const PRESENCE: u8 = 3;
 
 const WORDS: &str = "
 Judging. Valid points with full maps and full lists: every dependency, and the targets of two indirect links, each one
@@ -34,9 +35,25 @@ const HEADER: [&str; 2] = [
     "peers       bytes  library      pass    oracle    direct     alone   oracle  direct   alone   library    pass",
 ];
 
+/// Whether the first point is valid, for callgrind to count.
+pub fn once(way: Way, peers: usize) -> Result<bool, String> {
+    let (bytes, lists) = bytes_with_lists(peers, 1);
+    let points = Points::new(&bytes, &lists)?;
+    let judgings = points.judgings()?;
+    let round = judgings[0].round().ok_or("no DAG gives a list")?;
+    let mut peers = [0; PEER_BUFFER as usize];
+    Ok(result_of(&mut || match way {
+        Way::Library => points.library(0, &mut peers),
+        Way::Pass => points.pass(0),
+        Way::Oracle => points.oracle(0),
+        Way::Direct => points.direct(0, &judgings[0], &round),
+        Way::Alone => judgings[0].is_valid(round.clone()),
+    }))
+}
+
 /// How a point is judged, or its bytes are read.
 #[derive(Clone, Copy)]
-enum Way {
+pub enum Way {
     Library,
     Pass,
     Oracle,
@@ -116,9 +133,9 @@ impl<'a> Points<'a> {
             Way::Direct | Way::Alone => {
                 let rounds: Option<Vec<DagRound>> = places.clone().map(|place| judgings[place].round()).collect();
                 let rounds = rounds.ok_or("no DAG gives a list")?;
-                count(places.zip(&rounds), |(place, round)| {
-                    let read = matches!(way, Way::Direct).then(|| self.direct(place));
-                    judgings[place].is_valid(round.clone()) && !matches!(black_box(&read), Some(None))
+                count(places.zip(&rounds), |(place, round)| match way {
+                    Way::Direct => self.direct(place, &judgings[place], round),
+                    _ => judgings[place].is_valid(round.clone()),
                 })
             }
         }
@@ -145,9 +162,10 @@ impl<'a> Points<'a> {
         let answer = oracle::judge(settings, schedule, record, LEADER, PRESENCE, list, PEER_BUFFER);
         matches!(answer, Answer::Verdict(verdict) if verdict.kind == VALID)
     }
-    /// The record and those of its list.
-    fn direct(&self, place: usize) -> Option<(PointInfo, Vec<PointInfo>)> {
+    fn direct(&self, place: usize, judging: &Judging<'_>, round: &DagRound) -> bool {
         let (record, list) = (&black_box(self.bytes).records[place], &self.lists[place]);
-        Some((direct::record(record)?, direct::records(list)?))
+        let read = (direct::record(record), direct::records(list));
+        let valid = judging.is_valid(round.clone());
+        matches!(black_box(&read), (Some(_), Some(_))) && valid
     }
 }

@@ -22,7 +22,8 @@ processor's. A ratio is the Rust's time divided by the library's in the same rou
 
 const USAGE: &str = "bench [verify | judge | offer]     the tables, or one of them
 bench worst [full]                 the dearest inputs that were found; full: as long as they get
-bench once WAY PEERS [ENTRIES]     one call: verify, judge, offer, refused";
+bench once WAY PEERS [ENTRIES]     one call, for callgrind to count: verify, judge, offer or refused by the library;
+                                   verify-direct, verify-alone, judge-direct or judge-alone by the Rust";
 
 fn main() -> ExitCode {
     let arguments: Vec<String> = std::env::args().skip(1).collect();

@@ -8,6 +8,7 @@ use oracle::steps::{PointInfo, Steps, read_record};
 use oracle::{direct, numbers};
 use wutherdish::lent::{self, ANSWER, PEER_BUFFER};
 
+use crate::once::result_of;
 use crate::rounds::{count, median, rounds};
 
 /// Points of each set, so that no call repeats the one before it.
@@ -48,9 +49,15 @@ fn print_times(rounds: &[[f64; 4]]) {
     println!("   {:6.2}  {:6.2}  {:6.2}", ratio(Way::Oracle), ratio(Way::Direct), ratio(Way::Alone));
 }
 
+/// Whether the first point passes, for callgrind to count.
+pub fn once(way: Way, peers: usize) -> Result<bool, String> {
+    let mut points = Points::new(peers, 1)?;
+    Ok(result_of(&mut || points.passes(way, 0)))
+}
+
 /// How a point is verified.
 #[derive(Clone, Copy)]
-enum Way {
+pub enum Way {
     /// The static library, from the bytes of settings, schedule and record.
     Library,
     /// The Rust, from the record's bytes by the oracle's reader.
