@@ -92,6 +92,17 @@ extern "C" {
  *
  * The caller's part: no pointer is null, not even with the length 0; each has as many bytes after it as its length
  * says, the answer 114; and the peer buffer and the answer overlap neither each other nor the rest.
+ *
+ * Stack: verifying needs at most 4 KB of it, judging 16 KB, opening 1 KB and an offer 56 KB. A call takes no other memory.
+ *
+ * Threads: a call keeps nothing for the next one. Calls may be made from several threads at once, also on separate books
+ * and on the same bytes where these are const. One book may be in one call at a time, and is not read by others
+ * meanwhile.
+ *
+ * A process that is killed inside an offer can leave bytes that are no book, or a mark without its entry: a book still,
+ * and nothing tells that it was cut short. Opening can likewise be cut short. Where the book's memory outlives the
+ * process, shared or mapped from a file, a host keeps a journal beside it, or offers to a copy that takes the book's
+ * place when the call has returned.
  */
 
 /* Verifies a point, as BasicVerifier::verify of the Rust: ill-formed with a reason up to 14, fail, or passed. */

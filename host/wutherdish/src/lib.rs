@@ -35,6 +35,9 @@
 //!
 //! The library tests the form of what it gets, and none of these.
 //!
+//! How much stack a call needs, what threads may share, and what a process that is killed can leave of a book in shared
+//! or mapped memory, include/wutherdish.h says.
+//!
 //! # Example
 //!
 //! A network of four peers above a genesis point: a book takes the genesis point, a point above it, and a third one

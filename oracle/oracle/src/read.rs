@@ -19,7 +19,7 @@ const RECORD: [(u8, usize, usize); 9] = [
 
 /// The bytes that are left to read.
 #[derive(Clone)]
-struct Bytes<'a>(&'a [u8]);
+pub struct Bytes<'a>(pub &'a [u8]);
 
 impl<'a> Bytes<'a> {
     fn take(&mut self, count: usize) -> Option<&'a [u8]> {
@@ -40,11 +40,11 @@ impl<'a> Bytes<'a> {
         self.array().map(u16::from_le_bytes)
     }
 
-    fn u32(&mut self) -> Option<u32> {
+    pub fn u32(&mut self) -> Option<u32> {
         self.array().map(u32::from_le_bytes)
     }
 
-    fn u64(&mut self) -> Option<u64> {
+    pub fn u64(&mut self) -> Option<u64> {
         self.array().map(u64::from_le_bytes)
     }
 
@@ -56,7 +56,7 @@ impl<'a> Bytes<'a> {
         }
     }
 
-    fn id(&mut self) -> Option<Id> {
+    pub fn id(&mut self) -> Option<Id> {
         let (&bytes, rest) = self.0.split_first_chunk()?;
         self.0 = rest;
         Some(id(&bytes))
@@ -67,7 +67,7 @@ impl<'a> Bytes<'a> {
     }
 
     /// The content of a field with this tag and a length within limits.
-    fn field(&mut self, tag: u8, least: usize, greatest: usize) -> Option<Bytes<'a>> {
+    pub fn field(&mut self, tag: u8, least: usize, greatest: usize) -> Option<Bytes<'a>> {
         if self.byte()? != tag {
             return None;
         }
@@ -79,7 +79,7 @@ impl<'a> Bytes<'a> {
     }
 
     /// Nothing may stand after what was read.
-    fn end(&self) -> Option<()> {
+    pub fn end(&self) -> Option<()> {
         self.0.is_empty().then_some(())
     }
 }
@@ -150,12 +150,17 @@ pub fn record_front(bytes: &[u8]) -> Option<(Point, &[u8])> {
     Some((point, rest.0))
 }
 
-fn point(rest: &mut Bytes<'_>) -> Option<Point> {
-    let mut fields: [Bytes<'_>; 9] = std::array::from_fn(|_| Bytes(&[]));
+/// The contents of a record's nine fields.
+pub fn fields<'a>(rest: &mut Bytes<'a>) -> Option<[Bytes<'a>; 9]> {
+    let mut fields = [const { Bytes(&[]) }; 9];
     for (field, (tag, least, greatest)) in fields.iter_mut().zip(RECORD) {
         *field = rest.field(tag, least, greatest)?;
     }
-    let [mut id, mut payload, includes, witness, evidence, proof, trigger, role, mut times] = fields;
+    Some(fields)
+}
+
+fn point(rest: &mut Bytes<'_>) -> Option<Point> {
+    let [mut id, mut payload, includes, witness, evidence, proof, trigger, role, mut times] = fields(rest)?;
     Some(Point {
         id: id.id()?,
         payload_len: payload.u32()?,
@@ -195,7 +200,7 @@ fn pairs(mut field: Bytes<'_>) -> Option<Vec<(Peer, Digest)>> {
     Some(pairs)
 }
 
-fn link(mut field: Bytes<'_>) -> Option<AnchorLink> {
+pub fn link(mut field: Bytes<'_>) -> Option<AnchorLink> {
     let indirect = field.flag()?;
     let through = if field.flag()? { Through::Witness } else { Through::Includes };
     let peer = field.array()?;
@@ -204,7 +209,7 @@ fn link(mut field: Bytes<'_>) -> Option<AnchorLink> {
     Some(AnchorLink { through, peer, to })
 }
 
-fn point_role(mut field: Bytes<'_>) -> Option<PointRole> {
+pub fn point_role(mut field: Bytes<'_>) -> Option<PointRole> {
     let role = match field.byte()? {
         0 => PointRole::Regular,
         1 => PointRole::AnchorProof { seq_no: field.byte()?, is_last: field.flag()? },
@@ -231,28 +236,39 @@ pub fn list(bytes: &[u8]) -> Option<Vec<Entry>> {
     Some(entries)
 }
 
-fn entry(rest: &mut Bytes<'_>) -> Option<Entry> {
+/// What stands at an entry's front.
+pub struct Head {
+    indirect: Option<AnchorStageRole>,
+    certified: bool,
+    first_valid: bool,
+    pub state: u8,
+    reason: u8,
+}
+
+pub fn head(rest: &mut Bytes<'_>) -> Option<Head> {
     let indirect = match rest.next_tag()? {
         19 => Some(if rest.field(19, 1, 1)?.flag()? { AnchorStageRole::Trigger } else { AnchorStageRole::Proof }),
         _ => None,
     };
-    let mut head = rest.field(16, 4, 4)?;
-    let state = head.byte()?;
-    let certified = head.flag()?;
-    let first_valid = head.flag()?;
-    let state = entry_state(rest, state, head.byte()?)?;
-    Some(Entry { indirect, certified, first_valid, state })
-}
-
-fn entry_state(rest: &mut Bytes<'_>, state: u8, reason: u8) -> Option<State> {
+    let mut field = rest.field(16, 4, 4)?;
+    let state = field.byte()?;
+    let (certified, first_valid) = (field.flag()?, field.flag()?);
+    let reason = field.byte()?;
     let reason_fits = match state {
         2 => (1..=20).contains(&reason),
         3 => (1..=16).contains(&reason),
         _ => reason == 0,
     };
-    if !reason_fits {
-        return None;
-    }
+    reason_fits.then_some(Head { indirect, certified, first_valid, state, reason })
+}
+
+fn entry(rest: &mut Bytes<'_>) -> Option<Entry> {
+    let Head { indirect, certified, first_valid, state, reason } = head(rest)?;
+    let state = entry_state(rest, state, reason)?;
+    Some(Entry { indirect, certified, first_valid, state })
+}
+
+fn entry_state(rest: &mut Bytes<'_>, state: u8, reason: u8) -> Option<State> {
     Some(match state {
         0 => State::Valid(point(rest)?),
         1 => {

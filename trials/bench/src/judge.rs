@@ -1,48 +1,67 @@
-//! Valid points with full lists, judged in three ways, and a plain pass over their bytes.
+//! Valid points with full lists, judged in four ways, and a plain pass over their bytes.
 
 use std::hint::black_box;
-use std::time::Instant;
 
+use inputs::points::{Bytes, bytes_with_lists};
 use oracle::answer::VALID;
 use oracle::numbers::{self, Read};
 use oracle::steps::{DagRound, Judging};
-use oracle::{Answer, PEER_BUFFER};
+use oracle::{Answer, PEER_BUFFER, direct};
 use wutherdish::lent::{self, ANSWER};
 
+use crate::once::result_of;
 use crate::pass::sum;
-use crate::points::{Bytes, bytes_with_lists};
-use crate::rounds::{median, rounds};
+use crate::rounds::{count, median, rounds};
 
 /// The author leads no round, and all rounds are present.
-pub const LEADER: u8 = 0;
-pub const PRESENCE: u8 = 3;
+const LEADER: u8 = 0;
+const PRESENCE: u8 = 3;
 
 const WORDS: &str = "
 Judging. Valid points with full maps and full lists: every dependency, and the targets of two indirect links, each one
 valid with full maps. Microseconds a call, medians of the rounds; each round runs the ways over the same points.
-  library     wutherdish_judge, from bytes: settings, schedule, record and list are read in every call
-  pass        the same bytes summed as words of 64 bits, nothing else; its ratio is the part of this speed that the
-              library has
-  Rust bytes  the Rust from the same bytes: the oracle's reading, its numbers 1 to 9, the source's types and the rounds of
-              a DAG built and freed, BasicVerifier::verify and Verifier::validate
-  Rust judge  BasicVerifier::verify and Verifier::validate alone, in a DAG that is there already and stays
+  library  wutherdish_judge, from bytes: settings, schedule, record and list are read in every call
+  pass     the same bytes summed as words of 64 bits, nothing else
+  oracle   the Rust from the same bytes: the oracle's reading, its numbers 1 to 9, the source's types and the rounds of a
+           DAG built and freed, BasicVerifier::verify and Verifier::validate
+  direct   the record and every record of the list read by the direct reader, all kept until the verdict and then freed;
+           BasicVerifier::verify and Verifier::validate in a DAG that is there already: none is built of what was read,
+           and no number is tested
+  alone    the same, and nothing is read
 ";
 
 const HEADER: [&str; 2] = [
-    "                               microseconds a call              ratio to the library  gigabytes a second",
-    "peers       bytes    library       pass   Rust bytes   Rust judge    bytes   judge    library    pass  ratio",
+    "                                         microseconds a call     ratio to the library    gigabytes a second",
+    "peers       bytes  library      pass    oracle    direct     alone   oracle  direct   alone   library    pass",
 ];
+
+/// Whether the first point is valid, for callgrind to count.
+pub fn once(way: Way, peers: usize) -> Result<bool, String> {
+    let (bytes, lists) = bytes_with_lists(peers, 1);
+    let points = Points::new(&bytes, &lists)?;
+    let judgings = points.judgings()?;
+    let round = judgings[0].round().ok_or("no DAG gives a list")?;
+    let mut peers = [0; PEER_BUFFER as usize];
+    Ok(result_of(&mut || match way {
+        Way::Library => points.library(0, &mut peers),
+        Way::Pass => points.pass(0),
+        Way::Oracle => points.oracle(0),
+        Way::Direct => points.direct(0, &judgings[0], &round),
+        Way::Alone => judgings[0].is_valid(round.clone()),
+    }))
+}
 
 /// How a point is judged, or its bytes are read.
 #[derive(Clone, Copy)]
-enum Way {
+pub enum Way {
     Library,
     Pass,
-    ReadingBytes,
-    Judge,
+    Oracle,
+    Direct,
+    Alone,
 }
 
-const WAYS: [Way; 4] = [Way::Library, Way::Pass, Way::ReadingBytes, Way::Judge];
+const WAYS: [Way; 5] = [Way::Library, Way::Pass, Way::Oracle, Way::Direct, Way::Alone];
 
 /// Prints a row for each count of peers.
 pub fn table(counts: &[usize]) -> Result<(), String> {
@@ -64,13 +83,14 @@ fn points_and_rounds(peers: usize) -> (usize, usize) {
     if peers > 50 { (2, 31) } else { (8, 301) }
 }
 
-fn print_row(peers: usize, size: usize, rounds: &[[f64; 4]]) {
-    let [library, pass, bytes, judge] = WAYS.map(|way| median(rounds, |times| times[way as usize]));
-    let ratio = |over: Way, under: Way| median(rounds, |times| times[over as usize] / times[under as usize]);
-    print!("{peers:5}  {size:10}  {:9.1}  {:9.1}", library / 1e3, pass / 1e3);
-    print!("  {:11.1}  {:11.1}", bytes / 1e3, judge / 1e3);
-    print!("  {:7.2}  {:6.2}", ratio(Way::ReadingBytes, Way::Library), ratio(Way::Judge, Way::Library));
-    println!("  {:9.2}  {:6.2}  {:5.2}", size as f64 / library, size as f64 / pass, ratio(Way::Pass, Way::Library));
+fn print_row(peers: usize, size: usize, rounds: &[[f64; 5]]) {
+    let times = WAYS.map(|way| median(rounds, |times| times[way as usize]));
+    let ratio = |way: Way| median(rounds, |times| times[way as usize] / times[Way::Library as usize]);
+    print!("{peers:5}  {size:10}");
+    times.iter().for_each(|time| print!("  {:8.1}", time / 1e3));
+    print!("   {:6.2}  {:6.2}  {:6.2}", ratio(Way::Oracle), ratio(Way::Direct), ratio(Way::Alone));
+    let [library, pass, ..] = times;
+    println!("  {:8.2}  {:6.2}", size as f64 / library, size as f64 / pass);
 }
 
 /// The points of one set with their lists.
@@ -103,23 +123,21 @@ impl<'a> Points<'a> {
     /// Nanoseconds a call, over `calls` calls that go round the points. Every point has to be valid.
     fn time(&self, way: Way, judgings: &[Judging<'_>], calls: usize) -> Result<f64, String> {
         let places = (0..calls).map(|call| call % self.lists.len());
-        let (valid, nanoseconds) = match way {
+        match way {
             Way::Library => {
                 let mut peers = [0; PEER_BUFFER as usize];
-                clock(places, |place| self.library(place, &mut peers))
+                count(places, |place| self.library(place, &mut peers))
             }
-            Way::Pass => clock(places, |place| self.pass(place)),
-            Way::ReadingBytes => clock(places, |place| self.reading_bytes(place)),
-            Way::Judge => {
+            Way::Pass => count(places, |place| self.pass(place)),
+            Way::Oracle => count(places, |place| self.oracle(place)),
+            Way::Direct | Way::Alone => {
                 let rounds: Option<Vec<DagRound>> = places.clone().map(|place| judgings[place].round()).collect();
                 let rounds = rounds.ok_or("no DAG gives a list")?;
-                clock(places.zip(&rounds), |(place, round)| judgings[place].is_valid(round.clone()))
+                count(places.zip(&rounds), |(place, round)| match way {
+                    Way::Direct => self.direct(place, &judgings[place], round),
+                    _ => judgings[place].is_valid(round.clone()),
+                })
             }
-        };
-        if valid == calls {
-            Ok(nanoseconds / calls as f64)
-        } else {
-            Err(format!("{valid} of {calls} points are valid"))
         }
     }
 
@@ -138,17 +156,16 @@ impl<'a> Points<'a> {
         true
     }
 
-    fn reading_bytes(&self, place: usize) -> bool {
+    fn oracle(&self, place: usize) -> bool {
         let Bytes { settings, schedule, records } = black_box(self.bytes);
         let (record, list) = (&records[place], &self.lists[place]);
         let answer = oracle::judge(settings, schedule, record, LEADER, PRESENCE, list, PEER_BUFFER);
         matches!(answer, Answer::Verdict(verdict) if verdict.kind == VALID)
     }
-}
-
-/// How many calls gave true, and nanoseconds of all.
-fn clock<T>(calls: impl Iterator<Item = T>, call: impl FnMut(T) -> bool) -> (usize, f64) {
-    let start = Instant::now();
-    let valid = calls.map(call).filter(|valid| *valid).count();
-    (valid, start.elapsed().as_nanos() as f64)
+    fn direct(&self, place: usize, judging: &Judging<'_>, round: &DagRound) -> bool {
+        let (record, list) = (&black_box(self.bytes).records[place], &self.lists[place]);
+        let read = (direct::record(record), direct::records(list));
+        let valid = judging.is_valid(round.clone());
+        matches!(black_box(&read), (Some(_), Some(_))) && valid
+    }
 }

@@ -1,20 +1,20 @@
 //! One offer to books of many entries, and a plain pass over their bytes.
 
 use std::hint::black_box;
-use std::time::Instant;
 
+use inputs::clock::timed;
+use inputs::dag::Dag;
 use oracle::answer::VALID;
 use oracle::numbers::KEPT;
 use wutherdish::lent::{self, ANSWER, PEER_BUFFER};
 
-use crate::dag::Dag;
 use crate::pass::sum;
-use crate::rounds::{median, rounds};
+use crate::rounds::{count, median, rounds};
 
 /// Peers and entries. A book keeps 4,096 entries, so one is left for the offer; 4,096 of 100 peers are longer than the
-/// longest slice, and 100 of them are less than the two rounds that a point with full maps depends on.
-const BOOKS: [(usize, usize); 8] =
-    [(4, 100), (4, 1_000), (4, 4_095), (13, 100), (13, 1_000), (13, 4_095), (100, 300), (100, 1_000)];
+/// longest slice, and 100 of them are less than the two rounds that a point with full maps depends on, as are 500 of 253.
+const BOOKS: [(usize, usize); 9] =
+    [(4, 100), (4, 1_000), (4, 4_095), (13, 100), (13, 1_000), (13, 4_095), (100, 300), (100, 1_000), (253, 600)];
 
 const ROUNDS: usize = 101;
 /// A round reads about n bytes in each way.
@@ -30,7 +30,7 @@ Offering. Books of valid points, round by round: each point includes all points 
 but its author's of the one below that. The next point is offered. Nanoseconds a call, medians of the rounds; each round
 runs the ways over the same slice, which has room for one entry more.
   offer    wutherdish_offer: the list is needed, all its entries are found, the point is valid, its previous point is
-           marked, and it is kept; what that changes is put back after each call, which is not timed
+           marked, and it is kept; what that changes is put back after each call, and the time of that taken off
   refused  the same with a point that is kept already, so number 11: the book is read, and the point looked up
   pass     the slice summed as words of 64 bits, nothing else
 ";
@@ -125,27 +125,25 @@ impl<'a> Offering<'a> {
 
     /// Removes the last entry, and the mark that came with it.
     fn put_back(&mut self) {
-        self.slice[self.used..].fill(0);
-        self.slice[self.prev_flag] = 0;
+        let slice = black_box(&mut self.slice[..]);
+        slice[self.used..].fill(0);
+        slice[self.prev_flag] = 0;
     }
 
-    /// Nanoseconds a call, over `calls` calls. Each has to give what its way is about.
+    /// Nanoseconds a call, over `calls` calls. Each has to give what its way is about. What it takes to put the slice back
+    /// is measured too, and taken off.
     fn time(&mut self, way: Way, calls: usize) -> Result<f64, String> {
-        let mut nanoseconds = 0;
-        for _ in 0..calls {
-            let start = Instant::now();
+        let all = count(0..calls, |_| {
             let right = match way {
                 Way::Offer => self.offer(self.entries) == (0, VALID),
                 Way::Refused => self.offer(self.entries - 1).0 == KEPT,
                 Way::Pass => self.pass(),
             };
-            nanoseconds += start.elapsed().as_nanos();
             self.put_back();
-            if !right {
-                return Err("an offer gave something else than in the round before".to_string());
-            }
-        }
-        Ok(nanoseconds as f64 / calls as f64)
+            right
+        })?;
+        let ((), putting_back) = timed(|| (0..calls).for_each(|_| self.put_back()));
+        Ok(all - putting_back.as_nanos() as f64 / calls as f64)
     }
 
     fn pass(&self) -> bool {

@@ -1,44 +1,43 @@
-//! One call of the library, the first of a table's row, for callgrind to count.
+//! One call, the first of a table's row, for callgrind to count.
 
+use inputs::dag::Dag;
 use oracle::numbers::KEPT;
-use wutherdish::lent::{self, ANSWER, PEER_BUFFER};
 
-use crate::dag::Dag;
-use crate::judge::{LEADER, PRESENCE};
 use crate::offer::Offering;
-use crate::points::{bytes, bytes_with_lists};
+use crate::{judge, verify};
 
-/// Makes the call of a way: verify, judge, offer or refused.
+/// Makes the call of a way, by the library, or by the Rust.
 pub fn run(way: &str, peers: usize, entries: usize) -> Result<(), String> {
-    let (mut buffer, mut answer, mut number) = ([0; PEER_BUFFER], [0; ANSWER], u8::MAX);
-    match way {
-        "verify" => {
-            let of = bytes(peers, 1);
-            let record = &of.records[0];
-            counted(&mut || number = lent::verify(&of.settings, &of.schedule, record, &mut buffer, &mut answer));
-        }
-        "judge" => {
-            let (of, lists) = bytes_with_lists(peers, 1);
-            let (settings, schedule, record, list) = (&of.settings, &of.schedule, &of.records[0], &lists[0]);
-            counted(&mut || {
-                number = lent::judge(settings, schedule, record, LEADER, PRESENCE, list, &mut buffer, &mut answer);
-            });
-        }
-        "offer" | "refused" => {
-            let dag = Dag::new(peers, entries + 1);
-            let mut offering = Offering::new(&dag, entries)?;
-            let place = if way == "offer" { entries } else { entries - 1 };
-            counted(&mut || number = offering.offer(place).0);
-        }
-        _ => return Err(format!("{way} is none of verify, judge, offer and refused")),
-    }
-    let expected = if way == "refused" { KEPT } else { 0 };
-    if number == expected { Ok(()) } else { Err(format!("the call gave {number}")) }
+    let right = match way {
+        "verify" => verify::once(verify::Way::Library, peers)?,
+        "verify-direct" => verify::once(verify::Way::Direct, peers)?,
+        "verify-alone" => verify::once(verify::Way::Alone, peers)?,
+        "judge" => judge::once(judge::Way::Library, peers)?,
+        "judge-direct" => judge::once(judge::Way::Direct, peers)?,
+        "judge-alone" => judge::once(judge::Way::Alone, peers)?,
+        "offer" => offer(peers, entries, entries)? == 0,
+        "refused" => offer(peers, entries, entries - 1)? == KEPT,
+        _ => return Err(format!("there is no way {way}")),
+    };
+    if right { Ok(()) } else { Err("the call gave something else than it had to".to_string()) }
 }
 
-/// Callgrind counts what is done under this name.
+/// Offers the point at a place to the book of the first points.
+fn offer(peers: usize, entries: usize, place: usize) -> Result<u8, String> {
+    let dag = Dag::new(peers, entries + 1);
+    let mut offering = Offering::new(&dag, entries)?;
+    Ok(result_of(&mut || offering.offer(place).0))
+}
+
+/// Makes a call. Callgrind counts what is done under the name `counted`.
+pub fn result_of<T>(call: &mut dyn FnMut() -> T) -> T {
+    let mut result = None;
+    counted(&mut || result = Some(call()));
+    result.expect("the call was made")
+}
+
 #[unsafe(no_mangle)]
 #[inline(never)]
-pub fn counted(call: &mut dyn FnMut()) {
+fn counted(call: &mut dyn FnMut()) {
     call();
 }

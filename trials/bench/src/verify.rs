@@ -1,15 +1,15 @@
-//! Points that pass verification, verified in three ways.
+//! Points that pass verification, verified in four ways.
 
 use std::hint::black_box;
-use std::time::Instant;
 
+use inputs::points::{Bytes, bytes};
 use oracle::answer::PASSED;
-use oracle::numbers;
 use oracle::steps::{PointInfo, Steps, read_record};
+use oracle::{direct, numbers};
 use wutherdish::lent::{self, ANSWER, PEER_BUFFER};
 
-use crate::points::{Bytes, bytes};
-use crate::rounds::{median, rounds};
+use crate::once::result_of;
+use crate::rounds::{count, median, rounds};
 
 /// Points of each set, so that no call repeats the one before it.
 const POINTS: usize = 8;
@@ -17,44 +17,58 @@ const ROUNDS: usize = 301;
 
 const WORDS: &str = "\
 Verifying. Points that pass with full maps: all peers included, all but the author witnessed and in evidence.
-Nanoseconds a call, medians of the rounds; each round runs the three ways one after another over the same points.
-  library      wutherdish_verify, from bytes: settings, schedule and record are read in every call
-  Rust record  the Rust from the record's bytes: the oracle's reading of document 01's record into the source's
-               PointInfo, its maps built and freed, then BasicVerifier::verify; settings and schedule are there already
-  Rust verify  BasicVerifier::verify alone, on a PointInfo that is there already
+Nanoseconds a call, medians of the rounds; each round runs the four ways one after another over the same points.
+  library  wutherdish_verify, from bytes: settings, schedule and record are read in every call
+  oracle   the Rust from the record's bytes: the oracle's reading of document 01's record into the source's PointInfo,
+           its maps built and freed, then BasicVerifier::verify; settings and schedule are there already
+  direct   the same with the direct reader
+  alone    BasicVerifier::verify alone, on a PointInfo that is there already
 ";
 
 /// Prints a row for each count of peers.
 pub fn table(counts: &[usize]) -> Result<(), String> {
     println!("{WORDS}");
     println!("{ROUNDS} rounds, {POINTS} points for each count of peers");
-    println!("                      nanoseconds a call              ratio to the library");
-    println!("peers  record bytes   library  Rust record  Rust verify   record  verify");
+    println!("                             nanoseconds a call       ratio to the library");
+    println!("peers  record bytes   library    oracle    direct     alone   oracle  direct   alone");
     for &peers in counts {
         let mut points = Points::new(peers, POINTS)?;
         // few enough that other processes interrupt few rounds
         let calls = (4_000 / peers).next_multiple_of(POINTS);
         let rounds = rounds(ROUNDS, WAYS, |way| points.time(way, calls))?;
-        let [library, record, verify] = WAYS.map(|way| median(&rounds, |times| times[way as usize]));
-        let ratio = |way: Way| median(&rounds, |times| times[way as usize] / times[Way::Library as usize]);
-        print!("{peers:5}  {:12}  {library:8.0}  {record:11.0}  {verify:11.0}", points.bytes.records[0].len());
-        println!("   {:6.2}  {:6.2}", ratio(Way::ReadingRecord), ratio(Way::Verify));
+        print!("{peers:5}  {:12}", points.bytes.records[0].len());
+        print_times(&rounds);
     }
     Ok(())
 }
 
-/// How a point is verified.
-#[derive(Clone, Copy)]
-enum Way {
-    /// The static library, from the bytes of settings, schedule and record.
-    Library,
-    /// The Rust, from the record's bytes.
-    ReadingRecord,
-    /// The Rust, on a record that is already read.
-    Verify,
+fn print_times(rounds: &[[f64; 4]]) {
+    let [library, oracle, direct, alone] = WAYS.map(|way| median(rounds, |times| times[way as usize]));
+    let ratio = |way: Way| median(rounds, |times| times[way as usize] / times[Way::Library as usize]);
+    print!("  {library:8.0}  {oracle:8.0}  {direct:8.0}  {alone:8.0}");
+    println!("   {:6.2}  {:6.2}  {:6.2}", ratio(Way::Oracle), ratio(Way::Direct), ratio(Way::Alone));
 }
 
-const WAYS: [Way; 3] = [Way::Library, Way::ReadingRecord, Way::Verify];
+/// Whether the first point passes, for callgrind to count.
+pub fn once(way: Way, peers: usize) -> Result<bool, String> {
+    let mut points = Points::new(peers, 1)?;
+    Ok(result_of(&mut || points.passes(way, 0)))
+}
+
+/// How a point is verified.
+#[derive(Clone, Copy)]
+pub enum Way {
+    /// The static library, from the bytes of settings, schedule and record.
+    Library,
+    /// The Rust, from the record's bytes by the oracle's reader.
+    Oracle,
+    /// The Rust, from the record's bytes by the direct reader.
+    Direct,
+    /// The Rust, on a record that is already read.
+    Alone,
+}
+
+const WAYS: [Way; 4] = [Way::Library, Way::Oracle, Way::Direct, Way::Alone];
 
 /// The points of one set, as bytes and as the source's types.
 struct Points {
@@ -77,13 +91,8 @@ impl Points {
 
     /// Nanoseconds a call, over `calls` calls that go round the points. Every point has to pass.
     fn time(&mut self, way: Way, calls: usize) -> Result<f64, String> {
-        let start = Instant::now();
-        let mut passed = 0;
-        for call in 0..calls {
-            passed += usize::from(self.passes(way, call % self.infos.len()));
-        }
-        let nanoseconds = start.elapsed().as_nanos() as f64 / calls as f64;
-        if passed == calls { Ok(nanoseconds) } else { Err(format!("{passed} of {calls} points passed")) }
+        let points = self.infos.len();
+        count(0..calls, |call| self.passes(way, call % points))
     }
 
     fn passes(&mut self, way: Way, place: usize) -> bool {
@@ -95,8 +104,9 @@ impl Points {
                 let number = lent::verify(settings, schedule, record, &mut self.peers, &mut answer);
                 (number, answer[0]) == (0, PASSED)
             }
-            Way::ReadingRecord => read_record(record).is_some_and(|info| self.steps.passes(&info)),
-            Way::Verify => self.steps.passes(black_box(&self.infos[place])),
+            Way::Oracle => read_record(record).is_some_and(|info| self.steps.passes(&info)),
+            Way::Direct => direct::record(record).is_some_and(|info| self.steps.passes(&info)),
+            Way::Alone => self.steps.passes(black_box(&self.infos[place])),
         }
     }
 }

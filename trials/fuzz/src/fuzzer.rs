@@ -5,12 +5,12 @@ use std::path::{Path, PathBuf};
 use std::time::Instant;
 
 use cases::random::Random;
-use hard_use::call::Call;
 use hard_use::desk::Desk;
 use hard_use::fault::Fault;
 use hard_use::file::write;
 use hard_use::model::Model;
 use hard_use::watch;
+use inputs::call::Call;
 use oracle::numbers::BOOK;
 
 use crate::coverage::Coverage;

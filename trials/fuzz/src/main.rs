@@ -63,7 +63,7 @@ fn run(how: &str, seed: &str, runs: &str, count: &str, folder: &str, file: Optio
 }
 
 /// Fuzzes by a plan, and fails at the first difference.
-fn fuzz(plan: Plan, seeds: Vec<hard_use::call::Call>) -> Result<(), String> {
+fn fuzz(plan: Plan, seeds: Vec<inputs::call::Call>) -> Result<(), String> {
     let program = std::env::current_exe().map_err(|e| e.to_string())?;
     watch::start(BOUND);
     let (seed, runs) = (plan.seed, plan.runs);

@@ -4,9 +4,9 @@ use book::Offer;
 use cases::random::Random;
 use compare::damage::{buffer_length, damage, damage_list, flag};
 use compare::kind::{as_judge, as_verify};
-use hard_use::call::Call;
 use hard_use::fronts::{parts, share_fronts};
 use hard_use::wild::{any, joined};
+use inputs::call::Call;
 use oracle::file::Case;
 
 /// No part grows longer, so that a call stays one of microseconds.

@@ -5,9 +5,9 @@ use std::process::Command;
 
 use cases::random::Random;
 use feeds::{Feed, Step};
-use hard_use::call::Call;
 use hard_use::file::read;
 use hard_use::sources::{Source, calls};
+use inputs::call::Call;
 use oracle::file::{Blobs, blobs};
 
 /// Books of the feeds that are longer are left out: a call should take microseconds.

@@ -4,10 +4,10 @@ use std::fs;
 use std::path::{Path, PathBuf};
 use std::process::Command;
 
-use hard_use::call::Lent;
 use hard_use::fault::Fault;
 use hard_use::model::Model;
 use hard_use::watch::FAULTED;
+use inputs::call::Lent;
 
 use crate::fuzzer::{DIFFERENCE, LAST, Plan};
 use crate::{fuzz, seeds};

@@ -3,9 +3,9 @@
 use std::collections::BTreeMap;
 use std::time::Duration;
 
+use inputs::call::Call;
 use oracle::answer::{FAIL, ILL_FORMED, INVALID, PASSED, TRANS_INVALID, VALID};
 
-use crate::call::Call;
 use crate::model::Expected;
 
 #[derive(Default)]

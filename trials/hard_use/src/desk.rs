@@ -3,17 +3,16 @@
 use std::io;
 use std::time::Duration;
 
-use book::LONGEST;
+use inputs::call::{Call, Lent};
 use wutherdish_sys::ANSWER;
 
-use crate::call::{Call, Lent};
 use crate::fault::Fault;
 use crate::memory::{Access, Buffer, Side};
 use crate::model::Expected;
 use crate::{raw, watch};
 
 /// Room for what is lent: over the longest book and the longest list that the sources make.
-const ROOM: usize = LONGEST + 65_536;
+const ROOM: usize = 24 << 20;
 
 /// One worker's memory to lend from.
 pub struct Desk {
@@ -46,9 +45,9 @@ impl Desk {
         &self.buffers[lent as usize]
     }
 
-    /// Lays out what the call is lent and makes it. The lowest bits of `layout` choose each buffer's side, the next eight
-    /// what the buffers hold that are to be written.
-    pub fn call(&mut self, call: &Call, layout: u64) -> Called {
+    /// Lays out what the call is lent. The lowest bits of `layout` choose each buffer's side, the next eight what the buffers
+    /// hold that are to be written.
+    pub fn lay_out(&mut self, call: &Call, layout: u64) {
         let side = |lent: Lent| if layout >> lent as u8 & 1 == 1 { Side::Upper } else { Side::Lower };
         let fill = (layout >> 7) as u8;
         for (lent, bytes) in call.inputs() {
@@ -64,6 +63,11 @@ impl Desk {
             Call::Offer { book: Some(bytes), .. } => book.lend(bytes, side(Lent::Book), fill),
             _ => {}
         }
+    }
+
+    /// Lays out what the call is lent, and makes it.
+    pub fn call(&mut self, call: &Call, layout: u64) -> Called {
+        self.lay_out(call, layout);
         let (number, took) = watch::timed(|| {
             let number = raw::call(self, call);
             match self.fault {

@@ -2,7 +2,8 @@
 
 use std::time::Duration;
 
-use crate::call::{Call, Lent};
+use inputs::call::{Call, Lent};
+
 use crate::desk::Desk;
 
 /// Longer than any bound.

@@ -1,9 +1,8 @@
 //! Calls in files, laid out as docs/FORMAT.md says, without the answers.
 
 use book::Offer;
+use inputs::call::Call;
 use oracle::file::{Blobs, Case, JUDGE, VERIFY};
-
-use crate::call::Call;
 
 const OPEN: u8 = 3;
 const OFFER_TO: u8 = 6;

@@ -2,9 +2,8 @@
 
 use cases::random::Random;
 use compare::damage::fields;
+use inputs::call::Call;
 use oracle::file::Case;
-
-use crate::call::Call;
 
 /// Shifts every peer and digest of a call after the same bytes, as many for all: what was equal stays equal, and what
 /// was in order stays in order unless too little of it is left.

@@ -1,6 +1,5 @@
 //! The C calls on bytes that stand between guard pages, against the model.
 
-pub mod call;
 pub mod counts;
 pub mod desk;
 pub mod fault;
@@ -12,6 +11,7 @@ mod opening;
 mod raw;
 mod small_book;
 pub mod sources;
+pub mod stack;
 pub mod watch;
 pub mod wild;
 pub mod worker;

@@ -7,12 +7,14 @@ use std::time::{Duration, Instant};
 
 use compare::run::{Range, run};
 use hard_use::model::Model;
-use hard_use::watch;
 use hard_use::worker::{Plan, Worker};
+use hard_use::{stack, watch};
+use inputs::call::Call;
 
 const USAGE: &str = "hard_use COMMAND
   run SEED PLACES [THREADS]   the calls of PLACES places, each on bytes between guard pages, against the model
   place SEED PLACE            the calls of one place
+  stack SEED PLACES           how much stack the calls of PLACES places need; fails where it is more than the header says
   self-test [EVERY]           makes faults beside the calls, and mistakes in the model, all or one in EVERY; each has to
                               be noticed
 THREADS is 1 or 2, by default 2";
@@ -29,6 +31,7 @@ fn main() -> ExitCode {
         ["run", seed, places] => long_run(seed, places, "2"),
         ["run", seed, places, threads @ ("1" | "2")] => long_run(seed, places, threads),
         ["place", seed, place] => one_place(seed, place),
+        ["stack", seed, places] => stack(seed, places),
         ["self-test"] => self_test::run(1),
         ["self-test", every] => number(every).and_then(|every| self_test::run(every.max(1) as usize)),
         ["faulty", fault] => self_test::faulty(fault),
@@ -63,6 +66,13 @@ fn long_run(seed: &str, places: &str, threads: &str) -> Result<(), String> {
         calls as f64 / seconds,
         BOUND.as_secs()
     );
+    Ok(())
+}
+
+fn stack(seed: &str, places: &str) -> Result<(), String> {
+    let most = stack::most(number(seed)?, number(places)?)?;
+    let needs: Vec<String> = Call::NAMES.iter().zip(most).map(|(name, need)| format!("{name} {need}")).collect();
+    println!("seed {seed}, {places} places: the most bytes of stack that a call needed: {}", needs.join(", "));
     Ok(())
 }
 

@@ -1,12 +1,11 @@
 //! What the library has to leave: the oracle's answer, and the plain book's.
 
 use book::{Book, Offer};
+use inputs::call::Call;
 use oracle::Answer;
 use oracle::file::Case;
 use oracle::value::Peer;
 use plain::{KNOWN_PANIC, Prepared};
-
-use crate::call::Call;
 
 /// The model; for the self-test with one of its mistakes made in it.
 #[derive(Clone, Copy, Default)]

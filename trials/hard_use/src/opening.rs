@@ -2,8 +2,7 @@
 
 use book::{LONGEST, SETTINGS};
 use cases::random::Random;
-
-use crate::call::Call;
+use inputs::call::Call;
 
 /// One in n slices is around the greatest length, of 16 MiB.
 const LONG: usize = 1_000;

@@ -1,10 +1,10 @@
 //! The four C calls on what a desk lends. Each length is that of the buffer before it, and buffers don't overlap.
 
 use book::Offer;
+use inputs::call::{Call, Lent};
 use oracle::file::Case;
 use wutherdish_sys::{ANSWER, wutherdish_judge, wutherdish_offer, wutherdish_open, wutherdish_verify};
 
-use crate::call::{Call, Lent};
 use crate::desk::Desk;
 
 pub fn call(desk: &Desk, call: &Call) -> u8 {

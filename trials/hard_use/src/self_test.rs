@@ -80,12 +80,14 @@ fn first_difference(worker: &mut Worker, plan: Plan, places: u64) -> Option<Stri
         .find_map(|place| worker.run(plan, place).err().map(|why| format!("seed {}, place {place}: {why}", plan.seed)))
 }
 
-/// Places of the run without offers: these don't ask the judge that has the mistake.
+/// Places of the run without offers, which don't ask the judge that has the mistake, and without long lists.
 fn judge_mistake(worker: &mut Worker, mistake: plain::Mistake) -> Result<(), String> {
     let model = Model { judge_mistake: Some(mistake), book_mistake: None };
     let plan = Plan { seed: SEED, model, fault: None };
     let has_cases = |place: &u64| {
-        !matches!(Source::of(SEED, *place), Source::Feed | Source::DamagedBook | Source::SmallBook | Source::Opening)
+        let source = Source::of(SEED, *place);
+        let others = [Source::Feed, Source::DamagedBook, Source::SmallBook, Source::Opening, Source::Dear];
+        !others.contains(&source)
     };
     let noticed = (0..MISTAKE_PLACES).filter(has_cases).any(|place| worker.run(plan, place).is_err());
     if noticed { Ok(()) } else { Err(format!("a mistake of the judge went unnoticed: {}", mistake.text())) }

@@ -4,11 +4,11 @@ use book::{Entry, Offer, Root, State};
 use cases::random::Random;
 use compare::damage::{buffer_length, damage, flag};
 use compare::kind::as_judge;
+use inputs::call::Call;
 use oracle::file::Case;
 use oracle::value::{Id, Through};
 use oracle::{PEER_BUFFER, read};
 
-use crate::call::Call;
 use crate::wild::{any, joined};
 
 /// Entries of a book at most.

@@ -5,8 +5,9 @@ use cases::random::Random;
 use compare::damage::{damaged, judge_damaged};
 use compare::kind::{as_judge, as_verify};
 use compare::permute::permuted;
+use inputs::call::Call;
+use inputs::dear::Shape;
 
-use crate::call::Call;
 use crate::fronts::share_fronts;
 use crate::{opening, small_book, wild};
 
@@ -25,10 +26,11 @@ pub enum Source {
     Opening,
     Spliced,
     Wild,
+    Dear,
 }
 
 /// Sources with their parts of the places. A feed's place has 200 offers, a permuted one up to 48 calls.
-const PARTS: [(Source, usize); 10] = [
+const PARTS: [(Source, usize); 11] = [
     (Source::Generated, 450),
     (Source::Damaged, 500),
     (Source::Permuted, 250),
@@ -39,7 +41,12 @@ const PARTS: [(Source, usize); 10] = [
     (Source::Opening, 60),
     (Source::Spliced, 250),
     (Source::Wild, 150),
+    (Source::Dear, 4),
 ];
+
+/// The longest of the dear inputs. Longer lists of versions are left out: they cost with their square, these up to 0.2 s, and
+/// a loaded machine makes seconds of that.
+const LONGEST: usize = 4_096;
 
 impl Source {
     pub fn of(seed: u64, place: u64) -> Self {
@@ -65,6 +72,7 @@ impl Source {
             Self::Opening => "openings",
             Self::Spliced => "spliced cases",
             Self::Wild => "wild bytes",
+            Self::Dear => "dear inputs",
         }
     }
 }
@@ -81,9 +89,18 @@ pub fn calls(source: Source, seed: u64, place: u64) -> Vec<Call> {
         Source::SmallBook => return small_book::offers(&mut random, seed, place),
         Source::SharedFronts => return alike(&mut random, seed, place),
         Source::Opening => return vec![opening::opening(&mut random, seed, place)],
+        Source::Dear => return vec![dear(&mut random)],
         Source::Feed | Source::DamagedBook => unreachable!("their calls hang on one another"),
     };
     cases.into_iter().map(Call::Case).collect()
+}
+
+/// A call of any shape; one in four is as long as may be.
+fn dear(random: &mut Random) -> Call {
+    let shape = random.pick(&Shape::all());
+    let longest = shape.most.min(LONGEST);
+    let count = if random.chance(1, 4) { longest } else { random.below(longest + 1) };
+    shape.make(random, count).call
 }
 
 /// The calls of another source, with ids that are alike at their front; some of them are damaged then.

@@ -11,6 +11,8 @@ use std::sync::atomic::{AtomicI32, AtomicPtr, AtomicU64, AtomicUsize, Ordering::
 use std::time::{Duration, Instant};
 use std::{ptr, thread};
 
+use inputs::clock;
+
 /// Exit statuses.
 pub const FAULTED: i32 = 3;
 pub const HUNG: i32 = 4;
@@ -44,17 +46,6 @@ unsafe extern "C" {
     fn sigaction(signal: c_int, action: *const Action, before: *mut Action) -> c_int;
     fn write(file: c_int, bytes: *const u8, length: usize) -> isize;
     fn _exit(status: c_int) -> !;
-    fn clock_gettime(clock: c_int, time: *mut Time) -> c_int;
-}
-
-/// The clock of a thread's own time on a processor.
-const THREAD_TIME: c_int = 3;
-
-/// `struct timespec`
-#[repr(C)]
-struct Time {
-    seconds: i64,
-    nanoseconds: i64,
 }
 
 /// Workers at most.
@@ -115,19 +106,9 @@ pub fn timed<T>(call: impl FnOnce() -> T) -> (T, Duration) {
     let doing = &DOING[WORKER.get()];
     doing.call.fetch_add(1, Relaxed);
     doing.since.store(milliseconds(Instant::now()) + 1, Relaxed);
-    let start = thread_time();
-    let result = call();
-    let took = thread_time().saturating_sub(start);
+    let timed = clock::timed(call);
     doing.since.store(0, Relaxed);
-    (result, took)
-}
-
-fn thread_time() -> Duration {
-    let mut time = Time { seconds: 0, nanoseconds: 0 };
-    // SAFETY: the time is laid out as the C library's.
-    let status = unsafe { clock_gettime(THREAD_TIME, &mut time) };
-    assert_eq!(status, 0, "the thread's time can't be read");
-    Duration::new(time.seconds as u64, time.nanoseconds as u32)
+    timed
 }
 
 fn milliseconds(now: Instant) -> u64 {

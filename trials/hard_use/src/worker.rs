@@ -2,8 +2,8 @@
 
 use cases::random::Random;
 use feeds::{Feed, Step, damaged_books};
+use inputs::call::Call;
 
-use crate::call::Call;
 use crate::counts::Counts;
 use crate::desk::Desk;
 use crate::fault::Fault;

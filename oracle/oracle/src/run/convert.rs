@@ -67,7 +67,7 @@ pub fn point_info(point: &value::Point) -> PointInfo {
     PointInfo::unsigned(point_id(&point.id), point.payload_len, point.payload_bytes, data)
 }
 
-fn link(link: &value::AnchorLink) -> AnchorLink {
+pub fn link(link: &value::AnchorLink) -> AnchorLink {
     let peer = PeerId(link.peer);
     let through = match link.through {
         value::Through::Includes => models::Through::Includes(peer),
@@ -79,7 +79,7 @@ fn link(link: &value::AnchorLink) -> AnchorLink {
     }
 }
 
-fn role(role: &value::PointRole) -> models::PointRole {
+pub fn role(role: &value::PointRole) -> models::PointRole {
     match *role {
         value::PointRole::Regular => models::PointRole::Regular,
         value::PointRole::AnchorProof { seq_no, is_last } => models::PointRole::AnchorProof { seq_no, is_last },

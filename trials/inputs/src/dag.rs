@@ -19,6 +19,11 @@ pub struct Dag {
 impl Dag {
     /// At least as many points as `points`, in a set of as many peers as `peers`, at least four.
     pub fn new(peers: usize, points: usize) -> Self {
+        Self::with_digests(peers, points, Random::bytes)
+    }
+
+    /// The same with digests of one's own.
+    pub fn with_digests(peers: usize, points: usize, digest: fn(&mut Random) -> Digest) -> Self {
         let random = &mut Random::new(peers as u64, 2);
         let set = set(random, peers);
         let settings = settings(random);
@@ -33,14 +38,14 @@ impl Dag {
         let mut below = [vec![genesis.id], Vec::new()];
         while dag.entries.len() < points {
             round += 1;
-            below = dag.add_round(random, round, genesis.id, below);
+            let ids = dag.set.iter().map(|&author| Id { round, digest: digest(random), author }).collect();
+            below = dag.add_round(random, ids, genesis.id, below);
         }
         dag
     }
 
-    /// Adds a point of each peer; gives the ids of the two rounds below the next one.
-    fn add_round(&mut self, random: &mut Random, round: u32, genesis: Id, below: [Vec<Id>; 2]) -> [Vec<Id>; 2] {
-        let ids: Vec<Id> = self.set.iter().map(|&author| Id { round, digest: random.bytes(), author }).collect();
+    /// Adds the points of a round; gives the ids of the two rounds below the next one.
+    fn add_round(&mut self, random: &mut Random, ids: Vec<Id>, genesis: Id, below: [Vec<Id>; 2]) -> [Vec<Id>; 2] {
         for id in &ids {
             self.entries.push(entry(&self.point(random, *id, genesis, &below)));
         }

@@ -7,7 +7,7 @@ use oracle::value::{
 use oracle::write;
 
 pub const GENESIS: u32 = 100;
-const ROUND: u32 = 110;
+pub const ROUND: u32 = 110;
 pub const ANCHOR_TIME: u64 = 1_700_000_000_000;
 
 /// Settings, a schedule of one set, and records of points of that set.
@@ -56,7 +56,7 @@ pub fn settings(random: &mut Random) -> Settings {
     }
 }
 
-fn with_records(random: &mut Random, set: Vec<Peer>, records: Vec<Vec<u8>>) -> Bytes {
+pub fn with_records(random: &mut Random, set: Vec<Peer>, records: Vec<Vec<u8>>) -> Bytes {
     let settings = settings(random);
     let schedule = Schedule { spans: vec![Span { first: GENESIS, peers: set }], last_known: ROUND + 4 };
     Bytes { settings: write::settings(&settings), schedule: write::schedule(&schedule), records }
@@ -67,7 +67,7 @@ fn id(random: &mut Random, set: &[Peer], round: u32, place: usize) -> Id {
 }
 
 /// All of the set included, all but the author witnessed and in evidence. The link to a proof is direct if none is named.
-fn full(random: &mut Random, set: &[Peer], id: Id, proof: Option<Id>, trigger: Id) -> Point {
+pub fn full(random: &mut Random, set: &[Peer], id: Id, proof: Option<Id>, trigger: Id) -> Point {
     let others: Vec<Peer> = set.iter().filter(|peer| **peer != id.author).copied().collect();
     Point {
         id,
@@ -84,11 +84,24 @@ fn full(random: &mut Random, set: &[Peer], id: Id, proof: Option<Id>, trigger: I
     }
 }
 
-/// A point, and a list by which it is valid: all its dependencies in any order, which link to its own proof and trigger,
-/// then that proof and that trigger.
+/// A point, and a list by which it is valid.
 fn with_list(random: &mut Random, set: &[Peer], place: usize) -> (Point, Vec<Entry>) {
-    let [older, trigger, proof, judged] = [101, 105, 106, ROUND].map(|round| id(random, set, round, place));
-    let point = full(random, set, judged, Some(proof), trigger);
+    let point = judged(random, set, place);
+    let list = list_of(random, set, &point);
+    (point, list)
+}
+
+/// A point with full maps and two indirect links.
+pub fn judged(random: &mut Random, set: &[Peer], place: usize) -> Point {
+    let [trigger, proof, judged] = [105, 106, ROUND].map(|round| id(random, set, round, place));
+    full(random, set, judged, Some(proof), trigger)
+}
+
+/// A list by which a point with two indirect links is valid: all its dependencies in any order, which link to its own
+/// proof and trigger, then that proof and that trigger.
+pub fn list_of(random: &mut Random, set: &[Peer], point: &Point) -> Vec<Entry> {
+    let [Some(proof), Some(trigger)] = [point.anchor_proof.to, point.anchor_trigger.to] else { return Vec::new() };
+    let older = id(random, set, 101, 0);
     let mut dependencies: Vec<Id> = point.dependencies(Through::Includes).collect();
     dependencies.extend(point.dependencies(Through::Witness));
     random.shuffle(&mut dependencies);
@@ -101,7 +114,7 @@ fn with_list(random: &mut Random, set: &[Peer], place: usize) -> (Point, Vec<Ent
     for (stage, id, role) in targets {
         list.push(valid(Some(stage), Point { role, ..full(random, set, id, Some(older), older) }));
     }
-    (point, list)
+    list
 }
 
 /// The previous point has to be certified, the others may be.
