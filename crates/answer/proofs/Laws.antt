@@ -17,8 +17,9 @@ use Rattle.point.specs.declared.data.AnchorStageRole.{AnchorStageRole}
 use Rattle.point.specs.declared.data.AnchorStageRole.the-variants.{Proof, Trigger}
 use Rattle.point.specs.declared.data.PointMap.{PointMap}
 use Rattle.point.specs.declared.data.PointMap.the-variants.{Evidence, Includes, Witness}
-use Rattle.reasons.specs.IllFormed.{illFormedNumber}
-use Rattle.reasons.specs.Invalid.{InvalidReason, NoRoundInDag, DependencyRoundDropped, NotTrigger, TerminalTriggerBeforeLastProof, TimeNotGreaterThanInPrevPoint, AnchorProofDoesntInheritAnchorTime, AnchorTimeNotInheritedFromProof, MustHaveReferencedPrevPoint, MustHaveSkippedRound, DependencyTimeTooFarInFuture, NewerAnchorInDependency, AnchorLink, AnchorLinkRole, AnchorLinkBadPath, BadStickySequence, TriggerProofMismatch, DepIllFormed, DepNotFound, invalidNumber}
+use Rattle.reasons.specs.Answer.{Answer, mapNumber, roleNumber, flag}
+use Rattle.reasons.specs.IllFormed.{issueAnswer, illFormedNumber, illFormedAnswer, errorAnswer}
+use Rattle.reasons.specs.Invalid.{InvalidReason, NoRoundInDag, DependencyRoundDropped, NotTrigger, TerminalTriggerBeforeLastProof, TimeNotGreaterThanInPrevPoint, AnchorProofDoesntInheritAnchorTime, AnchorTimeNotInheritedFromProof, MustHaveReferencedPrevPoint, MustHaveSkippedRound, DependencyTimeTooFarInFuture, NewerAnchorInDependency, AnchorLink, AnchorLinkRole, AnchorLinkBadPath, BadStickySequence, TriggerProofMismatch, DepIllFormed, DepNotFound, invalidNumber, invalidAnswer}
 use Rattle.reasons.specs.Verdict as verdict
 use Rattle.reasons.specs.declared.ill_formed.UninitVset.{UninitVset}
 use Rattle.reasons.specs.declared.ill_formed.StructureIssue.{StructureIssue}
@@ -28,7 +29,8 @@ use Rattle.reasons.specs.declared.ill_formed.IllFormedReason.the-variants.{Befo
 use Rattle.reasons.specs.declared.ill_formed.VerifyError.the-variants.{Fail, IllFormed}
 use Rattle.reasons.specs.declared.ill_formed.Verified.{Verified}
 use Rattle.reasons.specs.declared.ill_formed.Verified.the-variants.{Passed, Failed}
-use Rattle.rules.specs.Answer.{Answer, Values, mapNumber, roleNumber, flag, issueValues, illFormedValues, failAnswer, verifiedAnswer, invalidValues, invalidId, throughNumber, verdictAnswer, answerBytes}
+use Rattle.rules.specs.Answer.{verifiedAnswer, throughNumber, verdictAnswer, answerBytes}
+use Rattle.answer.specs.Code.{Values, valuesIn, named, plain}
 
 pub answer-length : (a : Answer) → length (answerBytes a) ≡ 114
 unfolding answerBytes
@@ -37,6 +39,53 @@ answer-length a = refl
 -- a store is a run of one
 pub set-put : (l : List ℕ) (i x : ℕ) → i < length l → set l i x ≡ putAt l i (x ∷ [])
 set-put l i x h = put-is l i (x ∷ []) (omega arith)
+
+-- ---- an answer is made of its reason's number, the point that it names, and what it carries
+
+pub issue-parts : (i : StructureIssue) → valuesIn (issueAnswer i) ≡ valuesIn (illFormedAnswer (Structure i))
+issue-parts (ExpectedGenesis b) = refl
+issue-parts BadGenesisPrevPoint = refl
+issue-parts (AuthorInMap m) = refl
+issue-parts TriggerBadProofLink = refl
+issue-parts (Link g m) = refl
+issue-parts AnchorTime = refl
+issue-parts NoPrevPoint = refl
+
+pub ill-formed-parts : (r : IllFormedReason) → plain 3 (illFormedNumber r) (valuesIn (illFormedAnswer r)) ≡ illFormedAnswer r
+ill-formed-parts BeforeGenesis = refl
+ill-formed-parts UnknownAuthor = refl
+ill-formed-parts FalseGenesis = refl
+ill-formed-parts (TooLargePayload n) = refl
+ill-formed-parts (Structure i) = refl
+ill-formed-parts (TooManyStickyAnchors n) = refl
+ill-formed-parts BadLastStickyFlag = refl
+ill-formed-parts LinksAcrossGenesis = refl
+ill-formed-parts (MustBeEmpty m) = refl
+ill-formed-parts (UnknownPeers n m) = refl
+ill-formed-parts (UnknownPeerInAnchorLink g) = refl
+ill-formed-parts (LackOfPeers n f m) = refl
+ill-formed-parts NotRegular = refl
+ill-formed-parts (BadWaveLink b) = refl
+
+pub invalid-parts : (r : InvalidReason) → named 2 (invalidNumber r) (invalidAnswer r .id) (valuesIn (invalidAnswer r)) ≡ invalidAnswer r
+invalid-parts (NoRoundInDag m) = refl
+invalid-parts DependencyRoundDropped = refl
+invalid-parts (NotTrigger i) = refl
+invalid-parts (TerminalTriggerBeforeLastProof i) = refl
+invalid-parts (TimeNotGreaterThanInPrevPoint i) = refl
+invalid-parts (AnchorProofDoesntInheritAnchorTime i) = refl
+invalid-parts (AnchorTimeNotInheritedFromProof i) = refl
+invalid-parts (MustHaveReferencedPrevPoint i) = refl
+invalid-parts (MustHaveSkippedRound i) = refl
+invalid-parts (DependencyTimeTooFarInFuture i) = refl
+invalid-parts (NewerAnchorInDependency g i) = refl
+invalid-parts (AnchorLink g i) = refl
+invalid-parts (AnchorLinkRole g i) = refl
+invalid-parts (AnchorLinkBadPath g i) = refl
+invalid-parts (BadStickySequence i o n) = refl
+invalid-parts (TriggerProofMismatch i b) = refl
+invalid-parts (DepIllFormed i n) = refl
+invalid-parts (DepNotFound i) = refl
 
 -- ---- the verdict is read back from its answer
 
@@ -79,16 +128,13 @@ reasonOf n v =
     (n - 3)
     (BadWaveLink (eqb (v .first) 1))
 
-abbrev carriedBy : Answer → Values
-carriedBy a = record { map = a .map; role = a .role; first = a .first; second = a .second; unknown = a .unknown }
-
 abbrev failOf : Answer → UninitVset
 failOf a = record { len = a .first; round = a .second; map = mapOf (a .map) }
 
 abbrev verifiedOf : Answer → Verified
 verifiedOf a =
     getD
-    (Failed (IllFormed (reasonOf (a .reason) (carriedBy a)))
+    (Failed (IllFormed (reasonOf (a .reason) (valuesIn a)))
     ∷ Failed (Fail (failOf a))
     ∷ [])
     (a .kind - 3)
@@ -129,8 +175,8 @@ verdictOf a =
     getD
     (verdict.Valid
     ∷ verdict.TransInvalid (record { to = a .id; reason = a .rootReason; through = throughOf (a .map) (a .peer) })
-    ∷ verdict.Invalid (invalidOf (a .reason) (a .id) (carriedBy a))
-    ∷ verdict.IllFormed (reasonOf (a .reason) (carriedBy a))
+    ∷ verdict.Invalid (invalidOf (a .reason) (a .id) (valuesIn a))
+    ∷ verdict.IllFormed (reasonOf (a .reason) (valuesIn a))
     ∷ [])
     (a .kind)
     (verdict.Fail (failOf a))
@@ -148,7 +194,7 @@ flag-back : (b : Bool) → eqb (flag b) 1 ≡ b
 flag-back true = refl
 flag-back false = refl
 
-issue-back : (i : StructureIssue) → issueOf (issueValues i) ≡ i
+issue-back : (i : StructureIssue) → issueOf (valuesIn (issueAnswer i)) ≡ i
 issue-back (ExpectedGenesis b) = ap ExpectedGenesis (flag-back b)
 issue-back BadGenesisPrevPoint = refl
 issue-back (AuthorInMap m) = ap AuthorInMap (map-back m)
@@ -157,7 +203,7 @@ issue-back (Link g m) = rw (role-back g, map-back m)
 issue-back AnchorTime = refl
 issue-back NoPrevPoint = refl
 
-reason-back : (r : IllFormedReason) → reasonOf (illFormedNumber r) (illFormedValues r) ≡ r
+reason-back : (r : IllFormedReason) → reasonOf (illFormedNumber r) (valuesIn (illFormedAnswer r)) ≡ r
 reason-back BeforeGenesis = refl
 reason-back UnknownAuthor = refl
 reason-back FalseGenesis = refl
@@ -173,13 +219,13 @@ reason-back (LackOfPeers n f m) = ap (LackOfPeers n f) (map-back m)
 reason-back NotRegular = refl
 reason-back (BadWaveLink b) = ap BadWaveLink (flag-back b)
 
-fail-back : (u : UninitVset) → failOf (failAnswer u) ≡ u
+fail-back : (u : UninitVset) → failOf (errorAnswer (Fail u)) ≡ u
 fail-back u = ap (λ (m : PointMap). record { len = u .len; round = u .round; map = m }) (map-back (u .map))
 
 answer-back : (v : Verified) → verifiedOf (verifiedAnswer v) ≡ v
 answer-back Passed = refl
 answer-back (Failed (Fail u)) = ap (λ u. Failed (Fail u)) (fail-back u)
-answer-back (Failed (IllFormed r)) = ap (λ r. Failed (IllFormed r)) (reason-back r)
+answer-back (Failed (IllFormed r)) = ap verifiedOf (sym (ill-formed-parts r)) ∙ ap (λ r. Failed (IllFormed r)) (reason-back r)
 
 -- two verdicts with the same answer are the same
 pub answer-injective : (v w : Verified) → verifiedAnswer v ≡ verifiedAnswer w → v ≡ w
@@ -192,7 +238,7 @@ PrevIsByte v = (i : PointId) (m n : ℕ) → v ≡ verdict.Invalid (BadStickySeq
 prev-back : (m : ℕ) → m < 256 → prevOf m ≡ some m
 prev-back m h = simp (ne-eqb m 4294967295 (λ e. omega arith))
 
-invalid-back : (r : InvalidReason) → PrevIsByte (verdict.Invalid r) → invalidOf (invalidNumber r) (invalidId r) (invalidValues r) ≡ r
+invalid-back : (r : InvalidReason) → PrevIsByte (verdict.Invalid r) → invalidOf (invalidNumber r) (invalidAnswer r .id) (valuesIn (invalidAnswer r)) ≡ r
 invalid-back (NoRoundInDag m) h = ap NoRoundInDag (map-back m)
 invalid-back DependencyRoundDropped h = refl
 invalid-back (NotTrigger i) h = refl
@@ -219,8 +265,8 @@ through-back (point.Witness x) = refl
 
 verdict-back : (v : verdict.Verdict) → PrevIsByte v → verdictOf (verdictAnswer v) ≡ v
 verdict-back (verdict.Fail u) h = ap verdict.Fail (fail-back u)
-verdict-back (verdict.IllFormed r) h = ap verdict.IllFormed (reason-back r)
-verdict-back (verdict.Invalid r) h = ap verdict.Invalid (invalid-back r h)
+verdict-back (verdict.IllFormed r) h = ap verdictOf (sym (ill-formed-parts r)) ∙ ap verdict.IllFormed (reason-back r)
+verdict-back (verdict.Invalid r) h = ap verdictOf (sym (invalid-parts r)) ∙ ap verdict.Invalid (invalid-back r h)
 verdict-back (verdict.TransInvalid d) h = ap (λ (t : Through). verdict.TransInvalid (record { to = d .to; reason = d .reason; through = t })) (through-back (d .through))
 verdict-back verdict.Valid h = refl
 

@@ -19,8 +19,13 @@ ghost use lib.ListN.{length};
 ghost use Rattle.parts.specs.Bytes.{putAt};
 ghost use Rattle.point.specs.Code.{pointIdOf, throughOf};
 ghost use Rattle.reasons.specs.Code.{prevSeqNoOf, reasonOf, dependencyOf, verdictOf};
-ghost use Rattle.rules.specs.Answer.{mapNumber, roleNumber, flag, values, issueValues, illFormedValues, named, plain, failAnswer, verifiedAnswer, prevSeqNo, invalidValues, invalidId, throughNumber, dependencyAnswer, verdictAnswer, headBytes, numberBytes, rootBytes, answerBytes};
-ghost use Rattle.answer.specs.Code.{valuesOf, answerOf};
+ghost use Rattle.reasons.specs.Answer.{mapNumber, roleNumber, flag};
+ghost use Rattle.reasons.specs.IllFormed.{issueAnswer, illFormedAnswer, errorAnswer};
+ghost use Rattle.reasons.specs.Invalid.{prevSeqNo, invalidAnswer};
+ghost use Rattle.reasons.specs.Verdict.{TransInvalid};
+ghost use Rattle.reasons.specs.declared.ill_formed.VerifyError.the-variants as case-error;
+ghost use Rattle.rules.specs.Answer.{verifiedAnswer, throughNumber, verdictAnswer, headBytes, numberBytes, rootBytes, answerBytes};
+ghost use Rattle.answer.specs.Code.{values, valuesIn, named, plain, valuesOf, answerOf};
 
 // What a reason carries beside its number.
 pub struct Values {
@@ -84,7 +89,7 @@ fn carried(map: u8, role: u8, first: u32, second: u32, unknown: u8) -> Values
 }
 
 fn of_issue(issue: StructureIssue) -> Values
-    ensures { λ r. ⌜ valuesOf r ≡ issueValues issue ⌝ }
+    ensures { λ r. ⌜ valuesOf r ≡ valuesIn (issueAnswer issue) ⌝ }
 {
     match issue {
         StructureIssue::ExpectedGenesis(b) => carried(NONE, NONE, 1, flag(b), 0),
@@ -98,7 +103,7 @@ fn of_issue(issue: StructureIssue) -> Values
 }
 
 fn of_ill_formed(reason: IllFormedReason) -> Values
-    ensures { λ r. ⌜ valuesOf r ≡ illFormedValues reason ⌝ }
+    ensures { λ r. ⌜ valuesOf r ≡ valuesIn (illFormedAnswer reason) ⌝ }
 {
     match reason {
         IllFormedReason::BeforeGenesis => carried(NONE, NONE, 0, 0, 0),
@@ -146,7 +151,7 @@ fn plain(kind: u8, reason: u8, v: Values) -> Answer
 }
 
 fn of_fail(u: UninitVset) -> Answer
-    ensures { λ r. ⌜ answerOf r ≡ failAnswer u ⌝ }
+    ensures { λ r. ⌜ answerOf r ≡ errorAnswer (case-error.Fail u) ⌝ }
 {
     let map = u.map;
     plain(
@@ -179,7 +184,7 @@ fn prev_seq_no(prev: PrevSeqNo) -> u32
 }
 
 fn of_invalid(reason: InvalidReason) -> Values
-    ensures { λ r. ⌜ valuesOf r ≡ invalidValues (reasonOf reason) ⌝ }
+    ensures { λ r. ⌜ valuesOf r ≡ valuesIn (invalidAnswer (reasonOf reason)) ⌝ }
 {
     match reason {
         InvalidReason::NoRoundInDag(m) => carried(map_number(m), NONE, 0, 0, 0),
@@ -207,7 +212,7 @@ fn of_invalid(reason: InvalidReason) -> Values
 
 // The point that a reason names, or none.
 fn id_of(reason: InvalidReason) -> PointId
-    ensures { λ r. ⌜ pointIdOf r ≡ invalidId (reasonOf reason) ⌝ }
+    ensures { λ r. ⌜ pointIdOf r ≡ invalidAnswer (reasonOf reason) .id ⌝ }
 {
     match reason {
         InvalidReason::NoRoundInDag(_) => point::NO_POINT,
@@ -242,7 +247,7 @@ fn through_number(through: Through) -> u8
 
 // A root cause, with what it came through.
 fn of_dependency(d: InvalidDependency) -> Answer
-    ensures { λ r. ⌜ answerOf r ≡ dependencyAnswer (dependencyOf d) ⌝ }
+    ensures { λ r. ⌜ answerOf r ≡ verdictAnswer (TransInvalid (dependencyOf d)) ⌝ }
 {
     let id = d.to;
     let through = d.through;

@@ -58,8 +58,8 @@ pub or-second : (a b : Bool) → b ≡ true → (a || b) ≡ true
 or-second true b h = refl
 or-second false b h = h
 
-pub or-behind : (a b : Bool) → a ≡ false → (a || b) ≡ b
-or-behind a b h = rw h
+pub or-rest : (a b : Bool) → a ≡ false → (a || b) ≡ b
+or-rest a b h = rw h
 
 pub or-cases : (a b : Bool) → (a || b) ≡ true → (a ≡ true) ⊎ (b ≡ true)
 or-cases true b h = inl refl

@@ -2,7 +2,7 @@
 use mathlib.Core.Path.{_≡_, refl}
 use mathlib.Core.Bool.{Bool, true, false}
 use mathlib.Core.Option.{Option, none, some, Option·map}
-use Rattle.base.specs.Base.{pick, isSome}
+use Rattle.base.specs.Base.{pick, isSome, andThen}
 use Rattle.base.proofs.Impossible.{impossible}
 
 module _ {ℓ κ} {A : Type ℓ} {X : Type κ} {x : X} where
@@ -30,6 +30,11 @@ module _ {ℓ} {A : Type ℓ} where
   unpicked true x o h = some-none h
   unpicked false x o h = (refl, h)
 
+pub and-then {ℓ κ} : {A : Type ℓ} {B : Type κ} (o : Option A) (f : A → Option B) (y : B) →
+    andThen o f ≡ some y → (x : A) × (o ≡ some x) × (f x ≡ some y)
+and-then none f y h = none-some h
+and-then (some x) f y h = (x, refl, h)
+
 pub map-some {ℓ κ} : {A : Type ℓ} {B : Type κ} (f : A → B) (o : Option A) → isSome (Option·map f o) ≡ isSome o
 map-some f none = refl
 map-some f (some x) = refl
@@ -44,6 +49,15 @@ module _ {A : Type 0} (P : A → Type 0) where
   pub pick-has : (b : Bool) (o p : Option A) → (b ≡ true → IfSome P o) → IfSome P p → IfSome P (pick b o p)
   pick-has true o p f g = f refl
   pick-has false o p f g = g
+
+  module _ {B : Type 0} where
+    pub then-has : (o : Option B) (f : B → Option A) → ((x : B) → o ≡ some x → IfSome P (f x)) → IfSome P (andThen o f)
+    then-has none f h = tt
+    then-has (some x) f h = h x refl
+
+    pub map-has : (f : B → A) (o : Option B) → ((x : B) → o ≡ some x → P (f x)) → IfSome P (Option·map f o)
+    map-has f none h = tt
+    map-has f (some x) h = h x refl
 
   pub has : (o : Option A) (x : A) → IfSome P o → o ≡ some x → P x
   has o x h e = rw e at h

@@ -16,19 +16,19 @@ module _ {A : Type 0} where
   first-here (y ∷ l) rest x h = h
 
   -- else it is that of the rows after
-  pub first-behind : (row : List A) (rest : List (List A)) → firstOf row ≡ none → firstOf (concat (row ∷ rest)) ≡ firstOf (concat rest)
+  pub first-after : (row : List A) (rest : List (List A)) → firstOf row ≡ none → firstOf (concat (row ∷ rest)) ≡ firstOf (concat rest)
   unfolding firstOf concat
-  first-behind [] rest h = refl
-  first-behind (y ∷ l) rest h = some-none h
+  first-after [] rest h = refl
+  first-after (y ∷ l) rest h = some-none h
 
   -- the same of a row of one test
   pub row-here : (b : Bool) (x : A) (rest : List (List A)) → b ≡ true → firstOf (concat (when b x ∷ rest)) ≡ some x
   unfolding firstOf concat
   row-here b x rest h = rw h
 
-  pub row-behind : (b : Bool) (x : A) (rest : List (List A)) → b ≡ false → firstOf (concat (when b x ∷ rest)) ≡ firstOf (concat rest)
+  pub row-after : (b : Bool) (x : A) (rest : List (List A)) → b ≡ false → firstOf (concat (when b x ∷ rest)) ≡ firstOf (concat rest)
   unfolding firstOf concat
-  row-behind b x rest h = rw h
+  row-after b x rest h = rw h
 
   -- the first fault of a table of one row
   pub last-row : (row : List A) → firstOf (concat (row ∷ [])) ≡ firstOf row

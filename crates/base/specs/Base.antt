@@ -38,6 +38,16 @@ abbrev pub isSome {ℓ} : {A : Type ℓ} → Option A → Bool
 isSome none = false
 isSome (some x) = true
 
+-- Option::is_some_and: a value is there and passes a test
+abbrev pub isSomeAnd {ℓ} : {A : Type ℓ} → Option A → (A → Bool) → Bool
+isSomeAnd none f = false
+isSomeAnd (some x) f = f x
+
+-- Option::and_then: what is made of a value, which may lack too
+abbrev pub andThen {ℓ κ} : {A : Type ℓ} {B : Type κ} → Option A → (A → Option B) → Option B
+andThen none f = none
+andThen (some x) f = f x
+
 -- n elements, each computed from its position, the first from i
 unfoldable pub tabulate {ℓ} : {A : Type ℓ} → (ℕ → A) → ℕ → ℕ → List A
 tabulate f zero i = []

@@ -15,26 +15,30 @@ use Rattle.point.specs.Point.{PointId, Includes, Direct, PointInfo, prevId, sam
 use Rattle.point.specs.declared.data.PointRole.the-variants.{Regular}
 use Rattle.schedule.specs.Settings.{Settings}
 use Rattle.reasons.specs.Verdict as verdict
-use Rattle.rules.specs.Validate.{validate, ofResult}
-use Rattle.rules.specs.Judge.{Input, refused, admitted, verifyBuffer, JudgeAnswer, Number, Given, Before, answered, needed, before}
+use Rattle.reasons.specs.declared.ill_formed.VerifyError.{VerifyError}
+use Rattle.reasons.specs.declared.ill_formed.WaveChecked.{WaveChecked}
+use Rattle.rules.specs.Unknown.{peerBytes}
+use Rattle.rules.specs.Verify.{verify}
+use Rattle.rules.specs.Mismatch.{isId}
+use Rattle.rules.specs.Judge.{Input, refused, admitted, verifyBuffer, JudgeAnswer, Number, Given, Before, answered, needed, beforeWith, before}
 use Rattle.judge.specs.Code.{judgeAnswerOf, beforeOf}
 use Rattle.judge.specs.declared.before.Before as code-before
 use Rattle.judge.specs.declared.before.Before.the-variants as case-before
-use Rattle.books.specs.Kept.{Kept, Book, findKept, mark, markPrev}
-use Rattle.books.specs.Lists.{directList, indirectList}
-use Rattle.books.specs.Offer.{Offer, used, offerTested, leftFrom, beforeIn, markedIn, answerIn, offerWith, offer}
-use Rattle.books.specs.Layout.{keptBytes, entriesBytes, bookBytes, keptFront, Opened, readBook}
-use Rattle.books.specs.Calls.{Result, laidOut, offerTo, offerBytes}
+use Rattle.books.specs.Kept.{Kept, Book, findKept, mark, Opened}
+use Rattle.books.specs.Offer.{Offer, Result, used, offerTested, beforeIn, markedIn, answerIn, leftBy, judgedAs, offerWith, offer}
+use Rattle.books.specs.Layout.{keptBytes, entriesBytes, bookBytes, keptFront, readBook}
+use Rattle.books.specs.Calls.{laidOut, inBytes, offerTo, offerBytes}
 use Rattle.books.proofs.RoundTrip.{settings-length}
 use Rattle.books.proofs.Canonical.{BookOf, book-again}
 use Rattle.books.proofs.Shape.{whole}
 use Rattle.books.proofs.Offered.{Accepted, accepted, marked-used}
-use Rattle.books.proofs.Bytes.{entry-within, mark-absent, mark-bytes, append-bytes}
+use Rattle.books.proofs.Bytes.{entry-within, mark-none, mark-absent, mark-bytes, append-bytes}
 use Rattle.book_index.specs.Code.{FoundAt}
 use Rattle.book_index.specs.declared.Place.the-variants.{At, Absent}
 use Rattle.book_read.specs.Code.{Holds, IsRead}
 use Rattle.book_read.proofs.Laws.{found-kept, absent-kept}
-use Rattle.book.specs.Code.{markedAt, LeftAt, Decides, Ready, Marks, MarkPlace}
+use Rattle.book_judge.specs.Code.{overBook}
+use Rattle.book.specs.Code.{markedAt, leftFrom, LeftAt, Decides, Ready, Marks, MarkPlace}
 use Rattle.book.specs.declared.decide.Decided as code-decided
 use Rattle.book.proofs.Tests.{passed-buffer, all-taken}
 
@@ -78,6 +82,34 @@ pub left-one : (s t : List ℕ) (end : ℕ) (l : List Kept) (k : Kept) → l ≡
 unfolding entriesBytes
 left-one s t end l k e f = rw (e, append-nil (keptBytes k)) f
 
+-- ---- a number in place of a verdict
+
+module _ (s : List ℕ) (o : Offer) where
+  pub unread : readBook s ≡ none → offerBytes s o ≡ record { answer = Number 10; peers = o .peers; after = s }
+  unfolding offerBytes
+  unread h = ap (offerTo s o) h
+
+  pub number-decides : (n : ℕ) (d : code-decided.Decided) → offerBytes s o ≡ record { answer = Number n; peers = o .peers; after = s } →
+      judgeAnswerOf (d .answer) ≡ Number n → d .mark ≡ 0 → Decides s o d (o .peers)
+  unfolding entriesBytes
+  number-decides n d h a m = record {
+    answer = a ∙ sym (ap (λ (x : Result (List ℕ)). x .answer) h);
+    peers = sym (ap (λ (x : Result (List ℕ)). x .peers) h);
+    inside = λ f. absurd (f m);
+    room = λ v f. impossible (cc);
+    bytes = λ q. ap (λ (x : Result (List ℕ)). x .after) h ∙ rw (a, m) (sym (put-nothing s (d .end)));
+  }
+
+-- a number comes only of a point that passed verification
+passed : (v : Option VerifyError) (g : Bool) (w : WaveChecked) (n : ℕ) → beforeWith v g w ≡ answered (Number n) → v ≡ none
+passed none g w n h = refl
+passed (some e) g w n h = impossible (cc)
+
+-- then no peer is unknown
+unwritten : (i : Input) (leader : ℕ) (buffer : List ℕ) (n : ℕ) → beforeIn i leader ≡ answered (Number n) → verifyBuffer (admitted i) buffer ≡ buffer
+unfolding putAt peerBytes beforeIn before
+unwritten i leader buffer n h = rw (passed (verify (i .settings) (i .schedule) (i .point)) _ _ n h)
+
 -- ---- over the bytes of a book that was read
 
 module _ (s : List ℕ) (w : Bytes s) (z : Opened) (r : readBook s ≡ some z) where
@@ -89,14 +121,14 @@ module _ (s : List ℕ) (w : Bytes s) (z : Opened) (r : readBook s ≡ some z) w
 
   -- a mark of no point, of one that is not kept, and of the entry of an id
 
-  unmarked : (o : Option PointId) → markPrev o (z .book) ≡ z .book → Marks s z o 0
+  unmarked : (o : Option PointId) → mark (isId o) (z .book) ≡ z .book → Marks s z o 0
   unmarked o e = record {
     inside = λ h. absurd (h refl);
     bytes = ap (bookBytes (z .bytes) (length s)) e ∙ sym (again .bytes);
   }
 
   pub no-prev : Marks s z none 0
-  no-prev = unmarked none refl
+  no-prev = unmarked none (mark-none (z .book))
 
   not-kept : (i : PointId) → findKept (z .book) i ≡ none → Marks s z (some i) 0
   not-kept i h = unmarked (some i) (mark-absent i (z .book) h)
@@ -132,70 +164,76 @@ module _ (s : List ℕ) (w : Bytes s) (z : Opened) (r : readBook s ≡ some z) w
   -- the offer
 
   module _ (o : Offer) where
-    to-book : offerBytes s o ≡ laidOut (z .bytes) (length s) (offer (z .settings) (length s) (z .book) o)
+    to-book : offerBytes s o ≡ inBytes (offer z o)
     unfolding offerBytes
     to-book = ap (offerTo s o) r
 
+    as-found : laidOut z ≡ s
+    unfolding laidOut
+    as-found = rw (again .whole) (sym (again .bytes))
+
     -- a number that comes of the tests
-    number-result : (n : ℕ) → offerTested (z .settings) (length s) (z .book) o ≡ refused n →
-        offerBytes s o ≡ record { answer = Number n; peers = o .peers; bytes = s }
+    number-result : (n : ℕ) → offerTested z o ≡ refused n → offerBytes s o ≡ record { answer = Number n; peers = o .peers; after = s }
     unfolding offer offerWith
     number-result n t =
-        to-book ∙ (ap (λ x. laidOut (z .bytes) (length s) (offerWith (z .book) o x)) t
-        ∙ ap (λ (l : List ℕ). record { answer = Number n; peers = o .peers; bytes = l }) (sym (again .bytes)))
+        to-book ∙ (ap (λ x. inBytes (offerWith z o x)) t ∙ ap (λ (l : List ℕ). record { answer = Number n; peers = o .peers; after = l }) as-found)
 
-    module _ (i : Input) (t : offerTested (z .settings) (length s) (z .book) o ≡ admitted i) where
-      taken-result : offerBytes s o ≡ laidOut (z .bytes) (length s) (offerWith (z .book) o (admitted i))
-      unfolding offer
-      taken-result = to-book ∙ ap (λ x. laidOut (z .bytes) (length s) (offerWith (z .book) o x)) t
+    module _ (i : Input) (t : offerTested z o ≡ admitted i) where
+      taken-result : (a : JudgeAnswer) → answerIn z i (o .leader) ≡ a → offerBytes s o ≡ inBytes (judgedAs z o i a)
+      unfolding offer offerWith
+      taken-result a e = to-book ∙ (ap (λ x. inBytes (offerWith z o x)) t ∙ ap (λ (x : JudgeAnswer). inBytes (judgedAs z o i x)) e)
 
       module _ (d : code-decided.Decided) (buffer : List ℕ) (f : buffer ≡ verifyBuffer (admitted i) (o .peers)) (e : d .end ≡ 47 + used (z .book)) where
-        -- an offer that is judged: its answer, and its mark
-        judged-decides : judgeAnswerOf (d .answer) ≡ answerIn i (o .leader) (z .book) → ((d .mark ≡ 0 → ⊥) → d .mark < length s) →
-            bookBytes (z .bytes) (length s) (markedIn i (o .leader) (z .book)) ≡ markedAt s (d .mark) → Decides s o d buffer
-        unfolding offerWith markedIn
-        judged-decides a m b =
+        -- an offer that gets a verdict: the verdict, and its mark
+        judged-decides : (v : verdict.Verdict) → judgeAnswerOf (d .answer) ≡ Given v → answerIn z i (o .leader) ≡ Given v →
+            ((d .mark ≡ 0 → ⊥) → d .mark < length s) → bookBytes (z .bytes) (length s) (markedIn z i (o .leader)) ≡ markedAt s (d .mark) → Decides s o d buffer
+        unfolding markedIn laidOut
+        judged-decides v a g m b =
             let l = settings-length _ _ (again .reads) in
             let u = marked-used (i .point) (z .book) (beforeIn i (o .leader)) in
-            let k = accepted (z .settings) (length s) (z .book) o i t .room in
+            let k = accepted z o i t .room in
+            let x = taken-result (Given v) g in
             record {
-              answer = a ∙ sym (ap (λ (x : Result). x .answer) taken-result);
-              peers = f ∙ sym (ap (λ (x : Result). x .peers) taken-result);
+              answer = a ∙ sym (ap (λ (y : Result (List ℕ)). y .answer) x);
+              peers = f ∙ sym (ap (λ (y : Result (List ℕ)). y .peers) x);
               inside = m;
-              room = λ v h. omega (arith, k, ends-within);
+              room = λ y h. omega (arith, k, ends-within, again .whole);
               bytes = λ q.
-                  ap (λ (x : Result). x .bytes) taken-result
-                  ∙ (sym (append-left (z .bytes) (length s) (markedIn i (o .leader) (z .book)) (d .end) l (omega arith) (o .bytes) (i .point) (answerIn i (o .leader) (z .book)))
-                  ∙ rw (b, ← a, left-bytes (o .bytes) (i .point) q (judgeAnswerOf (d .answer))));
+                  ap (λ (y : Result (List ℕ)). y .after) x
+                  ∙ (ap (λ (n : ℕ). bookBytes (z .bytes) n (markedIn z i (o .leader) ++ leftBy (o .bytes) (i .point) v)) (again .whole)
+                  ∙ (sym (append-left (z .bytes) (length s) (markedIn z i (o .leader)) (d .end) l (omega arith) (o .bytes) (i .point) (Given v))
+                  ∙ rw (b, a, left-bytes (o .bytes) (i .point) q (Given v))));
             }
 
         answered-decides : beforeIn i (o .leader) ≡ answered (judgeAnswerOf (d .answer)) → d .mark ≡ 0 → Decides s o d buffer
         unfolding answerIn markedIn
-        answered-decides x m =
-            judged-decides (rw x) (λ h. absurd (h m)) (rw (x, m) (sym (again .bytes)))
+        answered-decides x m = go (judgeAnswerOf (d .answer)) refl
+          where
+            go : (a : JudgeAnswer) → judgeAnswerOf (d .answer) ≡ a → Decides s o d buffer
+            go (Number n) a =
+                rw (f ∙ unwritten i (o .leader) (o .peers) n (x ∙ ap answered a))
+                (number-decides s o n d (taken-result (Number n) (rw (x, a)) ∙ ap (λ (l : List ℕ). record { answer = Number n; peers = o .peers; after = l }) as-found) a m)
+            go (Given v) a = judged-decides v a (rw (x, a)) (λ h. absurd (h m)) (rw (x, m) (sym (again .bytes)))
 
         needed-decides : (required : Bool) → beforeIn i (o .leader) ≡ needed required → (v : verdict.Verdict) → judgeAnswerOf (d .answer) ≡ Given v →
-            v ≡ ofResult (validate (i .settings) required 3 (i .point) (directList (markPrev (prevId (i .point)) (z .book)) (i .point)) (indirectList (markPrev (prevId (i .point)) (z .book)) (i .point))) →
-            Marks s z (prevId (i .point)) (d .mark) → Decides s o d buffer
+            v ≡ overBook (i .settings) required (i .point) (z .book) → Marks s z (prevId (i .point)) (d .mark) → Decides s o d buffer
         unfolding answerIn markedIn
         needed-decides required x v a g m =
-            let k = accepted (z .settings) (length s) (z .book) o i t in
+            let k = accepted z o i t in
             let w = whole (i .settings) required (o .bytes) (i .point) (z .book) (again .shape) (k .read) (k .domain) in
-            judged-decides (rw x (a ∙ (ap Given g ∙ sym w))) (m .inside) (rw x (m .bytes))
+            judged-decides v a (rw x (w ∙ ap Given (sym g))) (m .inside) (rw x (m .bytes))
 
 -- ---- an offer that passed the tests
 
 module _ {s : List ℕ} {o : Offer} {c : Settings} {n end : ℕ} {at next heads : List ℕ} {i : Input} (h : Ready s o c n end at next heads i) where
-  is-taken : offerTested (h .read .opened .settings) (length s) (h .read .opened .book) o ≡ admitted i
-  is-taken =
-      ap (λ (x : Settings). offerTested x (length s) (h .read .opened .book) o) (sym (h .read .settings))
-      ∙ all-taken c (length s) (h .read .opened .book) o i (h .passed) (h .new) (h .room)
+  is-taken : offerTested (h .read .opened) o ≡ admitted i
+  is-taken = all-taken (h .read .opened) c (h .read .settings) o i (h .passed) (h .new) (h .room)
 
   pub ready-buffer : 8160 ≤ length (o .peers)
   ready-buffer = passed-buffer c o i (h .passed)
 
-  pub ready-accepted : Accepted (h .read .opened .settings) (length s) (h .read .opened .book) o i
-  ready-accepted = accepted (h .read .opened .settings) (length s) (h .read .opened .book) o i is-taken
+  pub ready-accepted : Accepted (h .read .opened) o i
+  ready-accepted = accepted (h .read .opened) o i is-taken
 
   module _ (w : Bytes s) (d : code-decided.Decided) (buffer : List ℕ) (f : buffer ≡ verifyBuffer (admitted i) (o .peers)) (e : d .end ≡ end) where
     pub ready-answered : (x : code-before.Before) → beforeOf x ≡ before (i .settings) (i .schedule) (eqb (o .leader) 1) (i .point) → x ≡ case-before.Answered (d .answer) →
@@ -206,37 +244,18 @@ module _ {s : List ℕ} {o : Offer} {c : Settings} {n end : ℕ} {at next heads 
     pub ready-needed : (required : Bool) (x : code-before.Before) → beforeOf x ≡ before (i .settings) (i .schedule) (eqb (o .leader) 1) (i .point) → x ≡ case-before.Needed required →
         (v : verdict.Verdict) → judgeAnswerOf (d .answer) ≡ Given v →
         ((b : Book) → Holds s b n at → inDomain (i .point) ≡ true →
-        v ≡ ofResult (validate (i .settings) required 3 (i .point) (directList (markPrev (prevId (i .point)) b) (i .point)) (indirectList (markPrev (prevId (i .point)) b) (i .point)))) →
+        v ≡ overBook (i .settings) required (i .point) b) →
         MarkPlace s n at (prevId (i .point)) (d .mark) → Decides s o d buffer
     unfolding beforeIn
     ready-needed required x k l v a g m =
         let z = h .read .opened in
         needed-decides s w z (h .read .read) o i is-taken d buffer f (e ∙ h .read .ends) required (sym k ∙ ap beforeOf l) v a (g (z .book) (h .read .holds) (ready-accepted .domain)) (m z (h .read .read) (h .read .holds))
 
--- ---- a number in place of a verdict
-
-module _ (s : List ℕ) (o : Offer) where
-  pub unread : readBook s ≡ none → offerBytes s o ≡ record { answer = Number 10; peers = o .peers; bytes = s }
-  unfolding offerBytes
-  unread h = ap (offerTo s o) h
-
-  pub number-decides : (n : ℕ) (d : code-decided.Decided) → offerBytes s o ≡ record { answer = Number n; peers = o .peers; bytes = s } →
-      judgeAnswerOf (d .answer) ≡ Number n → d .mark ≡ 0 → Decides s o d (o .peers)
-  unfolding entriesBytes
-  number-decides n d h a m = record {
-    answer = a ∙ sym (ap (λ (x : Result). x .answer) h);
-    peers = sym (ap (λ (x : Result). x .peers) h);
-    inside = λ f. absurd (f m);
-    room = λ v f. impossible (cc);
-    bytes = λ q. ap (λ (x : Result). x .bytes) h ∙ rw (a, m) (sym (put-nothing s (d .end)));
-  }
-
 -- of a book that was read: one that comes of the tests
 module _ {s : List ℕ} {c : Settings} {n end : ℕ} {at next heads : List ℕ} (h : IsRead s c n end at next heads) (w : Bytes s) where
-  pub refused-decides : (o : Offer) (m : ℕ) (d : code-decided.Decided) → offerTested c (length s) (h .opened .book) o ≡ refused m →
+  pub refused-decides : (o : Offer) (m : ℕ) (d : code-decided.Decided) → offerTested (h .opened) o ≡ refused m →
       judgeAnswerOf (d .answer) ≡ Number m → d .mark ≡ 0 → Decides s o d (o .peers)
-  refused-decides o m d t =
-      number-decides s o m d (number-result s w (h .opened) (h .read) o m (ap (λ (x : Settings). offerTested x (length s) (h .opened .book) o) (sym (h .settings)) ∙ t))
+  refused-decides o m d t = number-decides s o m d (number-result s w (h .opened) (h .read) o m t)
 
   pub end-within : end ≤ length s
   end-within = omega (arith, h .ends, ends-within s w (h .opened) (h .read))
@@ -260,6 +279,6 @@ any = record {
 
 -- the mark, then what the answer leaves: the bytes of any point's entry serve
 pub both-written : {s : List ℕ} {o : Offer} {d : code-decided.Decided} {buffer : List ℕ} → Decides s o d buffer → (marked last : List ℕ) → marked ≡ markedAt s (d .mark) →
-    LeftAt marked (d .end) (o .bytes) (judgeAnswerOf (d .answer)) last → last ≡ offerBytes s o .bytes
+    LeftAt marked (d .end) (o .bytes) (judgeAnswerOf (d .answer)) last → last ≡ offerBytes s o .after
 both-written {s} {o} {d} h marked last m l =
     l any ∙ (ap (λ (t : List ℕ). putAt t (d .end) (entriesBytes (leftFrom (o .bytes) any (judgeAnswerOf (d .answer))))) m ∙ sym (h .bytes any))

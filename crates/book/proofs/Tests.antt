@@ -10,19 +10,18 @@ use lib.ListN.{length}
 use lib.Dec.{leb, ltb}
 use borrow.Author.Tests.{ltb-false, lt-ltb, le-ltb, le-leb, lt-leb}
 use Rattle.base.specs.Base.{pick}
-use Rattle.point.specs.Point.{PointInfo, prevDigest, prevIdWith, prevId, inDomain}
+use Rattle.point.specs.Point.{PointInfo, prevDigest, prevId, inDomain}
 use Rattle.point.specs.Reading.{readPoint}
 use Rattle.schedule.specs.Settings.{Settings}
 use Rattle.schedule.specs.Schedule.{Schedule, readSchedule}
 use Rattle.rules.specs.Judge.{Input, Tested, refused, admitted, testedWith}
-use Rattle.books.specs.Kept.{Kept, Book, findKept}
-use Rattle.books.specs.Offer.{Offer, used, isFull, testedRoom, offerTested}
+use Rattle.books.specs.Kept.{Kept, findKept, Opened}
+use Rattle.books.specs.Offer.{Offer, used, isFull, testedRoom, inputTested, offerTested}
 use Rattle.books.specs.Layout.{KeptFront, keptFront}
 use Rattle.book_layout.specs.Code.{readKeptOf, KeptAt, KeptPlaced}
 use Rattle.book_layout.specs.declared.read.Kept as code-kept
 use Rattle.book_layout.specs.declared.read.ReadKept as code-read-kept
 use Rattle.book_layout.specs.declared.read.ReadKept.the-variants as case-read-kept
-use Rattle.book.specs.Code.{inputTested}
 
 pub full-last : (a b : ℕ) → 108 ≤ a → ltb (a - 108) b ≡ ltb a (b + 108)
 full-last a b h = elim (decLt (a - 108) b) [
@@ -35,12 +34,12 @@ full-last a b h = elim (decLt (a - 108) b) [
 module _ (p : PointInfo) where
   pub prev-none : prevDigest p ≡ none → prevId p ≡ none
   unfolding prevId
-  prev-none h = ap (prevIdWith (p .id)) h
+  prev-none h = rw h
 
   pub prev-some : (d round : ℕ) → prevDigest p ≡ some d → round ≡ p .id .round - 1 →
       prevId p ≡ some (record { round = round; digest = d; author = p .id .author })
   unfolding prevId
-  prev-some d round h e = ap (prevIdWith (p .id)) h ∙ rw e
+  prev-some d round h e = rw (h, e)
 
 -- ---- the entry at the front of a slice
 
@@ -56,8 +55,8 @@ module _ (s : List ℕ) (x : code-read-kept.ReadKept) where
     size-is : sizeOf (readKeptOf s x) ≡ length (k .bytes) + 108
     size-is = ap sizeOf (e ∙ g)
 
-    pub front-place : (y : code-kept.Kept) → x ≡ case-read-kept.Kept y → y .place ≡ length (k .bytes)
-    front-place y f = let n : y .place + 108 ≡ length (k .bytes) + 108 = rw f at size-is in omega arith
+    pub front-len : (y : code-kept.Kept) → x ≡ case-read-kept.Kept y → y .len ≡ length (k .bytes)
+    front-len y f = let n : y .len + 108 ≡ length (k .bytes) + 108 = rw f at size-is in omega arith
 
     pub front-none : x ≡ case-read-kept.Unreadable → ⊥
     front-none f = let n : 0 ≡ length (k .bytes) + 108 = rw f at size-is in omega arith
@@ -107,30 +106,30 @@ passed-buffer c o i h = subst (Roomy (length (o .peers))) h (all (readSchedule (
 
 -- ---- 11 and 12
 
-module _ (c : Settings) (len : ℕ) (b : Book) (o : Offer) where
-  pub input-refused : (n : ℕ) → inputTested c o ≡ refused n → offerTested c len b o ≡ refused n
+module _ (z : Opened) (c : Settings) (e : c ≡ z .settings) (o : Offer) where
+  pub input-refused : (n : ℕ) → inputTested c o ≡ refused n → offerTested z o ≡ refused n
   unfolding offerTested
-  input-refused n h = rw h
+  input-refused n h = ap (λ (x : Settings). testedRoom z (o .bytes) (inputTested x o)) (sym e) ∙ rw h
 
   module _ (i : Input) (h : inputTested c o ≡ admitted i) where
-    after-input : offerTested c len b o ≡ testedRoom len b (o .bytes) (admitted i)
+    after-input : offerTested z o ≡ testedRoom z (o .bytes) (admitted i)
     unfolding offerTested
-    after-input = ap (testedRoom len b (o .bytes)) h
+    after-input = ap (λ (x : Settings). testedRoom z (o .bytes) (inputTested x o)) (sym e) ∙ ap (testedRoom z (o .bytes)) h
 
-    pub is-there : (k : Kept) → findKept b (i .point .id) ≡ some k → offerTested c len b o ≡ refused 11
+    pub is-there : (k : Kept) → findKept (z .book) (i .point .id) ≡ some k → offerTested z o ≡ refused 11
     is-there k f = after-input ∙ rw f
 
-    module _ (f : findKept b (i .point .id) ≡ none) where
-      pub no-room : isFull len b (o .bytes) ≡ true → offerTested c len b o ≡ refused 12
+    module _ (f : findKept (z .book) (i .point .id) ≡ none) where
+      pub no-room : isFull z (o .bytes) ≡ true → offerTested z o ≡ refused 12
       no-room r = after-input ∙ rw (f, r)
 
-      pub all-taken : isFull len b (o .bytes) ≡ false → offerTested c len b o ≡ admitted i
+      pub all-taken : isFull z (o .bytes) ≡ false → offerTested z o ≡ admitted i
       all-taken r = after-input ∙ rw (f, r)
 
 -- of a book that was read, n entries that end at a place
-pub full-is : (len : ℕ) (b : Book) (bytes : List ℕ) (n end : ℕ) → n ≡ length b → end ≡ 47 + used b →
-    (leb 4096 n || ltb (len - end) (length bytes + 108)) ≡ isFull len b bytes
+pub full-is : (z : Opened) (bytes : List ℕ) (len n end : ℕ) → z .length ≡ len → n ≡ length (z .book) → end ≡ 47 + used (z .book) →
+    (leb 4096 n || ltb (len - end) (length bytes + 108)) ≡ isFull z bytes
 unfolding isFull
-full-is len b bytes n end h e =
-    let f : len - end ≡ len - 47 - used b = omega arith in
+full-is z bytes len n end l h e =
+    let f : len - end ≡ z .length - 47 - used (z .book) = omega arith in
     rw (h, f)

@@ -14,7 +14,7 @@ ghost use mathlib.Core.Path.{_≡_};
 ghost use mathlib.Core.Bool.{_||_};
 ghost use mathlib.Core.Option.{some};
 ghost use Prim.Native.Nat.{_+_, _-_, _≤_};
-ghost use lib.ListN.{length, drop};
+ghost use lib.ListN.{length};
 ghost use lib.Dec.{leb, ltb};
 ghost use Rattle.parts.specs.Limits.{tag33Length, mostKept};
 ghost use Rattle.point.specs.Point.{prevId};
@@ -25,10 +25,8 @@ ghost use Rattle.rules.specs.Judge.{admitted, Number};
 ghost use Rattle.judge.specs.Code.{judgeAnswerOf};
 ghost use Rattle.book_index.specs.Code.{Index};
 ghost use Rattle.book_read.specs.Code.{IsRead};
-ghost use Rattle.books.specs.Kept.{Kept};
-ghost use Rattle.books.specs.Layout.{keptFront};
-ghost use Rattle.books.specs.Offer.{offerOf};
-ghost use Rattle.book.specs.Code.{Decides, inputTested, inputOf, Ready, MarkPlace};
+ghost use Rattle.books.specs.Offer.{inputTested, offerOf};
+ghost use Rattle.book.specs.Code.{Decides, inputOf, Ready, MarkPlace, FlagAt};
 
 // The answer, the place of the mark that the offer makes, 0 if none, and where the entries end.
 pub struct Decided {
@@ -38,7 +36,8 @@ pub struct Decided {
 }
 
 fn refused(number: u8) -> Decided
-    ensures { λ r. ⌜ (judgeAnswerOf (r .answer) ≡ Number number) × (r .mark ≡ 0) ⌝ }
+    ensures { λ r. ⌜ judgeAnswerOf (r .answer) ≡ Number number ⌝ }
+    ensures { λ r. ⌜ r .mark ≡ 0 ⌝ }
 {
     let mark = 0;
     Decided {
@@ -65,11 +64,11 @@ fn is_full(len: usize, n: usize, end: usize, rec_len: usize) -> bool
 // Where the certified flag of the entry at a place stands.
 fn flag_at(book: &[u8], place: usize) -> usize
     requires { ⌜ place ≤ length (now book) ⌝ }
-    ensures { λ r. ⌜ ((k : Kept) → keptFront (drop place (now (book .entry))) ≡ some (record { kept = k; size = length (k .bytes) + tag33Length }) → r ≡ place + length (k .bytes) + 4) ⌝ }
+    ensures { λ r. ⌜ FlagAt (now (book .entry)) place r ⌝ }
 {
     let read = book_layout::read_kept(&book[place..]);
     match read {
-        ReadKept::Kept(k) => place + k.place + 4,
+        ReadKept::Kept(k) => place + k.len + 4,
         ReadKept::Unreadable => 0,
     }
 }
@@ -122,7 +121,8 @@ fn judge_offer(
     next: &[u16],
     heads: &[u16],
 ) -> Decided
-    requires { ⌜ Ready (now book) (offerOf (now schedule) leader (now rec) (now peers)) (settingsOf conf) n end (now at) (now next) (now heads) (inputOf conf (now schedule) spans (now rec) info) ⌝ }
+    requires { ⌜ Ready (now book) (offerOf (now schedule) leader (now rec) (now peers)) (settingsOf conf) n end (now at) (now next) (now heads)
+        (inputOf conf (now schedule) spans (now rec) info) ⌝ }
     ensures { λ r. ⌜ Decides (now (book .entry)) (offerOf (now (schedule .entry)) leader (now (rec .entry)) (now (peers .entry))) r (now (peers .exit)) ⌝ }
 {
     let before = judge::before_list(conf, schedule, spans, rec, info, leader == 1, peers);
@@ -160,7 +160,8 @@ fn decide_point(
     heads: &[u16],
 ) -> Decided
     requires { ⌜ IsRead (now book) (settingsOf conf) n end (now at) (now next) (now heads) ⌝ }
-    requires { ⌜ inputTested (settingsOf conf) (offerOf (now schedule) leader (now rec) (now peers)) ≡ admitted (inputOf conf (now schedule) spans (now rec) info) ⌝ }
+    requires { ⌜ inputTested (settingsOf conf) (offerOf (now schedule) leader (now rec) (now peers)) ≡ admitted
+        (inputOf conf (now schedule) spans (now rec) info) ⌝ }
     ensures { λ r. ⌜ Decides (now (book .entry)) (offerOf (now (schedule .entry)) leader (now (rec .entry)) (now (peers .entry))) r (now (peers .exit)) ⌝ }
 {
     let id = info.id;

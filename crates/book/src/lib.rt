@@ -79,9 +79,12 @@ pub fn offer(
     rec: &[u8],
     peers: &mut [u8],
 ) -> JudgeAnswer
-    ensures { λ r. ⌜ judgeAnswerOf r ≡ offerBytes (now (book .entry)) (offerOf (now (schedule .entry)) leader (now (rec .entry)) (now (peers .entry))) .answer ⌝ }
-    ensures { λ r. ⌜ now (peers .exit) ≡ offerBytes (now (book .entry)) (offerOf (now (schedule .entry)) leader (now (rec .entry)) (now (peers .entry))) .peers ⌝ }
-    ensures { λ r. ⌜ now (book .exit) ≡ offerBytes (now (book .entry)) (offerOf (now (schedule .entry)) leader (now (rec .entry)) (now (peers .entry))) .bytes ⌝ }
+    ensures { λ r. ⌜ judgeAnswerOf r ≡ offerBytes (now (book .entry))
+        (offerOf (now (schedule .entry)) leader (now (rec .entry)) (now (peers .entry))) .answer ⌝ }
+    ensures { λ r. ⌜ now (peers .exit) ≡ offerBytes (now (book .entry))
+        (offerOf (now (schedule .entry)) leader (now (rec .entry)) (now (peers .entry))) .peers ⌝ }
+    ensures { λ r. ⌜ now (book .exit) ≡ offerBytes (now (book .entry))
+        (offerOf (now (schedule .entry)) leader (now (rec .entry)) (now (peers .entry))) .after ⌝ }
 {
     let decided = decide::decide(book, schedule, leader, rec, peers);
     let answer = decided.answer;

@@ -18,7 +18,8 @@ pub enum Place {
 }
 
 fn bucket(id: PointId) -> usize
-    ensures { λ r. ⌜ (r ≡ bucketOf (pointIdOf id)) × (r < mostKept) ⌝ }
+    ensures { λ r. ⌜ r ≡ bucketOf (pointIdOf id) ⌝ }
+    ensures { λ r. ⌜ r < mostKept ⌝ }
 {
     let digest = id.digest;
     digest.d as usize % parts::MOST_KEPT

@@ -2,7 +2,7 @@
 use Prim.Native.Nat.{ℕ, _+_, _-_, _≤_, _<_}
 use native.Mathlib.Omega.{arith}
 use mathlib.Core.Path.{_≡_, refl, ap, sym, _∙_, subst}
-use mathlib.Core.Bool.{Bool, true, false, not, _&&_, and-false, or-false}
+use mathlib.Core.Bool.{Bool, true, false, not, _&&_, and-false}
 use mathlib.Core.Option.{Option, none, some, Option·map}
 use mathlib.Core.List.{List, [], _∷_, _++_}
 use lib.ListN.{length, getD, drop, drop-of-length-le}
@@ -19,17 +19,17 @@ use Rattle.map.proofs.Pairs.{get-there}
 use Rattle.point.specs.Point.{PointId, Through, PointInfo, AnchorLink, Indirect, prevDigest, prevId, anchorLink, sameId, inDomain}
 use Rattle.point.specs.declared.data.AnchorStageRole.{AnchorStageRole}
 use Rattle.point.specs.declared.data.AnchorStageRole.the-variants.{Proof, Trigger}
-use Rattle.point.proofs.Ids.{same-sym}
 use Rattle.schedule.specs.Settings.{Settings}
 use Rattle.reasons.specs.Verdict.{Verdict}
 use Rattle.rules.specs.DagPoint.{DagPoint, NotFound, Entry, IndirectEntry, entryId, PointView, pointView}
-use Rattle.rules.specs.Validate.{Taken, asDependency, asPrevPoint, asVersion, aside, takenOwn, taken, entryTrailAs, entryTrail, recordAs, entryRecord, presenceReason, validate, ofResult}
+use Rattle.rules.specs.Validate.{Taken, asDependency, asPrevPoint, asVersion, aside, takenOwn, taken, dependency, foundAs, entryFound, validate}
 use Rattle.judge_step.specs.Code.{Judging, start, directStep, indirectStep, directFold, indirectFold, targetStep, resultOf}
 use Rattle.judge_step.proofs.Laws.{fold-over-lists}
 use Rattle.judge_mismatch.specs.Code.{noPair}
 use Rattle.rules.specs.Mismatch.{pairId, isVersion, isId}
-use Rattle.books.specs.Kept.{Kept, Book, findKept, markOne, mark, markPrev}
+use Rattle.books.specs.Kept.{Kept, Book, findKept, markOne, mark}
 use Rattle.books.specs.Lists.{firstValid, keptEntry, entryWith, lookup, lookups, versions, directList, targetEntry, isTriggerFirst, indirectList}
+use Rattle.books.proofs.Bytes.{mark-none}
 use Rattle.books.proofs.Clear.{lookup-id}
 use Rattle.books.proofs.Find.{find-id, find-marked}
 use Rattle.book_judge.specs.Code.{marked, overBook, shown, NoVersions}
@@ -40,32 +40,22 @@ use Rattle.book_judge.specs.Code.{marked, overBook, shown, NoVersions}
 abbrev pub Shows : Kept → Bool → Entry → Type 0
 Shows k covered e = shown k covered (e .firstValid) ≡ e
 
-kept-shows : (b : Book) (k : Kept) → Shows k false (keptEntry b k)
-unfolding keptEntry
-kept-shows b k = rw (or-false (k .certified))
-
-marked-shows : (b : Book) (k : Kept) (j i : PointId) → k .point .id ≡ i → Shows k (sameId j i) (keptEntry b (markOne j k))
+marked-shows : (b : Book) (k : Kept) (covers : PointId → Bool) (i : PointId) → k .point .id ≡ i → Shows k (covers i) (keptEntry b (markOne covers k))
 unfolding keptEntry markOne
-marked-shows b k j i e = rw (e, same-sym j i)
+marked-shows b k covers i e = rw e
 
 module _ (b : Book) (q : PointInfo) (i : PointId) where
   -- an entry counts as certified by its mark, or as the previous point
   pub looked-kept : (k : Kept) → findKept b i ≡ some k → Shows k (isId (prevId q) i) (lookup (marked q b) q i)
   unfolding lookup
-  looked-kept k h = go (prevId q)
-    where
-      go : (o : Option PointId) → Shows k (isId o i) (entryWith (markPrev o b) q i (findKept (markPrev o b) i))
-      go none = rw h (kept-shows b k)
-      go (some j) = rw (find-marked j b i ∙ ap (Option·map (markOne j)) h) (marked-shows (mark j b) k j i (find-id b i k h))
+  looked-kept k h =
+      let prev : PointId → Bool = isId (prevId q) in
+      rw (find-marked prev b i ∙ ap (Option·map (markOne prev)) h) (marked-shows (mark prev b) k prev i (find-id b i k h))
 
   -- an id that is not kept counts as certified as the previous point
   pub looked-absent : findKept b i ≡ none → lookup (marked q b) q i ≡ record { state = NotFound i; certified = isId (prevId q) i; firstValid = false }
   unfolding lookup
-  looked-absent h = ap (entryWith (marked q b) q i) (go (prevId q))
-    where
-      go : (o : Option PointId) → findKept (markPrev o b) i ≡ none
-      go none = h
-      go (some j) = find-marked j b i ∙ ap (Option·map (markOne j)) h
+  looked-absent h = ap (entryWith (marked q b) q i) (find-marked (isId (prevId q)) b i ∙ ap (Option·map (markOne (isId (prevId q)))) h)
 
 -- ---- a dependency that is no version is judged the same, first valid or not
 
@@ -93,21 +83,16 @@ abbrev entry : DagPoint → Bool → Bool → Entry
 entry d certified first = record { state = d; certified = certified; firstValid = first }
 
 module _ (c : Settings) (required : Bool) (p : PointView) (d : DagPoint) (certified a b : Bool) where
-  trail-first : (w : Taken) → isAsVersion w ≡ false → entryTrailAs c required p w (entry d certified a) ≡ entryTrailAs c required p w (entry d certified b)
-  trail-first asDependency h = refl
-  trail-first asPrevPoint h = refl
-  trail-first asVersion h = clash true refl h
-  trail-first aside h = refl
-
-  record-first : (round : ℕ) (w : Taken) → recordAs c round w (entry d certified a) ≡ recordAs c round w (entry d certified b)
-  record-first round asDependency = refl
-  record-first round asPrevPoint = refl
-  record-first round asVersion = refl
-  record-first round aside = refl
+  found-first : (w : Taken) → isAsVersion w ≡ false → foundAs c required p w (entry d certified a) ≡ foundAs c required p w (entry d certified b)
+  unfolding dependency
+  found-first asDependency h = refl
+  found-first asPrevPoint h = refl
+  found-first asVersion h = clash true refl h
+  found-first aside h = refl
 
   step-first : (j : Judging) → isAsVersion (taken p (entryId d)) ≡ false → directStep c required p j (entry d certified a) ≡ directStep c required p j (entry d certified b)
-  unfolding directStep entryTrail entryRecord
-  step-first j h = rw (trail-first (taken p (entryId d)) h, record-first (p .id .round) (taken p (entryId d)))
+  unfolding directStep entryFound
+  step-first j h = rw (found-first (taken p (entryId d)) h)
 
 -- what was looked up, judged without knowing whether it is first valid
 pub step-looked : (c : Settings) (required : Bool) (p : PointView) (b : Book) (q : PointInfo) (i : PointId) (j x : Judging) (d : DagPoint) (certified : Bool) →
@@ -177,20 +162,20 @@ module _ (c : Settings) (required : Bool) (p : PointView) where
     inMaps =
         directFold c required p (directFold c required p j (lookups b q (q .id .round - 2) (q .witness))) (lookups b q (q .id .round - 1) (q .includes))
 
-    behind-maps : (l : List Entry) → directFold c required p j (lookups b q (q .id .round - 2) (q .witness) ++ (lookups b q (q .id .round - 1) (q .includes) ++ l)) ≡ directFold c required p inMaps l
-    behind-maps l =
+    after-maps : (l : List Entry) → directFold c required p j (lookups b q (q .id .round - 2) (q .witness) ++ (lookups b q (q .id .round - 1) (q .includes) ++ l)) ≡ directFold c required p inMaps l
+    after-maps l =
         direct-append (lookups b q (q .id .round - 2) (q .witness)) (lookups b q (q .id .round - 1) (q .includes) ++ l) j
         ∙ direct-append (lookups b q (q .id .round - 1) (q .includes)) l (directFold c required p j (lookups b q (q .id .round - 2) (q .witness)))
 
     -- with a previous point nothing stands after the maps
     pub direct-linked : (x : Judging) → isSome (prevDigest q) ≡ true → x ≡ inMaps → x ≡ directFold c required p j (directList b q)
     unfolding directList directFold
-    direct-linked x h e = e ∙ rw h (sym (behind-maps []))
+    direct-linked x h e = e ∙ rw h (sym (after-maps []))
 
     direct-unlinked : isSome (prevDigest q) ≡ false →
         directFold c required p j (directList b q) ≡ directFold c required p inMaps (versions b (q .id .round - 1) (q .id .author) b)
     unfolding directList
-    direct-unlinked h = rw h (behind-maps (versions b (q .id .round - 1) (q .id .author) b))
+    direct-unlinked h = rw h (after-maps (versions b (q .id .round - 1) (q .id .author) b))
 
     map-judged : (n m : ℕ) (l k : List Pair) (i x : Judging) → n ≡ m → l ≡ k → NoVersions q m k →
         (NoVersions q n l → x ≡ directFold c required p i (lookups b q n l)) → x ≡ directFold c required p i (lookups b q m k)
@@ -214,14 +199,14 @@ module _ (c : Settings) (required : Bool) (p : PointView) where
 -- without a previous point nothing is marked
 pub unmarked : (q : PointInfo) (b : Book) → prevDigest q ≡ none → marked q b ≡ b
 unfolding prevId
-unmarked q b h = rw h
+unmarked q b h = rw h (mark-none b)
 
 -- after the maps, the versions where there is no previous point
-pub versions-behind : (c : Settings) (required : Bool) (p : PointView) (b : Book) (q : PointInfo) (j x y : Judging) → p ≡ pointView q → prevDigest q ≡ none →
+pub versions-after : (c : Settings) (required : Bool) (p : PointView) (b : Book) (q : PointInfo) (j x y : Judging) → p ≡ pointView q → prevDigest q ≡ none →
     x ≡ inMaps c required p (marked q b) q j → y ≡ directFold c required p x (versions b (p .id .round - 1) (p .id .author) b) →
     y ≡ directFold c required p j (directList (marked q b) q)
 unfolding pointView
-versions-behind c required p b q j x y v h e f =
+versions-after c required p b q j x y v h e f =
     let maps = inMaps c required p (marked q b) q j in
     f
     ∙ ap (λ (z : Judging). directFold c required p z (versions b (p .id .round - 1) (p .id .author) b)) e
@@ -261,13 +246,13 @@ view-prev v q e = ap (λ (z : PointView). z .prevDigest) e
 
 -- the direct entries, then the indirect ones; all rounds are present
 pub judged-over : (c : Settings) (required : Bool) (p : PointView) (q : PointInfo) (b : Book) (x y : Judging) (v : Verdict) → p ≡ pointView q →
-    x ≡ directFold c required p start (directList (marked q b) q) → y ≡ indirectFold c q x (indirectList (marked q b) q) → v ≡ ofResult (resultOf y) →
+    x ≡ directFold c required p start (directList (marked q b) q) → y ≡ indirectFold c q x (indirectList (marked q b) q) → v ≡ resultOf y →
     v ≡ overBook c required q b
-unfolding validate presenceReason
+unfolding validate
 judged-over c required p q b x y v e f g h =
     h
-    ∙ ap (λ (j : Judging). ofResult (resultOf j))
+    ∙ ap resultOf
     (g
     ∙ ap (λ (j : Judging). indirectFold c q j (indirectList (marked q b) q))
     (f ∙ ap (λ (z : PointView). directFold c required z start (directList (marked q b) q)) e))
-    ∙ ap ofResult (fold-over-lists c required q (directList (marked q b) q) (indirectList (marked q b) q))
+    ∙ fold-over-lists c required q (directList (marked q b) q) (indirectList (marked q b) q)

@@ -56,24 +56,24 @@ module _ (s : List ℕ) (place : ℕ) (part : List ℕ) (e : part ≡ drop place
   )
 
   module _ (k : code-kept.Kept) (g : r ≡ case-read.Kept k) (placed : KeptPlaced part r) where
-    pub kept-end : place + k .place ≤ length s
+    pub kept-end : place + k .len ≤ length s
     kept-end = omega (arith, placed-kept part r k g placed .inside, ap length e, length-drop place s)
 
     pub looked-some : (state : code-point.DagPoint) (certified : Bool) →
         ((t : List ℕ) → dagPointOf t state ≡ dagPoint (pointOf t (k .info)) (statusOf (k .status))) →
         ((t : List ℕ) → readPoint t ≡ some (pointOf t (k .info)) → ReadFrom t state) →
         certified ≡ (k .certified || covered) →
-        LookedAt s place covered (record { state = state; certified = certified; place = place; end = place + k .place })
+        LookedAt s place covered (record { state = state; certified = certified; place = place; end = place + k .len })
     looked-some state certified dag from c =
-        let t = partOf s place (place + k .place) in
-        let h : take (k .place) part ≡ t = let n : place + k .place - place ≡ k .place = omega arith in rw (n, e) in (
+        let t = partOf s place (place + k .len) in
+        let h : take (k .len) part ≡ t = let n : place + k .len - place ≡ k .len = omega arith in rw (n, e) in (
           record {
             ordered = omega arith;
             inside = kept-end;
             read = from t (subst (λ (z : List ℕ). readPoint z ≡ some (pointOf z (k .info))) h (placed-kept part r k g placed .read));
           },
           λ y f first.
-              let w : keptOf (take (k .place) part) k ≡ y .kept = let q = ap (readKeptOf part) (sym g) ∙ (front ∙ (ap keptFront e ∙ f)) in cc in
+              let w : keptOf (take (k .len) part) k ≡ y .kept = let q = ap (readKeptOf part) (sym g) ∙ (front ∙ (ap keptFront e ∙ f)) in cc in
               rw (dag t, c) (ap (λ (z : Kept). shown z covered first) (ap (λ (z : List ℕ). keptOf z k) (sym h) ∙ w)),
         )
 

@@ -60,9 +60,9 @@ module _ (round author : ℕ) where
     other-before none t = refl
     other-before (some i) t = same-sym i (k .point .id) ∙ absent-first k l i (t i refl) .0
 
-    other-behind : isTwice (k ∷ l) ≡ false → (o : Option PointId) → o ≡ firstValid l round author → isId o (k .point .id) ≡ false
-    other-behind once none e = refl
-    other-behind once (some i) e =
+    other-after : isTwice (k ∷ l) ≡ false → (o : Option PointId) → o ≡ firstValid l round author → isId o (k .point .id) ≡ false
+    other-after once none e = refl
+    other-after once (some i) e =
         differ i (k .point .id) (λ same. clash (isSome (findKept l i)) (first-kept l i (sym e)) (rw same (ap (λ (x : Option Kept). isSome x) (once-first k l once))))
 
     -- an entry of the author and round is the first valid one if it is Valid and none before it was
@@ -73,7 +73,7 @@ module _ (round author : ℕ) where
     come-own false true o once h v t =
         let e : o ≡ some (k .point .id) = t ∙ rw (v, h) in
         (rw e (sym (same-refl (k .point .id))), λ i f. let same : k .point .id ≡ i = cc in rw same at (once-first k l once))
-    come-own false false o once h v t = let e : o ≡ firstValid l round author = t ∙ rw v in (sym (other-behind once o e), e)
+    come-own false false o once h v t = let e : o ≡ firstValid l round author = t ∙ rw v in (sym (other-after once o e), e)
 
   shown-kept : (b : Book) (k : Kept) (first : Bool) → isOf round author k ≡ true → first ≡ isId (firstValid b round author) (k .point .id) → shown k false first ≡ keptEntry b k
   unfolding keptEntry

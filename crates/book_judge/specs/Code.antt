@@ -1,33 +1,41 @@
 -- Judging a point by the lists that a book builds of its entries, and what the code's values stand for.
-use Prim.Native.Nat.{ℕ, _-_}
+use Prim.Native.Nat.{ℕ, _-_, _+_}
 use mathlib.Core.Path.{_≡_}
 use mathlib.Core.Bool.{Bool, true, false, not, _&&_, _||_}
 use mathlib.Core.List.{List, List·Memᴰ}
 use Rattle.judge_valid.specs.Code.{pointViewOf}
 use Rattle.base.specs.Base.{pick}
-use Rattle.map.specs.Rows.{Pair}
-use Rattle.point.specs.Point.{PointInfo, prevId}
+use Rattle.map.specs.Rows.{Pair, pairsOf}
+use Rattle.point.specs.Point.{PointInfo, prevId, PointId, AnchorLink, anchorLink, inDomain}
 use Rattle.schedule.specs.Settings.{Settings}
 use Rattle.reasons.specs.Verdict.{Verdict}
 use Rattle.rules.specs.DagPoint.{DagPoint, Valid, TransInvalid, Invalid, IllFormed, NotFound, Dropped, Entry, PointView, pointView}
-use Rattle.rules.specs.Validate.{validate, ofResult}
+use Rattle.rules.specs.Validate.{validate}
 use Rattle.judge_entries.specs.Code.{entryOf, partOf}
-use Rattle.judge_step.specs.Code.{Judging, directStep, judgingOf}
-use Rattle.rules.specs.Mismatch.{pairId, isVersion}
-use Rattle.books.specs.Kept.{Kept, Book, markPrev}
-use Rattle.books.specs.Lists.{dagPoint, isValid, isOf, directList, indirectList}
+use Rattle.judge_step.specs.Code.{Judging, directStep, judgingOf, start, directFold, indirectFold}
+use Rattle.rules.specs.Mismatch.{pairId, isVersion, isId}
+use Rattle.books.specs.Kept.{Kept, Book, mark}
+use Rattle.books.specs.Lists.{dagPoint, isValid, isOf, directList, indirectList, lookup, lookups, versions, targetEntry}
 use Rattle.book_read.specs.Code.{Holds}
 use Rattle.judge_valid.specs.declared.view.PointView as code-view
 use Rattle.book_judge.specs.declared.look.Looked as code-looked
 use Rattle.book_judge.specs.declared.direct.Versions as code-versions
+use mathlib.Core.Option.{some}
+use lib.ListN.{drop}
+use Rattle.parts.specs.Code.{number}
+use Rattle.point.specs.Reading.{pointIdAt}
+use Rattle.point.specs.Code.{pointOf}
+use Rattle.point.specs.declared.data.AnchorStageRole.{AnchorStageRole}
+use Rattle.books.specs.Layout.{KeptFront, keptFront}
+use Rattle.point.specs.declared.info.PointInfo as code-info
 
 -- "before its direct entries are judged, the previous point, if kept, is marked certified"
 abbrev pub marked : PointInfo → Book → Book
-marked p b = markPrev (prevId p) b
+marked p b = mark (isId (prevId p)) b
 
 -- the verdict over the lists that the book builds; all rounds are present
 abbrev pub overBook : Settings → Bool → PointInfo → Book → Verdict
-overBook c required p b = ofResult (validate c required 3 p (directList (marked p b) p) (indirectList (marked p b) p))
+overBook c required p b = validate c required 3 p (directList (marked p b) p) (indirectList (marked p b) p)
 
 -- ---- for contracts between functions
 
@@ -82,3 +90,60 @@ versionStep c required p w k =
       seen = w .seen || isFirst k (w .seen);
     })
     w
+
+-- ---- what functions promise of the book whose bytes are s, n entries at the places `at`, and of a point whose view is v
+
+-- what stands at a place, if it is an entry, is handed on as the judge is told of it
+abbrev pub KeptLooked : List ℕ → ℕ → Bool → code-looked.Looked → Type 0
+KeptLooked s place covered r =
+    (x : KeptFront) → keptFront (drop place s) ≡ some x → (first : Bool) → lookedOf s r first ≡ shown (x .kept) covered first
+
+-- what was looked up is what the book says of an id
+abbrev pub LookedUp : List ℕ → ℕ → List ℕ → code-view.PointView → PointId → code-looked.Looked → Type 0
+LookedUp s n at v i r = (b : Book) (p : PointInfo) → Asked s b n at v p → Looks s r (lookup (marked p b) p i)
+
+-- a dependency was judged, which is no version of the author's point
+abbrev pub DependencyJudged : Settings → Bool → code-view.PointView → PointId → List ℕ → ℕ → List ℕ → Judging → Judging → Type 0
+DependencyJudged c required v i s n at old new =
+    (b : Book) (p : PointInfo) → Asked s b n at v p → isVersion p i ≡ false →
+    new ≡ directStep c required (pointViewOf v) old (lookup (marked p b) p i)
+
+-- the dependencies that a map's rows name at a round were judged, none of which is a version
+abbrev pub MapJudged : Settings → Bool → code-view.PointView → ℕ → List ℕ → List ℕ → ℕ → List ℕ → Judging → Judging → Type 0
+MapJudged c required v round rows s n at old new =
+    (b : Book) (p : PointInfo) → Asked s b n at v p → NoVersions p round (pairsOf rows) →
+    new ≡ directFold c required (pointViewOf v) old (lookups (marked p b) p round (pairsOf rows))
+
+-- the entry at a place was judged, if it is a version
+abbrev pub VersionJudged : Settings → Bool → code-view.PointView → List ℕ → ℕ → Versions → Versions → Type 0
+VersionJudged c required v s place old new =
+    (x : KeptFront) → keptFront (drop place s) ≡ some x → pointIdAt s (place + 3) ≡ x .kept .point .id →
+    new ≡ versionStep c required (pointViewOf v) old (x .kept)
+
+-- the versions of the author's point at r-1 were judged, in the book's order
+abbrev pub VersionsJudged : Settings → Bool → code-view.PointView → List ℕ → ℕ → List ℕ → Judging → Judging → Type 0
+VersionsJudged c required v s n at old new =
+    (b : Book) → Holds s b n at →
+    new ≡ directFold c required (pointViewOf v) old (versions b (v .id .round - 1) (number (v .id .author)) b)
+
+-- the direct list that the book builds for a point of this record was judged
+abbrev pub DirectListJudged : Settings → Bool → code-view.PointView → List ℕ → List ℕ → ℕ → List ℕ → Judging → Type 0
+DirectListJudged c required v rec s n at new =
+    (b : Book) (i : code-info.PointInfo) → Asked s b n at v (pointOf rec i) → inDomain (pointOf rec i) ≡ true →
+    new ≡ directFold c required (pointViewOf v) start (directList (marked (pointOf rec i) b) (pointOf rec i))
+
+-- the target of a link was judged, if the link is indirect
+abbrev pub TargetJudged : Settings → code-view.PointView → AnchorStageRole → AnchorLink → List ℕ → ℕ → List ℕ → Judging → Judging → Type 0
+TargetJudged c v role link s n at old new =
+    (b : Book) (p : PointInfo) → Asked s b n at v p → link ≡ anchorLink role p →
+    new ≡ indirectFold c p old (targetEntry (marked p b) p role link)
+
+-- the indirect list that the book builds for a point was judged, whatever its record
+abbrev pub TargetsJudged : Settings → code-view.PointView → code-info.PointInfo → List ℕ → ℕ → List ℕ → Judging → Judging → Type 0
+TargetsJudged c v i s n at old new =
+    (b : Book) (rec : List ℕ) → Asked s b n at v (pointOf rec i) →
+    new ≡ indirectFold c (pointOf rec i) old (indirectList (marked (pointOf rec i) b) (pointOf rec i))
+
+-- a point in the domain was judged by the book
+abbrev pub BookJudged : Settings → Bool → PointInfo → List ℕ → ℕ → List ℕ → Verdict → Type 0
+BookJudged c required p s n at v = (b : Book) → Holds s b n at → inDomain p ≡ true → v ≡ overBook c required p b

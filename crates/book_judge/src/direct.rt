@@ -9,30 +9,20 @@ use parts::Id;
 use point::PointId;
 use schedule::Settings;
 ghost use mathlib.Core.Path.{_≡_};
-ghost use mathlib.Core.Bool.{true, false, not, _&&_};
+ghost use mathlib.Core.Bool.{not, _&&_};
 ghost use mathlib.Core.List.{List};
-ghost use mathlib.Core.Option.{some};
-ghost use Prim.Native.Nat.{ℕ, _+_, _-_, _≤_, _<_};
-ghost use lib.ListN.{length, getD, drop};
+ghost use Prim.Native.Nat.{ℕ, _+_, _≤_, _<_};
+ghost use lib.ListN.{length, getD};
 ghost use lib.Dec.{eqb};
 ghost use Rattle.judge_valid.specs.Code.{pointViewOf};
-ghost use Rattle.point.specs.Point.{inDomain};
 ghost use Rattle.parts.specs.Code.{number};
-ghost use Rattle.map.specs.Rows.{pairsOf};
-ghost use Rattle.point.specs.Point as point;
-ghost use Rattle.point.specs.Reading.{pointIdAt};
-ghost use Rattle.point.specs.Code.{pointIdOf, pointOf};
-ghost use Rattle.point.specs.declared.info.PointInfo as code-info;
+ghost use Rattle.point.specs.Code.{pointIdOf};
 ghost use Rattle.schedule.specs.Code.{settingsOf};
 ghost use Rattle.judge_entries.specs.Code.{dagPointOf, EntryPlaced};
-ghost use Rattle.judge_step.specs.Code.{start, directStep, directFold, judgingOf};
-ghost use Rattle.rules.specs.Mismatch.{isVersion};
+ghost use Rattle.judge_step.specs.Code.{directStep, judgingOf};
 ghost use Rattle.book_index.specs.Code.{Index};
-ghost use Rattle.books.specs.Kept.{Book};
-ghost use Rattle.books.specs.Lists.{lookup, lookups, versions, directList};
-ghost use Rattle.books.specs.Layout.{KeptFront, keptFront};
-ghost use Rattle.book_read.specs.Code.{Holds};
-ghost use Rattle.book_judge.specs.Code.{marked, Asked, lookedOf, NoVersions, isValidState, versionsOf, versionStep};
+ghost use Rattle.book_judge.specs.Code.{lookedOf, isValidState, versionsOf, DependencyJudged, MapJudged};
+ghost use Rattle.book_judge.specs.Code.{VersionJudged, VersionsJudged, DirectListJudged};
 
 // What the versions of an author have given so far; seen says that one was Valid.
 struct Versions {
@@ -82,7 +72,7 @@ fn judge_dependency(
     so_far: Judging,
 ) -> Judging
     requires { ⌜ Index (now book) n (now at) (now next) (now heads) ⌝ }
-    ensures { λ r. ⌜ ((b : Book) (q : point.PointInfo) → Asked (now (book .entry)) b n (now (at .entry)) p q → isVersion q (pointIdOf id) ≡ false → judgingOf r ≡ directStep (settingsOf conf) required (pointViewOf p) (judgingOf «so_far») (lookup (marked q b) q (pointIdOf id))) ⌝ }
+    ensures { λ r. ⌜ DependencyJudged (settingsOf conf) required p (pointIdOf id) (now (book .entry)) n (now (at .entry)) (judgingOf «so_far») (judgingOf r) ⌝ }
 {
     let x = look::lookup(p, id, book, n, at, next, heads);
     judge_looked(conf, required, p, book, x, false, so_far)
@@ -103,7 +93,8 @@ fn judge_map(
     so_far: Judging,
 ) -> Judging
     requires { ⌜ Index (now book) n (now at) (now next) (now heads) ⌝ }
-    ensures { λ r. ⌜ ((b : Book) (q : point.PointInfo) → Asked (now (book .entry)) b n (now (at .entry)) p q → NoVersions q round (pairsOf (now (rows .entry))) → judgingOf r ≡ directFold (settingsOf conf) required (pointViewOf p) (judgingOf «so_far») (lookups (marked q b) q round (pairsOf (now (rows .entry))))) ⌝ }
+    ensures { λ r. ⌜ MapJudged (settingsOf conf) required p round (now (rows .entry)) (now (book .entry)) n (now (at .entry)) (judgingOf «so_far»)
+        (judgingOf r) ⌝ }
 {
     let count = map::count(rows, 64);
     let mut judging = so_far;
@@ -154,7 +145,7 @@ fn judge_version(
     so_far: Versions,
 ) -> Versions
     requires { ⌜ place + 71 ≤ length (now book) ⌝ }
-    ensures { λ r. ⌜ ((x : KeptFront) → keptFront (drop place (now (book .entry))) ≡ some x → pointIdAt (now (book .entry)) (place + 3) ≡ x .kept .point .id → versionsOf r ≡ versionStep (settingsOf conf) required (pointViewOf p) (versionsOf «so_far») (x .kept)) ⌝ }
+    ensures { λ r. ⌜ VersionJudged (settingsOf conf) required p (now (book .entry)) place (versionsOf «so_far») (versionsOf r) ⌝ }
 {
     let own = p.id;
     let author = own.author;
@@ -183,7 +174,7 @@ fn judge_versions(
     judging: Judging,
 ) -> Judging
     requires { ⌜ (n ≤ length (now at)) × ((j : ℕ) → j < n → getD (now at) j 0 + 71 ≤ length (now book)) ⌝ }
-    ensures { λ r. ⌜ ((b : Book) → Holds (now (book .entry)) b n (now (at .entry)) → judgingOf r ≡ directFold (settingsOf conf) required (pointViewOf p) (judgingOf judging) (versions b (p .id .round - 1) (number (p .id .author)) b)) ⌝ }
+    ensures { λ r. ⌜ VersionsJudged (settingsOf conf) required p (now (book .entry)) n (now (at .entry)) (judgingOf judging) (judgingOf r) ⌝ }
 {
     let mut so_far = Versions {
         judging,
@@ -210,7 +201,7 @@ pub fn judge_direct_list(
     heads: &[u16],
 ) -> Judging
     requires { ⌜ Index (now book) n (now at) (now next) (now heads) ⌝ }
-    ensures { λ r. ⌜ ((b : Book) (i : code-info.PointInfo) → Asked (now (book .entry)) b n (now (at .entry)) p (pointOf (now (rec .entry)) i) → inDomain (pointOf (now (rec .entry)) i) ≡ true → judgingOf r ≡ directFold (settingsOf conf) required (pointViewOf p) start (directList (marked (pointOf (now (rec .entry)) i) b) (pointOf (now (rec .entry)) i))) ⌝ }
+    ensures { λ r. ⌜ DirectListJudged (settingsOf conf) required p (now (rec .entry)) (now (book .entry)) n (now (at .entry)) (judgingOf r) ⌝ }
 {
     let own = p.id;
     let two = parts::rounds_back(own.round, 2);

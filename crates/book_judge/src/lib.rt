@@ -11,22 +11,15 @@ use point::PointInfo;
 use reasons::Verdict;
 use schedule::Settings;
 ghost use mathlib.Core.Path.{_≡_};
-ghost use mathlib.Core.Bool.{true};
-ghost use mathlib.Core.List.{List};
 ghost use mathlib.Core.Option.{some};
-ghost use Prim.Native.Nat.{ℕ};
-ghost use Rattle.point.specs.Point as point;
-ghost use Rattle.point.specs.Point.{anchorLink, inDomain};
 ghost use Rattle.point.specs.Code.{linkOf, pointOf};
 ghost use Rattle.point.specs.Reading.{readPoint};
 ghost use Rattle.schedule.specs.Code.{settingsOf};
 ghost use Rattle.reasons.specs.Code.{verdictOf};
-ghost use Rattle.judge_step.specs.Code.{indirectFold, judgingOf};
+ghost use Rattle.judge_step.specs.Code.{judgingOf};
 ghost use Rattle.book_index.specs.Code.{Index};
-ghost use Rattle.books.specs.Kept.{Book};
-ghost use Rattle.books.specs.Lists.{targetEntry, isTriggerFirst, indirectList};
-ghost use Rattle.book_read.specs.Code.{Holds};
-ghost use Rattle.book_judge.specs.Code.{marked, overBook, Asked};
+ghost use Rattle.books.specs.Lists.{isTriggerFirst};
+ghost use Rattle.book_judge.specs.Code.{TargetJudged, TargetsJudged, BookJudged};
 
 // Judges the target of a link, if it is indirect.
 fn judge_target(
@@ -42,7 +35,7 @@ fn judge_target(
     so_far: Judging,
 ) -> Judging
     requires { ⌜ Index (now book) n (now at) (now next) (now heads) ⌝ }
-    ensures { λ r. ⌜ ((b : Book) (q : point.PointInfo) → Asked (now (book .entry)) b n (now (at .entry)) p q → linkOf link ≡ anchorLink role q → judgingOf r ≡ indirectFold (settingsOf conf) q (judgingOf «so_far») (targetEntry (marked q b) q role (linkOf link))) ⌝ }
+    ensures { λ r. ⌜ TargetJudged (settingsOf conf) p role (linkOf link) (now (book .entry)) n (now (at .entry)) (judgingOf «so_far») (judgingOf r) ⌝ }
 {
     match link {
         AnchorLink::Direct(_) => so_far,
@@ -97,7 +90,7 @@ fn judge_targets(
     so_far: Judging,
 ) -> Judging
     requires { ⌜ Index (now book) n (now at) (now next) (now heads) ⌝ }
-    ensures { λ r. ⌜ ((b : Book) (s : List ℕ) → Asked (now (book .entry)) b n (now (at .entry)) p (pointOf s info) → judgingOf r ≡ indirectFold (settingsOf conf) (pointOf s info) (judgingOf «so_far») (indirectList (marked (pointOf s info) b) (pointOf s info))) ⌝ }
+    ensures { λ r. ⌜ TargetsJudged (settingsOf conf) p info (now (book .entry)) n (now (at .entry)) (judgingOf «so_far») (judgingOf r) ⌝ }
 {
     let proof = info.anchor_proof;
     let trigger = info.anchor_trigger;
@@ -147,7 +140,7 @@ pub fn judge_book(
 ) -> Verdict
     requires { ⌜ readPoint (now rec) ≡ some (pointOf (now rec) info) ⌝ }
     requires { ⌜ Index (now book) n (now at) (now next) (now heads) ⌝ }
-    ensures { λ r. ⌜ ((b : Book) → Holds (now (book .entry)) b n (now (at .entry)) → inDomain (pointOf (now (rec .entry)) info) ≡ true → verdictOf r ≡ overBook (settingsOf conf) required (pointOf (now (rec .entry)) info) b) ⌝ }
+    ensures { λ r. ⌜ BookJudged (settingsOf conf) required (pointOf (now (rec .entry)) info) (now (book .entry)) n (now (at .entry)) (verdictOf r) ⌝ }
 {
     let p = judge_valid::point_view(rec, info);
     let direct = direct::judge_direct_list(conf, required, rec, p, book, n, at, next, heads);

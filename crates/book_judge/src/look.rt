@@ -5,18 +5,13 @@ use judge_entries::DagPoint;
 use judge_valid::PointView;
 use point::PointId;
 ghost use mathlib.Core.Path.{_≡_};
-ghost use mathlib.Core.Bool.{Bool, _||_};
-ghost use mathlib.Core.Option.{some};
+ghost use mathlib.Core.Bool.{_||_};
 ghost use Prim.Native.Nat.{_≤_};
-ghost use lib.ListN.{length, drop};
-ghost use Rattle.point.specs.Point as point;
+ghost use lib.ListN.{length};
 ghost use Rattle.point.specs.Code.{pointIdOf};
 ghost use Rattle.judge_entries.specs.Code.{EntryPlaced};
 ghost use Rattle.book_index.specs.Code.{Index};
-ghost use Rattle.books.specs.Kept.{Book};
-ghost use Rattle.books.specs.Lists.{lookup};
-ghost use Rattle.books.specs.Layout.{KeptFront, keptFront};
-ghost use Rattle.book_judge.specs.Code.{marked, Asked, shown, lookedOf, Looks};
+ghost use Rattle.book_judge.specs.Code.{KeptLooked, LookedUp};
 
 // An entry whose record stands from `place` to `end`.
 pub struct Looked {
@@ -39,14 +34,14 @@ pub fn either(a: bool, b: bool) -> bool
 pub fn kept_at(book: &[u8], place: usize, covered: bool) -> Looked
     requires { ⌜ place ≤ length (now book) ⌝ }
     ensures { λ r. ⌜ EntryPlaced (now (book .entry)) (r .state) (r .place) (r .end) ⌝ }
-    ensures { λ r. ⌜ ((x : KeptFront) → keptFront (drop place (now (book .entry))) ≡ some x → (first : Bool) → lookedOf (now (book .entry)) r first ≡ shown (x .kept) covered first) ⌝ }
+    ensures { λ r. ⌜ KeptLooked (now (book .entry)) place covered r ⌝ }
 {
     let read = book_layout::read_kept(&book[place..]);
     match read {
         ReadKept::Kept(k) => {
             let info = k.info;
             let status = k.status;
-            let end = place + k.place;
+            let end = place + k.len;
             let state = book_layout::dag_point(info, status);
             let certified = either(k.certified, covered);
             Looked {
@@ -78,7 +73,7 @@ pub fn lookup(
 ) -> Looked
     requires { ⌜ Index (now book) n (now at) (now next) (now heads) ⌝ }
     ensures { λ r. ⌜ EntryPlaced (now (book .entry)) (r .state) (r .place) (r .end) ⌝ }
-    ensures { λ r. ⌜ ((b : Book) (q : point.PointInfo) → Asked (now (book .entry)) b n (now (at .entry)) p q → Looks (now (book .entry)) r (lookup (marked q b) q (pointIdOf id))) ⌝ }
+    ensures { λ r. ⌜ LookedUp (now (book .entry)) n (now (at .entry)) p (pointIdOf id) r ⌝ }
 {
     let covered = judge_list::is_prev(p, id);
     let found = book_index::find(book, n, at, next, heads, id);

@@ -4,14 +4,14 @@ use native.Mathlib.Omega.{arith}
 use native.Mathlib.Numerals.{add-one, add-two}
 use mathlib.Core.Path.{_≡_, refl, ap, sym, _∙_}
 use mathlib.Core.Bool.{Bool, true, false, _&&_, and-assoc}
-use mathlib.Core.Option.{Option, none, some}
+use mathlib.Core.Option.{Option, none, some, Option·map}
 use mathlib.Core.List.{List, [], _∷_, _++_, append-assoc}
 use lib.ListN.{length, getD, set, take, drop, take-append-drop, drop-of-length-le, length-take, length-drop}
 use lib.Seq.{drop-cons, drop-drop, length-take-le}
 use lib.Dec.{leb, eqb}
 use borrow.Author.Tests.{le-leb, lt-leb, eq-eqb, ne-eqb}
 use Rattle.base.specs.Base.{pick, isSome}
-use Rattle.base.proofs.Option.{picked, none-some}
+use Rattle.base.proofs.Option.{picked, and-then, unfound}
 use Rattle.base.proofs.Impossible.{impossible}
 use Rattle.parts.specs.Bytes.{little, littleAt, bigAt, littleBytes, bigBytes, putAt}
 use Rattle.write.proofs.Laws.{put-is, put-three}
@@ -23,7 +23,7 @@ use Rattle.point.specs.Code.{pointOf}
 use Rattle.point.specs.declared.info.PointInfo as code-info
 use Rattle.reasons.specs.Invalid.{dagRound}
 use Rattle.books.specs.Kept.{Status, Valid, TransInvalid, Invalid, IllFormed, Kept}
-use Rattle.books.specs.Layout.{idBytes, isZeros, throughAt, isRootOk, readStatus, isKeepable, keptWith, readKept, keptFront, sized}
+use Rattle.books.specs.Layout.{idBytes, isZeros, throughAt, isRootOk, readStatus, isKeepable, readKept, KeptFront, keptFront}
 use Rattle.book_layout.specs.Code.{keptEntryOf, EntryFrom, readKeptOf, KeptPlaced, EntryTo}
 use Rattle.book_layout.specs.declared.read.ReadKept as code-read-kept
 use Rattle.book_layout.specs.declared.read.ReadKept.the-variants as case-read-kept
@@ -107,9 +107,9 @@ module _ (t : List ℕ) where
     through-witness h = rw (ne-eqb (getD t at 0) 0 h, e)
 
   module _ (e : getD t 0 0 ≡ 0) where
-    pub valid-behind : isZeros (drop 2 t) ≡ false → readStatus t ≡ none
+    pub valid-after : isZeros (drop 2 t) ≡ false → readStatus t ≡ none
     unfolding readStatus
-    valid-behind z = rw (e, z)
+    valid-after z = rw (e, z)
 
     pub valid : isZeros (drop 2 t) ≡ true → readStatus t ≡ some Valid
     unfolding readStatus
@@ -136,9 +136,9 @@ module _ (t : List ℕ) where
     invalid-reasonless n = rw (e, n)
 
     module _ (n : isSome (dagRound (getD t 2 0)) ≡ true) where
-      pub invalid-behind : isZeros (drop 3 t) ≡ false → readStatus t ≡ none
+      pub invalid-after : isZeros (drop 3 t) ≡ false → readStatus t ≡ none
       unfolding readStatus
-      invalid-behind z = rw (e, n, z)
+      invalid-after z = rw (e, n, z)
 
       pub invalid : isZeros (drop 3 t) ≡ true → readStatus t ≡ some (Invalid (getD t 2 0))
       unfolding readStatus
@@ -155,9 +155,9 @@ module _ (t : List ℕ) where
       ill-formed-high h = rw (e, le-leb 1 (getD t 2 0) l, lt-leb (getD t 2 0) 16 h)
 
       module _ (h : getD t 2 0 ≤ 16) where
-        pub ill-formed-behind : isZeros (drop 3 t) ≡ false → readStatus t ≡ none
+        pub ill-formed-after : isZeros (drop 3 t) ≡ false → readStatus t ≡ none
         unfolding readStatus
-        ill-formed-behind z = rw (e, le-leb 1 (getD t 2 0) l, le-leb (getD t 2 0) 16 h, z)
+        ill-formed-after z = rw (e, le-leb 1 (getD t 2 0) l, le-leb (getD t 2 0) 16 h, z)
 
         pub ill-formed : isZeros (drop 3 t) ≡ true → readStatus t ≡ some (IllFormed (getD t 2 0))
         unfolding readStatus
@@ -201,13 +201,15 @@ module _ (bytes : List ℕ) (q : PointInfo) (t : List ℕ) where
   -- an entry has its record and its point
   pub entry-whose : (k : Kept) → readKept bytes q t ≡ some k → (k .bytes ≡ bytes) × (k .point ≡ q)
   unfolding readKept
-  entry-whose k h = whose (eqb (getD t 1 0) 1) (readStatus t) (picked (leb (getD t 1 0) 1) _ k h .1)
-    where
-      whose : (c : Bool) (o : Option Status) → keptWith bytes q c o ≡ some k → (k .bytes ≡ bytes) × (k .point ≡ q)
-      whose c none g = none-some g
-      whose c (some x) g = let e = picked (isKeepable q x) _ k g .1 in (cc, cc)
+  entry-whose k h =
+      let s = and-then (readStatus t) _ k (picked (leb (getD t 1 0) 1) _ k h .1) in
+      let e = picked (isKeepable q (s .0)) _ k (s .2) .1 in
+      (cc, cc)
 
 -- ---- the entry at the front of a slice
+
+abbrev sized : ℕ → Option Kept → Option KeptFront
+sized n o = Option·map (λ k. record { kept = k; size = n }) o
 
 pub front-endless : (s : List ℕ) → recordEnd s ≡ none → keptFront s ≡ none
 unfolding keptFront
@@ -238,7 +240,7 @@ module _ (s part : List ℕ) (n : ℕ) (e : recordEnd s ≡ some n) (p : part �
 
     front-tagged : fieldOk (fieldRow 33 105 105) s n ≡ true → keptFront s ≡ sized (n + 108) (readKept part q (take 105 (drop (n + 3) s)))
     unfolding keptFront
-    front-tagged f = rw (e, ← p, h, f, ← p)
+    front-tagged f = rw (e, ← p, h, f)
 
     -- what is read of tag 33 decides
     module _ (f : fieldOk (fieldRow 33 105 105) s n ≡ true) (tag : List ℕ) (g : tag ≡ take 105 (drop (n + 3) s)) where
@@ -246,11 +248,7 @@ module _ (s part : List ℕ) (n : ℕ) (e : recordEnd s ≡ some n) (p : part �
       front-read = front-tagged f ∙ rw g
 
       pub front-no-entry : isSome (readKept part q tag) ≡ false → keptFront s ≡ none
-      front-no-entry d = front-read ∙ go (readKept part q tag) d
-        where
-          go : (o : Option Kept) → isSome o ≡ false → sized (n + 108) o ≡ none
-          go none d = refl
-          go (some k) d = impossible (cc)
+      front-no-entry d = front-read ∙ rw (unfound (readKept part q tag) d)
 
       pub front-entry-to : isSome (readKept part q tag) ≡ true → EntryTo s n
       front-entry-to d = go (readKept part q tag) refl d
@@ -266,12 +264,12 @@ module _ (s part : List ℕ) (n : ℕ) (e : recordEnd s ≡ some n) (p : part �
 
   module _ (i : code-info.PointInfo) (h : readPoint part ≡ some (pointOf part i)) (f : fieldOk (fieldRow 33 105 105) s n ≡ true) where
     kept-sized : (r : code-read-kept.ReadKept) → EntryFrom part i r → readKeptOf s r ≡ sized (n + 108) (keptEntryOf part r)
-    kept-sized (case-read-kept.Kept k) w = let l : k .place ≡ n = w .place ∙ part-length in rw (l, ← p)
+    kept-sized (case-read-kept.Kept k) w = let l : k .len ≡ n = w .len ∙ part-length in rw (l, ← p)
     kept-sized case-read-kept.Unreadable w = refl
 
     kept-placed : (r : code-read-kept.ReadKept) → EntryFrom part i r → KeptPlaced s r
     kept-placed (case-read-kept.Kept k) w =
-        let l : k .place ≡ n = w .place ∙ part-length in
+        let l : k .len ≡ n = w .len ∙ part-length in
         record { inside = omega (arith, tag-inside n s f); read = rw (l, ← p, w .info) h }
     kept-placed case-read-kept.Unreadable w = tt
 

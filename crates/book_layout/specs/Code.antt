@@ -53,7 +53,7 @@ keptEntryOf bytes case-read-kept.Unreadable = none
 -- an entry holds the point that was read of its record, and the record's length
 pub record From (bytes : List ℕ) (i : code-info.PointInfo) (k : code-kept.Kept) : Type 0 where
   pub info : k .info ≡ i
-  pub place : k .place ≡ length bytes
+  pub len : k .len ≡ length bytes
 
 abbrev pub EntryFrom : List ℕ → code-info.PointInfo → code-read-kept.ReadKept → Type 0
 EntryFrom bytes i (case-read-kept.Kept k) = From bytes i k
@@ -61,13 +61,13 @@ EntryFrom bytes i case-read-kept.Unreadable = Unit
 
 -- of the slice at whose front an entry stands
 abbrev pub readKeptOf : List ℕ → code-read-kept.ReadKept → Option KeptFront
-readKeptOf s (case-read-kept.Kept k) = some (record { kept = keptOf (take (k .place) s) k; size = k .place + tag33Length })
+readKeptOf s (case-read-kept.Kept k) = some (record { kept = keptOf (take (k .len) s) k; size = k .len + tag33Length })
 readKeptOf s case-read-kept.Unreadable = none
 
 -- the record and tag 33 lie in the slice, and the point is what the record says
 pub record KeptAt (s : List ℕ) (k : code-kept.Kept) : Type 0 where
-  pub inside : k .place + tag33Length ≤ length s
-  pub read : readPoint (take (k .place) s) ≡ some (pointOf (take (k .place) s) (k .info))
+  pub inside : k .len + tag33Length ≤ length s
+  pub read : readPoint (take (k .len) s) ≡ some (pointOf (take (k .len) s) (k .info))
 
 abbrev pub KeptPlaced : List ℕ → code-read-kept.ReadKept → Type 0
 KeptPlaced s (case-read-kept.Kept k) = KeptAt s k

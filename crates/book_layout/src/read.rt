@@ -22,12 +22,12 @@ pub enum ReadStatus {
     Unreadable,
 }
 
-// An entry whose record takes n bytes; tag 33 takes 108 after them.
+// An entry whose record takes `len` bytes; tag 33 takes 108 after them.
 pub struct Kept {
     pub info: PointInfo,
     pub status: Status,
     pub certified: bool,
-    pub place: usize,
+    pub len: usize,
 }
 
 pub enum ReadKept {
@@ -178,7 +178,7 @@ fn entry_of(rec: &[u8], info: PointInfo, t: &[u8]) -> ReadKept
         info,
         status,
         certified: certified == 1,
-        place: rec.len(),
+        len: rec.len(),
     })
 }
 

@@ -10,7 +10,7 @@ use lib.Seq.{drop-nil}
 use Rattle.base.proofs.Impossible.{impossible}
 use Rattle.point.specs.Point.{PointId, sameId}
 use Rattle.books.specs.Kept.{Kept, Book, findKept}
-use Rattle.books.proofs.Find.{find-behind, once-around}
+use Rattle.books.proofs.Find.{find-after, once-around}
 use Rattle.book_index.specs.Code.{FoundAt}
 use Rattle.book_index.specs.declared.Place.the-variants.{At, Absent}
 use Rattle.book_read.specs.Code.{Holds}
@@ -53,7 +53,7 @@ module _ {s : List ℕ} {b : Book} {n : ℕ} {at : List ℕ} (h : Holds s b n at
         kept = k;
         rest = rest;
         there = x .2;
-        found = ap (λ (l : Book). findKept l i) parts ∙ (find-behind (take j b) (k ∷ rest) i (o .0) ∙ rw e);
+        found = ap (λ (l : Book). findKept l i) parts ∙ (find-after (take j b) (k ∷ rest) i (o .0) ∙ rw e);
       }
 
   module _ (f : FoundAt s n at i Absent) where

@@ -3,13 +3,14 @@ use Prim.Native.Nat.{ℕ, zero, suc, _+_, _-_, _≤_, _<_}
 use native.Mathlib.Omega.{arith}
 use mathlib.Core.Path.{_≡_, refl, ap, sym, _∙_}
 use mathlib.Core.Bool.{Bool, true, false}
-use mathlib.Core.Option.{Option, none, some}
+use mathlib.Core.Option.{Option, none, some, Option·map}
 use mathlib.Core.List.{List, [], _∷_, _++_, append-nil}
 use lib.ListN.{length, getD, take, drop, set, length-append, length-take, length-drop}
 use lib.Seq.{take-append-le, take-append-seam, append-snoc, drop-nil, drop-drop, getD-drop, getD-set-same, getD-set-other, length-take-le}
-use lib.Dec.{eqb}
+use lib.Dec.{leb, eqb}
 use borrow.Author.Tests.{le-leb, lt-leb, eq-eqb, ne-eqb}
-use Rattle.base.specs.Base.{pick}
+use Rattle.base.specs.Base.{pick, andThen}
+use Rattle.base.proofs.Bool.{pick-true, pick-false}
 use Rattle.base.proofs.Option.{none-some}
 use Rattle.base.proofs.Impossible.{impossible}
 use Rattle.record.specs.Record.{rows, rowOf, nextAt, contentAt, startOf, contentOf}
@@ -21,13 +22,13 @@ use Rattle.point.proofs.Ids.{same-refl, id-front, id-shift}
 use Rattle.schedule.specs.Settings.{Settings, readSettings}
 use Rattle.books.specs.Kept.{Kept, Book, findKept, isTwice}
 use Rattle.books.specs.Offer.{used}
-use Rattle.books.specs.Layout.{isZeros, KeptFront, keptFront, bookThen, entriesWith, entriesFrom, openedWith, readBook}
+use Rattle.books.specs.Layout.{isZeros, KeptFront, keptFront, entriesFrom, readBook}
 use Rattle.books.proofs.Bytes.{used-append}
 use Rattle.books.proofs.Find.{once-around, once-more}
 use Rattle.book_index.specs.Code.{idOf, Index, FoundAt}
 use Rattle.book_index.specs.declared.Place.the-variants.{At, Absent}
 use Rattle.book_layout.specs.Code.{EntryTo}
-use Rattle.book_read.specs.Code.{Holds, entriesBefore, Reading, NoBook, IsRead}
+use Rattle.book_read.specs.Code.{Holds, entriesBefore, Reading, openedOnce, NoBook, IsRead}
 use Rattle.book_read.proofs.Laws.{inside, found-kept, absent-kept}
 
 -- ---- a book with one more entry
@@ -100,15 +101,15 @@ record Stands (s : List ℕ) (b : Book) (at : List ℕ) (j : ℕ) (k : Kept) : T
 
 before-none : (b : Book) → entriesBefore b none ≡ none
 before-none [] = refl
-before-none (k ∷ b) = ap (bookThen k) (before-none b)
+before-none (k ∷ b) = ap (Option·map (λ b. k ∷ b)) (before-none b)
 
 before-some : (b c : Book) → entriesBefore b (some c) ≡ some (b ++ c)
 before-some [] c = refl
-before-some (k ∷ b) c = ap (bookThen k) (before-some b c)
+before-some (k ∷ b) c = ap (Option·map (λ b. k ∷ b)) (before-some b c)
 
-before-more : (b : Book) (k : Kept) (o : Option Book) → entriesBefore b (bookThen k o) ≡ entriesBefore (b ++ (k ∷ [])) o
+before-more : (b : Book) (k : Kept) (o : Option Book) → entriesBefore b (Option·map (λ c. k ∷ c) o) ≡ entriesBefore (b ++ (k ∷ [])) o
 before-more [] k o = refl
-before-more (x ∷ b) k o = ap (bookThen x) (before-more b k o)
+before-more (x ∷ b) k o = ap (Option·map (λ b. x ∷ b)) (before-more b k o)
 
 before-last : (b : Book) (z : Bool) → entriesBefore b (pick z (some []) none) ≡ pick z (some b) none
 before-last b true = before-some b [] ∙ ap some (append-nil b)
@@ -125,25 +126,17 @@ unfolding entriesFrom isZeros
 no-room [] h = impossible (cc)
 no-room (x ∷ t) h = rw h
 
-module _ (m : ℕ) (t : List ℕ) (h : eqb (getD t 0 0) 0 ≡ false) where
-  with-front : (o : Option KeptFront) → keptFront t ≡ o → entriesFrom (suc m) t ≡ entriesWith (λ r. entriesFrom m r) t o
-  unfolding entriesFrom
-  with-front o f = rw h (ap (entriesWith (λ r. entriesFrom m r) t) f)
-
-unopened : (t : List ℕ) (c : Option Settings) → openedWith t c none ≡ none
-unopened t none = refl
-unopened t (some c) = refl
-
-twice-unopened : (t : List ℕ) (c : Option Settings) (b : Book) → isTwice b ≡ true → openedWith t c (some b) ≡ none
-twice-unopened t none b h = refl
-twice-unopened t (some c) b h = rw h
+with-front : (m : ℕ) (t : List ℕ) → eqb (getD t 0 0) 0 ≡ false → (o : Option KeptFront) → keptFront t ≡ o →
+    entriesFrom (suc m) t ≡ andThen o (λ x. Option·map (λ b. x .kept ∷ b) (entriesFrom m (drop (x .size) t)))
+unfolding entriesFrom
+with-front m t h o f = rw (h, f)
 
 module _ {s : List ℕ} {n end : ℕ} {at next heads : List ℕ} (r : Reading s n end at next heads) where
   first : getD (drop end s) 0 0 ≡ getD s end 0
   first = let e : end + 0 ≡ end = omega arith in getD-drop end s 0 0 ∙ ap (λ (m : ℕ). getD s m 0) e
 
   unread : entriesFrom (4096 - n) (drop end s) ≡ none → NoBook s
-  unread h = λ c. ap (openedWith (take 47 s) c) (r .left ∙ (ap (entriesBefore (r .book)) h ∙ before-none (r .book))) ∙ unopened (take 47 s) c
+  unread h = λ c. ap (λ o. andThen o (openedOnce s c)) (r .left ∙ (ap (entriesBefore (r .book)) h ∙ before-none (r .book)))
 
   -- the entries end at a 0 or with the bytes
   pub all-read : getD s end 0 ≡ 0 → entriesFrom 4096 (drop 47 s) ≡ pick (isZeros (drop end s)) (some (r .book)) none
@@ -158,7 +151,7 @@ module _ {s : List ℕ} {n end : ℕ} {at next heads : List ℕ} (r : Reading s 
 
     module _ (room : n < 4096) where
       one-left : (o : Option KeptFront) → keptFront (drop end s) ≡ o →
-          entriesFrom (4096 - n) (drop end s) ≡ entriesWith (λ t. entriesFrom (4096 - (n + 1)) t) (drop end s) o
+          entriesFrom (4096 - n) (drop end s) ≡ andThen o (λ x. Option·map (λ b. x .kept ∷ b) (entriesFrom (4096 - (n + 1)) (drop (x .size) (drop end s))))
       one-left o f =
           let z : 4096 - n ≡ suc (4096 - (n + 1)) = omega arith in
           ap (λ (m : ℕ). entriesFrom m (drop end s)) z ∙ with-front (4096 - (n + 1)) (drop end s) begins o f
@@ -168,8 +161,8 @@ module _ {s : List ℕ} {n end : ℕ} {at next heads : List ℕ} (r : Reading s 
 
       module _ (c : ℕ) (k : Kept) (x : EntryAt s end c k) where
         -- what is left to read after the entry
-        behind : entriesFrom 4096 (drop 47 s) ≡ entriesBefore (r .book ++ (k ∷ [])) (entriesFrom (4096 - (n + 1)) (drop (end + c + 108) s))
-        behind =
+        after : entriesFrom 4096 (drop 47 s) ≡ entriesBefore (r .book ++ (k ∷ [])) (entriesFrom (4096 - (n + 1)) (drop (end + c + 108) s))
+        after =
             let z : end + (length (k .bytes) + 108) ≡ end + c + 108 = omega (arith, x .size) in
             let e : drop (length (k .bytes) + 108) (drop end s) ≡ drop (end + c + 108) s = drop-drop (length (k .bytes) + 108) end s ∙ rw z in
             r .left
@@ -178,14 +171,13 @@ module _ {s : List ℕ} {n end : ℕ} {at next heads : List ℕ} (r : Reading s 
             ∙ ap (λ (t : List ℕ). entriesBefore (r .book ++ (k ∷ [])) (entriesFrom (4096 - (n + 1)) t)) e))
 
         pub id-twice : (j : ℕ) → FoundAt s n at (k .point .id) (At j) → NoBook s
-        id-twice j f = λ c'. ap (openedWith (take 47 s) c') behind ∙ go c' (entriesFrom (4096 - (n + 1)) (drop (end + c + 108) s))
+        id-twice j f = λ c'. ap (λ o. andThen o (openedOnce s c')) after ∙ go c' (entriesFrom (4096 - (n + 1)) (drop (end + c + 108) s))
           where
-            go : (c' : Option Settings) (o : Option Book) → openedWith (take 47 s) c' (entriesBefore (r .book ++ (k ∷ [])) o) ≡ none
-            go c' none = ap (openedWith (take 47 s) c') (before-none (r .book ++ (k ∷ []))) ∙ unopened (take 47 s) c'
+            go : (c' : Settings) (o : Option Book) → andThen (entriesBefore (r .book ++ (k ∷ [])) o) (openedOnce s c') ≡ none
+            go c' none = rw (before-none (r .book ++ (k ∷ [])))
             go c' (some b) =
                 let w = found-kept (r .holds) (k .point .id) j f in
-                ap (openedWith (take 47 s) c') (before-some (r .book ++ (k ∷ [])) b)
-                ∙ twice-unopened (take 47 s) c' (r .book ++ (k ∷ []) ++ b) (twice (r .book) k (w .kept) b (w .found))
+                rw (before-some (r .book ++ (k ∷ [])) b, twice (r .book) k (w .kept) b (w .found))
 
         -- the places with the entry's after them
         place-old : (j : ℕ) (y : Kept) (rest : Book) → drop j (r .book) ≡ y ∷ rest → getD (set at n end) j 0 ≡ getD at j 0
@@ -236,7 +228,7 @@ module _ {s : List ℕ} {n end : ℕ} {at next heads : List ℕ} (r : Reading s 
                 holds = rw e holds-more;
                 ends = omega (arith, r .ends, used-append (r .book) (k ∷ []), x .size);
                 within = x .within;
-                left = behind;
+                left = after;
                 index = i;
               }
 
@@ -262,30 +254,35 @@ none-read {s} {at} l i = record { book = []; holds = nothing s at; ends = refl; 
 module _ (s : List ℕ) where
   pub too-long : 16777216 < length s → readBook s ≡ none
   unfolding readBook
-  too-long h = rw (lt-leb (length s) 16777216 h)
+  too-long h = pick-false (leb (length s) 16777216) _ none (lt-leb (length s) 16777216 h)
 
   module _ (h : length s ≤ 16777216) where
-    in-limit : readBook s ≡ openedWith (take 47 s) (readSettings (take 47 s)) (entriesFrom 4096 (drop 47 s))
+    in-limit : readBook s ≡ andThen (readSettings (take 47 s)) (λ c. andThen (entriesFrom 4096 (drop 47 s)) (openedOnce s c))
     unfolding readBook
-    in-limit = rw (le-leb (length s) 16777216 h)
+    in-limit = pick-true (leb (length s) 16777216) _ none (le-leb (length s) 16777216 h)
 
     pub no-settings : readSettings (take 47 s) ≡ none → readBook s ≡ none
-    no-settings e = in-limit ∙ ap (λ (c : Option Settings). openedWith (take 47 s) c (entriesFrom 4096 (drop 47 s))) e
+    no-settings e = in-limit ∙ rw e
 
     pub no-book : NoBook s → readBook s ≡ none
-    no-book e = in-limit ∙ e (readSettings (take 47 s))
+    no-book e = in-limit ∙ go (readSettings (take 47 s))
+      where
+        go : (o : Option Settings) → andThen o (λ c. andThen (entriesFrom 4096 (drop 47 s)) (openedOnce s c)) ≡ none
+        go none = refl
+        go (some c) = e c
 
     module _ {n end : ℕ} {at next heads : List ℕ} (r : Reading s n end at next heads) (e : getD s end 0 ≡ 0) where
       pub no-zeros : isZeros (drop end s) ≡ false → readBook s ≡ none
-      no-zeros z = no-book (λ c. ap (openedWith (take 47 s) c) (all-read r e ∙ rw z) ∙ unopened (take 47 s) c)
+      no-zeros z = let b : entriesFrom 4096 (drop 47 s) ≡ none = all-read r e ∙ rw z in no-book (λ c. ap (λ o. andThen o (openedOnce s c)) b)
 
       pub book-read : (c : Settings) → readSettings (take 47 s) ≡ some c → isZeros (drop end s) ≡ true → IsRead s c n end at next heads
       book-read c f z =
           let b : entriesFrom 4096 (drop 47 s) ≡ some (r .book) = all-read r e ∙ rw z in
           record {
-            opened = record { bytes = take 47 s; settings = c; book = r .book };
+            opened = record { bytes = take 47 s; settings = c; length = length s; book = r .book };
             read = in-limit ∙ rw (f, b, r .holds .once);
             settings = refl;
+            whole = refl;
             holds = r .holds;
             ends = r .ends;
             index = r .index;

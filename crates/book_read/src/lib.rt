@@ -17,6 +17,7 @@ pub enum ReadBook {
     Unreadable,
 }
 
+// How many entries were read, and where they end.
 enum Entries {
     Entries(usize, usize),
     Unreadable,
@@ -74,10 +75,10 @@ fn read_entries(book: &[u8], at: &mut [u32], next: &mut [u16], heads: &mut [u16]
     let mut n = 0;
     let mut end = parts::ENTRIES_START;
     while is_entry_at(book, end) {
-        let ReadEntry::Ends(behind) = read_entry(book, n, end, at, next, heads) else {
+        let ReadEntry::Ends(after) = read_entry(book, n, end, at, next, heads) else {
             return Entries::Unreadable;
         };
-        end = behind;
+        end = after;
         n += 1;
     }
     Entries::Entries(n, end)

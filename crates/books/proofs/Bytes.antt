@@ -4,13 +4,15 @@ use native.Mathlib.Nat.{suc-add, zero-add, sub-zero, zero-sub, suc-sub-suc}
 use native.Mathlib.Omega.{arith}
 use mathlib.Core.Path.{_≡_, refl, ap, sym, _∙_}
 use mathlib.Core.Bool.{Bool, true, false, or-false, or-true}
-use mathlib.Core.Option.{none}
+use mathlib.Core.Option.{none, some}
 use mathlib.Core.List.{List, [], _∷_, _++_, append-assoc, append-nil}
 use lib.ListN.{length, drop, set, replicate, length-append}
 use lib.Seq.{set-append-left}
 use Rattle.parts.specs.Bytes.{putAt}
-use Rattle.write.proofs.Laws.{put-behind}
+use Rattle.write.proofs.Laws.{put-after}
 use Rattle.point.specs.Point.{PointId, sameId}
+use Rattle.point.proofs.Ids.{same-sym}
+use Rattle.rules.specs.Mismatch.{isId}
 use Rattle.books.specs.Kept.{Status, Valid, TransInvalid, Invalid, IllFormed, Kept, Book, findKept, isTwice, markOne, mark}
 use Rattle.books.specs.Offer.{used}
 use Rattle.books.specs.Layout.{statusBytes, keptBytes, entriesBytes, bookBytes}
@@ -34,44 +36,49 @@ unfolding entriesBytes
 entries-append [] b = refl
 entries-append (k ∷ a) b = ap (_++_ (keptBytes k)) (entries-append a b) ∙ sym (append-assoc (keptBytes k) (entriesBytes a) (entriesBytes b))
 
-pub mark-append : (i : PointId) (a b : Book) → mark i (a ++ b) ≡ mark i a ++ mark i b
+pub mark-append : (covers : PointId → Bool) (a b : Book) → mark covers (a ++ b) ≡ mark covers a ++ mark covers b
 unfolding mark
-mark-append i [] b = refl
-mark-append i (k ∷ a) b = ap (λ (c : Book). markOne i k ∷ c) (mark-append i a b)
+mark-append covers [] b = refl
+mark-append covers (k ∷ a) b = ap (λ (c : Book). markOne covers k ∷ c) (mark-append covers a b)
 
-pub mark-used : (i : PointId) (b : Book) → used (mark i b) ≡ used b
+pub mark-used : (covers : PointId → Bool) (b : Book) → used (mark covers b) ≡ used b
 unfolding mark markOne used
-mark-used i [] = refl
-mark-used i (k ∷ b) = ap (λ (n : ℕ). length (k .bytes) + 108 + n) (mark-used i b)
+mark-used covers [] = refl
+mark-used covers (k ∷ b) = ap (λ (n : ℕ). length (k .bytes) + 108 + n) (mark-used covers b)
 
--- ---- a mark of an id that no entry has changes nothing
+-- ---- a mark that covers no entry changes nothing
 
-unmarked : (i : PointId) (k : Kept) → sameId (k .point .id) i ≡ false → markOne i k ≡ k
+unmarked : (covers : PointId → Bool) (k : Kept) → covers (k .point .id) ≡ false → markOne covers k ≡ k
 unfolding markOne
-unmarked i k h = rw (h, or-false (k .certified))
+unmarked covers k h = rw (h, or-false (k .certified))
 
-pub mark-absent : (i : PointId) (b : Book) → findKept b i ≡ none → mark i b ≡ b
+pub mark-none : (b : Book) → mark (isId none) b ≡ b
+unfolding mark
+mark-none [] = refl
+mark-none (k ∷ b) = rw (unmarked (isId none) k refl, mark-none b)
+
+pub mark-absent : (i : PointId) (b : Book) → findKept b i ≡ none → mark (isId (some i)) b ≡ b
 unfolding mark findKept
 mark-absent i [] h = refl
 mark-absent i (k ∷ b) h =
     let p = absent-first k b i h in
-    rw (unmarked i k (p .0), mark-absent i b (p .1))
+    rw (unmarked (isId (some i)) k (same-sym i (k .point .id) ∙ p .0), mark-absent i b (p .1))
 
 -- ---- no id twice: the other entries have other ids
 
 module _ (i : PointId) (k : Kept) (back : Book) (t : sameId (k .point .id) i ≡ true) where
-  pub mark-once : (front : Book) → isTwice (front ++ k ∷ back) ≡ false → mark i (front ++ k ∷ back) ≡ front ++ markOne i k ∷ back
+  pub mark-once : (front : Book) → isTwice (front ++ k ∷ back) ≡ false → mark (isId (some i)) (front ++ k ∷ back) ≡ front ++ markOne (isId (some i)) k ∷ back
   unfolding mark
   mark-once front h =
       let p = once-around i k back t front h in
-      mark-append i front (k ∷ back) ∙ rw (mark-absent i front (p .0), mark-absent i back (p .1))
+      mark-append (isId (some i)) front (k ∷ back) ∙ rw (mark-absent i front (p .0), mark-absent i back (p .1))
 
 -- ---- a mark is one byte
 
-set-behind : (xs ys : List ℕ) (at n a : ℕ) → at ≡ length xs + n → set (xs ++ ys) at a ≡ xs ++ set ys n a
-set-behind [] ys at n a e = ap (λ (k : ℕ). set ys k a) (e ∙ zero-add n)
-set-behind (x ∷ xs) ys at n a e =
-    ap (λ (k : ℕ). set (x ∷ xs ++ ys) k a) (e ∙ suc-add (length xs) n) ∙ ap (λ (l : List ℕ). x ∷ l) (set-behind xs ys (length xs + n) n a refl)
+set-after : (xs ys : List ℕ) (at n a : ℕ) → at ≡ length xs + n → set (xs ++ ys) at a ≡ xs ++ set ys n a
+set-after [] ys at n a e = ap (λ (k : ℕ). set ys k a) (e ∙ zero-add n)
+set-after (x ∷ xs) ys at n a e =
+    ap (λ (k : ℕ). set (x ∷ xs ++ ys) k a) (e ∙ suc-add (length xs) n) ∙ ap (λ (l : List ℕ). x ∷ l) (set-after xs ys (length xs + n) n a refl)
 
 flag-set : (s : Status) (c : Bool) → set (statusBytes s c) 1 1 ≡ statusBytes s true
 unfolding statusBytes
@@ -81,34 +88,34 @@ flag-set (Invalid n) c = refl
 flag-set (IllFormed n) c = refl
 
 module _ (i : PointId) (k : Kept) (t : sameId (k .point .id) i ≡ true) where
-  kept-marked : set (keptBytes k) (length (k .bytes) + 4) 1 ≡ keptBytes (markOne i k)
+  kept-marked : set (keptBytes k) (length (k .bytes) + 4) 1 ≡ keptBytes (markOne (isId (some i)) k)
   unfolding keptBytes markOne
   kept-marked =
-      set-behind (k .bytes) (33 ∷ 105 ∷ 0 ∷ statusBytes (k .status) (k .certified)) (length (k .bytes) + 4) 4 1 refl
-      ∙ rw (t, or-true (k .certified), flag-set (k .status) (k .certified))
+      set-after (k .bytes) (33 ∷ 105 ∷ 0 ∷ statusBytes (k .status) (k .certified)) (length (k .bytes) + 4) 4 1 refl
+      ∙ rw (same-sym i (k .point .id) ∙ t, or-true (k .certified), flag-set (k .status) (k .certified))
 
-  entries-marked : (front back : Book) → set (entriesBytes (front ++ k ∷ back)) (used front + (length (k .bytes) + 4)) 1 ≡ entriesBytes (front ++ markOne i k ∷ back)
+  entries-marked : (front back : Book) → set (entriesBytes (front ++ k ∷ back)) (used front + (length (k .bytes) + 4)) 1 ≡ entriesBytes (front ++ markOne (isId (some i)) k ∷ back)
   unfolding entriesBytes
   entries-marked front back =
       let n = length (k .bytes) + 4 in
-      rw (entries-append front (k ∷ back), entries-append front (markOne i k ∷ back))
-      (set-behind (entriesBytes front) (keptBytes k ++ entriesBytes back) (used front + n) n 1 (rw (entries-length front))
+      rw (entries-append front (k ∷ back), entries-append front (markOne (isId (some i)) k ∷ back))
+      (set-after (entriesBytes front) (keptBytes k ++ entriesBytes back) (used front + n) n 1 (rw (entries-length front))
       ∙ rw (set-append-left (keptBytes k) (entriesBytes back) n 1 (omega (arith, kept-length k)), kept-marked))
 
   -- "the previous point, if kept, is marked": of an entry, the second byte of its tag 33's content
   module _ (settings : List ℕ) (len : ℕ) (l : length settings ≡ 47) (front back : Book) (at : ℕ) (e : at ≡ 47 + used front + length (k .bytes) + 3 + 1) where
     mark-parts : isTwice (front ++ k ∷ back) ≡ false →
-        set (bookBytes settings len (front ++ k ∷ back)) at 1 ≡ bookBytes settings len (mark i (front ++ k ∷ back))
+        set (bookBytes settings len (front ++ k ∷ back)) at 1 ≡ bookBytes settings len (mark (isId (some i)) (front ++ k ∷ back))
     unfolding bookBytes
     mark-parts o =
         let b = front ++ k ∷ back in
         let n = used front + (length (k .bytes) + 4) in
         let zeros : List ℕ = replicate (len - 47 - used b) 0 in
         let within : n < length (entriesBytes b) = omega (arith, entries-length b, entry-within front k back) in
-        set-behind settings (entriesBytes b ++ zeros) at n 1 (omega arith)
-        ∙ rw (mark-used i b, mark-once i k back t front o, set-append-left (entriesBytes b) zeros n 1 within, entries-marked front back)
+        set-after settings (entriesBytes b ++ zeros) at n 1 (omega arith)
+        ∙ rw (mark-used (isId (some i)) b, mark-once i k back t front o, set-append-left (entriesBytes b) zeros n 1 within, entries-marked front back)
 
-    pub mark-bytes : (b : Book) → b ≡ front ++ k ∷ back → isTwice b ≡ false → set (bookBytes settings len b) at 1 ≡ bookBytes settings len (mark i b)
+    pub mark-bytes : (b : Book) → b ≡ front ++ k ∷ back → isTwice b ≡ false → set (bookBytes settings len b) at 1 ≡ bookBytes settings len (mark (isId (some i)) b)
     mark-bytes b f o = rw f (mark-parts (rw f at o))
 
 -- ---- a new entry is a run of bytes
@@ -128,5 +135,5 @@ append-bytes settings len b k at l e =
     let m : len - 47 - used b - length (keptBytes k) ≡ len - 47 - used (b ++ (k ∷ [])) = omega (arith, kept-length k, used-append b (k ∷ [])) in
     let n : length front ≡ at = omega (arith, length-append settings (entriesBytes b), entries-length b) in
     ap (λ (s : List ℕ). putAt s at (keptBytes k)) (sym (append-assoc settings (entriesBytes b) zeros))
-    ∙ (put-behind front zeros (keptBytes k) at n
+    ∙ (put-after front zeros (keptBytes k) at n
     ∙ rw (drop-zeros (length (keptBytes k)) (len - 47 - used b), m, entries-append b (k ∷ []), append-nil (keptBytes k)) (simp append-assoc))

@@ -7,7 +7,7 @@ use native.Mathlib.Omega.{arith}
 use mathlib.Core.Path.{_≡_, refl, ap, sym, _∙_, subst}
 use mathlib.Core.Logic.{_⊎_, inl, inr}
 use mathlib.Core.Bool.{Bool, true, false, _&&_}
-use mathlib.Core.Option.{Option, none, some}
+use mathlib.Core.Option.{none, some}
 use mathlib.Core.List.{List, [], _∷_, _++_, List·Memᴰ, List·Memᴰ·not-nil, List·Memᴰ·cases-cons, append-assoc}
 use lib.ListN.{length, getD, take, drop, replicate, length-take, length-drop, take-append-drop}
 use lib.Seq.{take-all, take-add, drop-cons, drop-drop, length-take-le}
@@ -15,7 +15,7 @@ use lib.Dec.{leb, eqb}
 use borrow.Author.Tests.{leb-true, eqb-true}
 use Rattle.base.specs.Base.{pick, isSome}
 use Rattle.base.proofs.Bool.{and-left, and-right}
-use Rattle.base.proofs.Option.{picked, IfSome, pick-has, has}
+use Rattle.base.proofs.Option.{picked, IfSome, pick-has, then-has, map-has, has}
 use Rattle.parts.specs.Bytes.{bytesAt, littleAt, idAt, bigBytes, Bytes}
 use Rattle.parts.proofs.Laws.{at-split, little-split, little-one, at-bytes, big-fits}
 use Rattle.record.specs.Record.{fieldRow, fieldOk, recordEnd}
@@ -26,10 +26,10 @@ use Rattle.point.specs.Reading.{pointIdAt, readPoint}
 use Rattle.schedule.specs.Settings.{Settings, readSettings}
 use Rattle.reasons.specs.Invalid.{dagRound}
 use Rattle.rules.specs.List.{isListable}
-use Rattle.books.specs.Kept.{Status, Valid, TransInvalid, Invalid, IllFormed, Kept, Book, isTwice}
+use Rattle.books.specs.Kept.{Status, Valid, TransInvalid, Invalid, IllFormed, Kept, Book, isTwice, Opened}
 use Rattle.books.specs.Lists.{dagPoint}
 use Rattle.books.specs.Offer.{used, isStateOk}
-use Rattle.books.specs.Layout.{flagByte, idBytes, throughBytes, statusBytes, keptBytes, entriesBytes, bookBytes, isZeros, throughAt, rootAt, isRootOk, readStatus, isKeepable, keptWith, readKept, KeptFront, sized, frontWith, frontTo, keptFront, bookThen, entriesWith, entriesFrom, Opened, openedWith, readBook}
+use Rattle.books.specs.Layout.{flagByte, idBytes, throughBytes, statusBytes, keptBytes, entriesBytes, bookBytes, isZeros, throughAt, rootAt, isRootOk, readStatus, isKeepable, readKept, KeptFront, keptFront, entriesFrom, readBook}
 use Rattle.books.proofs.Shape.{RootFits, StatusShape, KeptShape, Shape}
 use Rattle.books.proofs.RoundTrip.{settings-length}
 
@@ -70,8 +70,8 @@ module _ (t : List ℕ) (at : ℕ) (b : Bytes t) where
   through-fits : at + 33 ≤ length t → throughPeer (throughAt t at) < 256 ^ 32
   through-fits h = rw (either-peer (eqb (getD t at 0) 0) (idAt t (at + 1))) (big-fits 32 t (at + 1) b (omega arith))
 
-zeros-behind : (t : List ℕ) (n k : ℕ) → length t ≡ n + k → isZeros (drop n t) ≡ true → replicate k 0 ≡ drop n t
-zeros-behind t n k l z =
+zeros-after : (t : List ℕ) (n k : ℕ) → length t ≡ n + k → isZeros (drop n t) ≡ true → replicate k 0 ≡ drop n t
+zeros-after t n k l z =
     let e : length (drop n t) ≡ k = omega (arith, length-drop n t) in
     ap (λ (j : ℕ). replicate j 0) (sym e) ∙ sym (zeros-again (drop n t) z)
 
@@ -111,7 +111,7 @@ module _ (t : List ℕ) (b : Bytes t) (l : length t ≡ 105) (m : getD t 1 0 ≤
   unfolding statusBytes
   valid-again e z =
       record {
-        bytes = head-again 0 (replicate 103 0) e (zeros-behind t 2 103 l z);
+        bytes = head-again 0 (replicate 103 0) e (zeros-after t 2 103 l z);
         shape = λ q h. record { keepable = h; state = h; fits = tt };
       }
 
@@ -119,7 +119,7 @@ module _ (t : List ℕ) (b : Bytes t) (l : length t ≡ 105) (m : getD t 1 0 ≤
   unfolding statusBytes
   invalid-again e r z =
       record {
-        bytes = head-again 2 _ e (third (getD t 2 0) (replicate 102 0) refl (zeros-behind t 3 102 l z));
+        bytes = head-again 2 _ e (third (getD t 2 0) (replicate 102 0) refl (zeros-after t 3 102 l z));
         shape = λ q h. record { keepable = h; state = simp (h, r); fits = b 2 };
       }
 
@@ -127,7 +127,7 @@ module _ (t : List ℕ) (b : Bytes t) (l : length t ≡ 105) (m : getD t 1 0 ≤
   unfolding statusBytes
   ill-formed-again e r z =
       record {
-        bytes = head-again 3 _ e (third (getD t 2 0) (replicate 102 0) refl (zeros-behind t 3 102 l z));
+        bytes = head-again 3 _ e (third (getD t 2 0) (replicate 102 0) refl (zeros-after t 3 102 l z));
         shape = λ q h. record { keepable = h; state = r; fits = b 2 };
       }
 
@@ -199,15 +199,13 @@ record KeptOf (bytes : List ℕ) (q : PointInfo) (t : List ℕ) (k : Kept) : Typ
   status : StatusShape (k .point) (k .status)
 
 module _ (bytes : List ℕ) (q : PointInfo) (t : List ℕ) (b : Bytes t) (l : length t ≡ 105) where
-  with-of : (o : Option Status) → readStatus t ≡ o → getD t 1 0 ≤ 1 → IfSome (KeptOf bytes q t) (keptWith bytes q (eqb (getD t 1 0) 1) o)
-  with-of none e m = tt
-  with-of (some s) e m =
-      let a = status-again t b l m s e in
-      pick-has (KeptOf bytes q t) (isKeepable q s) _ none (λ h. record { whose = refl; point = refl; written = a .bytes; domain = keepable-domain q s h; status = a .shape q h }) tt
-
   kept-of : IfSome (KeptOf bytes q t) (readKept bytes q t)
   unfolding readKept
-  kept-of = pick-has (KeptOf bytes q t) (leb (getD t 1 0) 1) _ none (λ m. with-of (readStatus t) refl (leb-true (getD t 1 0) 1 m)) tt
+  kept-of =
+      let P = KeptOf bytes q t in
+      pick-has P (leb (getD t 1 0) 1) _ none (λ m. then-has P (readStatus t) _ (λ s e.
+      let a = status-again t b l (leb-true (getD t 1 0) 1 m) s e in
+      pick-has P (isKeepable q s) _ none (λ h. record { whose = refl; point = refl; written = a .bytes; domain = keepable-domain q s h; status = a .shape q h }) tt)) tt
 
 -- what stands at the front of a slice that is read as an entry
 pub record FrontOf (s : List ℕ) (x : KeptFront) : Type 0 where
@@ -244,27 +242,23 @@ module _ (s : List ℕ) (b : Bytes s) (n : ℕ) (e : recordEnd s ≡ some n) whe
         within = omega (arith, f .end, f .least);
       }
 
-  front-with : (q : PointInfo) → readPoint (take n s) ≡ some q → (o : Option Kept) → readKept (take n s) q (take 105 (drop (n + 3) s)) ≡ o →
-      Fitting (fieldRow 33 105 105) s n → IfSome (FrontOf s) (sized (n + 108) o)
-  front-with q p none r f = tt
-  front-with q p (some k) r f =
+  front-with : (q : PointInfo) (k : Kept) → readPoint (take n s) ≡ some q → Fitting (fieldRow 33 105 105) s n →
+      readKept (take n s) q (take 105 (drop (n + 3) s)) ≡ some k → FrontOf s (record { kept = k; size = n + 108 })
+  front-with q k p f r =
       let t = take 105 (drop (n + 3) s) in
       let l : length t ≡ 105 = length-take-le 105 (drop (n + 3) s) (omega (arith, length-drop (n + 3) s, f .end, f .least)) in
       front-kept q k p f (has (KeptOf (take n s) q t) (readKept (take n s) q t) k (kept-of (take n s) q t (at-bytes 105 s (n + 3) b) l) r)
 
-  front-point : (o : Option PointInfo) → readPoint (take n s) ≡ o → IfSome (FrontOf s) (frontWith s n o)
-  front-point none p = tt
-  front-point (some q) p =
-      pick-has (FrontOf s) (fieldOk (fieldRow 33 105 105) s n) _ none (λ w. front-with q p _ refl (fitting (fieldRow 33 105 105) s n w)) tt
-
-front-end : (s : List ℕ) → Bytes s → (o : Option ℕ) → recordEnd s ≡ o → IfSome (FrontOf s) (frontTo s o)
-front-end s b none e = tt
-front-end s b (some n) e = front-point s b n e (readPoint (take n s)) refl
-
 -- bytes that are read as an entry are that entry's
 pub front-again : (s : List ℕ) (x : KeptFront) → Bytes s → keptFront s ≡ some x → FrontOf s x
 unfolding keptFront
-front-again s x b h = has (FrontOf s) (keptFront s) x (front-end s b (recordEnd s) refl) h
+front-again s x b h =
+    let P = FrontOf s in
+    has P (keptFront s) x
+    (then-has P (recordEnd s) _ (λ n e. then-has P (readPoint (take n s)) _ (λ q p.
+    pick-has P (fieldOk (fieldRow 33 105 105) s n) _ none
+    (λ w. map-has P _ (readKept (take n s) q (take 105 (drop (n + 3) s))) (λ k r. front-with s b n e q k p (fitting (fieldRow 33 105 105) s n w) r)) tt)))
+    h
 
 -- ---- entries
 
@@ -300,22 +294,15 @@ module _ (n : ℕ) (s : List ℕ) (x : KeptFront) (f : FrontOf s x) where
       first k (inl e) = subst KeptShape (sym e) (f .shape)
       first k (inr i) = h .shape k i
 
-  then-again : (o : Option Book) → IfSome (EntriesOf n (drop (x .size) s)) o → IfSome (EntriesOf (suc n) s) (bookThen (x .kept) o)
-  then-again none h = tt
-  then-again (some b) h = more-again b h
-
-module _ (n : ℕ) (next : (t : List ℕ) → Bytes t → IfSome (EntriesOf n t) (entriesFrom n t)) (s : List ℕ) (b : Bytes s) where
-  step-again : (o : Option KeptFront) → keptFront s ≡ o → IfSome (EntriesOf (suc n) s) (entriesWith (λ t. entriesFrom n t) s o)
-  step-again none e = tt
-  step-again (some x) e = then-again n s x (front-again s x b e) (entriesFrom n (drop (x .size) s)) (next (drop (x .size) s) (rest-bytes (x .size) s b))
-
 all-again : (n : ℕ) (s : List ℕ) → Bytes s → IfSome (EntriesOf n s) (entriesFrom n s)
 unfolding entriesFrom
 all-again zero s b = pick-has (EntriesOf zero s) (isZeros s) _ none (λ z. none-again zero s z) tt
 all-again (suc n) s b =
-    pick-has (EntriesOf (suc n) s) (eqb (getD s 0 0) 0) _ _
-    (λ e. pick-has (EntriesOf (suc n) s) (isZeros s) _ none (λ z. none-again (suc n) s z) tt)
-    (step-again n (all-again n) s b (keptFront s) refl)
+    let P = EntriesOf (suc n) s in
+    pick-has P (eqb (getD s 0 0) 0) _ _
+    (λ e. pick-has P (isZeros s) _ none (λ z. none-again (suc n) s z) tt)
+    (then-has P (keptFront s) _ (λ x e. map-has P _ (entriesFrom n (drop (x .size) s)) (λ c r.
+    more-again n s x (front-again s x b e) c (has (EntriesOf n (drop (x .size) s)) _ c (all-again n (drop (x .size) s) (rest-bytes (x .size) s b)) r))))
 
 -- bytes that are read as entries are those entries' and zeros
 pub entries-again : (n : ℕ) (s : List ℕ) (b : Book) → Bytes s → entriesFrom n s ≡ some b → EntriesOf n s b
@@ -327,6 +314,7 @@ entries-again n s b w h = has (EntriesOf n s) (entriesFrom n s) b (all-again n s
 pub record BookOf (s : List ℕ) (z : Opened) : Type 0 where
   pub bytes : s ≡ bookBytes (z .bytes) (length s) (z .book)
   pub front : z .bytes ≡ take 47 s
+  pub whole : z .length ≡ length s
   pub reads : readSettings (z .bytes) ≡ some (z .settings)
   pub short : length s ≤ 16777216
   pub shape : Shape (z .book)
@@ -334,7 +322,7 @@ pub record BookOf (s : List ℕ) (z : Opened) : Type 0 where
 
 module _ (s : List ℕ) (w : Bytes s) (h : length s ≤ 16777216) where
   opened-again : (c : Settings) (b : Book) → readSettings (take 47 s) ≡ some c → EntriesOf 4096 (drop 47 s) b → isTwice b ≡ false →
-      BookOf s (record { bytes = take 47 s; settings = c; book = b })
+      BookOf s (record { bytes = take 47 s; settings = c; length = length s; book = b })
   unfolding bookBytes
   opened-again c b r e o =
       let l : 47 ≤ length s = omega (arith, settings-length (take 47 s) c r, length-take 47 s) in
@@ -342,6 +330,7 @@ module _ (s : List ℕ) (w : Bytes s) (h : length s ≤ 16777216) where
       record {
         bytes = sym (take-append-drop 47 s) ∙ (ap (_++_ (take 47 s)) (e .bytes) ∙ rw d);
         front = refl;
+        whole = refl;
         reads = r;
         short = h;
         shape = record { entries = e .shape; once = o; few = e .few };
@@ -349,15 +338,9 @@ module _ (s : List ℕ) (w : Bytes s) (h : length s ≤ 16777216) where
       }
 
   once-again : (c : Settings) (b : Book) → readSettings (take 47 s) ≡ some c → EntriesOf 4096 (drop 47 s) b → (t : Bool) → isTwice b ≡ t →
-      IfSome (BookOf s) (pick t none (some (record { bytes = take 47 s; settings = c; book = b })))
+      IfSome (BookOf s) (pick t none (some (record { bytes = take 47 s; settings = c; length = length s; book = b })))
   once-again c b r e true o = tt
   once-again c b r e false o = opened-again c b r e o
-
-  with-again : (c : Option Settings) (b : Option Book) → readSettings (take 47 s) ≡ c → entriesFrom 4096 (drop 47 s) ≡ b →
-      IfSome (BookOf s) (openedWith (take 47 s) c b)
-  with-again none b r e = tt
-  with-again (some c) none r e = tt
-  with-again (some c) (some b) r e = once-again c b r (entries-again 4096 (drop 47 s) b (rest-bytes 47 s w) e) (isTwice b) refl
 
 -- bytes that are read as a book are that book's
 pub book-again : (s : List ℕ) (z : Opened) → Bytes s → readBook s ≡ some z → BookOf s z
@@ -365,4 +348,8 @@ unfolding readBook
 book-again s z w h =
     let p = picked (leb (length s) 16777216) _ z h in
     let l = leb-true (length s) 16777216 (p .0) in
-    has (BookOf s) _ z (with-again s w l (readSettings (take 47 s)) (entriesFrom 4096 (drop 47 s)) refl refl) (p .1)
+    let P = BookOf s in
+    has P _ z
+    (then-has P (readSettings (take 47 s)) _ (λ c r. then-has P (entriesFrom 4096 (drop 47 s)) _ (λ b e.
+    once-again s w l c b r (entries-again 4096 (drop 47 s) b (rest-bytes 47 s w) e) (isTwice b) refl)))
+    (p .1)

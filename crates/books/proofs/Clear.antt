@@ -4,7 +4,7 @@ use Prim.Native.Nat.{ℕ, zero, _-_, _≤_, _<_}
 use native.Mathlib.Omega.{arith}
 use mathlib.Core.Path.{_≡_, refl, ap, sym, _∙_, subst}
 use mathlib.Core.Logic.{_⊎_, inl, inr}
-use mathlib.Core.Bool.{Bool, true, false, not, _&&_, _||_, not-and-self, and-false}
+use mathlib.Core.Bool.{Bool, true, false, not, _&&_, _||_, not-and-self}
 use mathlib.Core.Option.{Option, none, some}
 use mathlib.Core.List.{List, [], _∷_, _++_, List·Memᴰ, List·Memᴰ·head, List·Memᴰ·tail, List·Memᴰ·not-nil, List·Memᴰ·cases-cons, List·Memᴰ·append-cases, Memᴰ·append-left, Memᴰ·append-right}
 use lib.Dec.{eqb}
@@ -16,14 +16,14 @@ use Rattle.map.proofs.Pairs.{rising-tail, rising-below, get-there}
 use Rattle.point.specs.Point.{PointId, Through, AnchorLink, Direct, Indirect, PointInfo, prevDigest, prevId, anchorLink, sameId}
 use Rattle.point.specs.declared.data.AnchorStageRole.{AnchorStageRole}
 use Rattle.point.specs.declared.data.AnchorStageRole.the-variants.{Proof, Trigger}
-use Rattle.point.proofs.Ids.{same-sym, same-refl, eq-same, differ}
+use Rattle.point.proofs.Ids.{same-refl, eq-same, differ}
 use Rattle.rules.specs.DagPoint.{Entry, IndirectEntry, entryId, isDropped}
-use Rattle.rules.specs.Validate.{validate, ofResult}
+use Rattle.rules.specs.Validate.{validate}
 use Rattle.schedule.specs.Settings.{Settings}
-use Rattle.rules.specs.Judge.{Given}
+use Rattle.rules.specs.Judge.{JudgeAnswer, Number, Given}
 use Rattle.rules.specs.Mismatch.{hasId, pairId, isAmong, isVersion, hasPlace, allPlaced, idThen, idsOf, droppedIn, lackingIn, lacking, isTargetOf, sameRole, stoodBefore, allTargets, mismatch, isId, uncovers, anyUncovers, entriesIn, uncovered}
 use Rattle.rules.proofs.Mismatch.{has-next, has-none}
-use Rattle.books.specs.Kept.{Status, Valid, TransInvalid, Invalid, IllFormed, Kept, Book, findKept, isTwice, markOne, mark, markPrev}
+use Rattle.books.specs.Kept.{Status, Valid, TransInvalid, Invalid, IllFormed, Kept, Book, findKept, isTwice, markOne, mark}
 use Rattle.books.specs.Lists.{dagPoint, isOf, keptEntry, entryWith, lookup, lookups, versions, directList, targetEntry, isTriggerFirst, indirectList}
 use Rattle.books.specs.Offer.{isStateOk, areStatesOk, answerOver}
 use Rattle.books.proofs.Find.{find-id, find-member, absent-first, once-first, once-rest}
@@ -191,9 +191,9 @@ own-member b p j m = go (isSome (prevDigest p)) refl m
 module _ {X : Type 0} (b : Book) (p : PointInfo) (j : PointId)
     (g : (q : Pair) → List·Memᴰ q (p .includes) → j ≡ pairId (p .id .round - 1) q → X)
     (h : Own b p j → X) where
-  behind-witness : List·Memᴰ j (includesIds p ++ ownIds b p) → X
+  after-witness : List·Memᴰ j (includesIds p ++ ownIds b p) → X
   unfolding includesIds
-  behind-witness m = second (List·Memᴰ·append-cases (includesIds p) m)
+  after-witness m = second (List·Memᴰ·append-cases (includesIds p) m)
     where
       second : List·Memᴰ j (includesIds p) ⊎ List·Memᴰ j (ownIds b p) → X
       second (inl x) = let w = pair-member (p .id .round - 1) (p .includes) j x in g (w .0) (w .1) (w .2)
@@ -205,7 +205,7 @@ module _ {X : Type 0} (b : Book) (p : PointInfo) (j : PointId)
     where
       first : List·Memᴰ j (witnessIds p) ⊎ List·Memᴰ j (includesIds p ++ ownIds b p) → X
       first (inl x) = let w = pair-member (p .id .round - 2) (p .witness) j x in f (w .0) (w .1) (w .2)
-      first (inr x) = behind-witness x
+      first (inr x) = after-witness x
 
 -- ---- 8: each entry has its place
 
@@ -311,7 +311,7 @@ module _ (b : Book) (p : PointInfo) (d : Distinct (bookIds b)) (ri : rising (pee
   below i m j mj e =
       let w = pair-member (p .id .round - 2) (p .witness) i m in
       let ri2 : i .round ≡ p .id .round - 2 = ap (λ (z : PointId). z .round) (w .2) in
-      let rj : j .round ≡ p .id .round - 1 = behind-witness b p j (λ q n f. ap (λ (z : PointId). z .round) f) (λ o. o .round) mj in
+      let rj : j .round ≡ p .id .round - 1 = after-witness b p j (λ q n f. ap (λ (z : PointId). z .round) f) (λ o. o .round) mj in
       let eq : i .round ≡ j .round = ap (λ (z : PointId). z .round) e in
       omega arith
 
@@ -433,6 +433,14 @@ all-append : (P : Entry → Type 0) (a b : List Entry) → All P a → All P b �
 all-append P [] b f g = g
 all-append P (e ∷ a) b f g = (f .0, all-append P a b (f .1) g)
 
+pub all-member : (P : Entry → Type 0) (l : List Entry) → All P l → (e : Entry) → List·Memᴰ e l → P e
+all-member P [] h e m = absurd (List·Memᴰ·not-nil m)
+all-member P (x ∷ l) h e m = go (all-member P l (h .1) e) (List·Memᴰ·cases-cons m)
+  where
+    go : (List·Memᴰ e l → P e) → (e ≡ x) ⊎ List·Memᴰ e l → P e
+    go rec (inl q) = subst P (sym q) (h .0)
+    go rec (inr n) = rec n
+
 entries-append : (a b : List IndirectEntry) → entriesIn (a ++ b) ≡ entriesIn a ++ entriesIn b
 unfolding entriesIn
 entries-append [] b = refl
@@ -512,7 +520,7 @@ abbrev Covered : Option PointId → Book → Type 0
 Covered prev b = (k : Kept) → List·Memᴰ k b → (not (k .certified) && isId prev (k .point .id)) ≡ false
 
 module _ (b : Book) (p : PointInfo) where
-  no-state-out : InDomain b → (areStatesOk (directList b p) && areStatesOk (entriesIn (indirectList b p))) ≡ true
+  pub no-state-out : InDomain b → (areStatesOk (directList b p) && areStatesOk (entriesIn (indirectList b p))) ≡ true
   no-state-out h =
       let kept : (k : Kept) → List·Memᴰ k b → StateOk (keptEntry b k) = λ k m. unfold keptEntry in h k m in
       and-both (areStatesOk (directList b p)) _ (all-states (directList b p) (each-direct StateOk b p (λ i. refl) kept))
@@ -532,30 +540,38 @@ module _ (b : Book) (p : PointInfo) where
       kept k m = unfold uncovers keptEntry in rw (dag-there (k .point) (k .status), dag-id (k .point) (k .status)) (h k m)
 
 -- the mark covers the previous point
-mark-covers : (j : PointId) (b : Book) → Covered (some j) (mark j b)
+pub prev-covers : (prev : Option PointId) (b : Book) → Covered prev (mark (isId prev) b)
 unfolding mark markOne
-mark-covers j [] k m = absurd (List·Memᴰ·not-nil m)
-mark-covers j (x ∷ b) k m = go (mark-covers j b k) (List·Memᴰ·cases-cons m)
+prev-covers prev [] k m = absurd (List·Memᴰ·not-nil m)
+prev-covers prev (x ∷ b) k m = go (prev-covers prev b k) (List·Memᴰ·cases-cons m)
   where
     either : (a t : Bool) → (not (a || t) && t) ≡ false
     either true t = refl
     either false t = not-and-self t
 
-    go : (List·Memᴰ k (mark j b) → (not (k .certified) && sameId j (k .point .id)) ≡ false) → (k ≡ markOne j x) ⊎ List·Memᴰ k (mark j b) →
-        (not (k .certified) && sameId j (k .point .id)) ≡ false
+    go : (List·Memᴰ k (mark (isId prev) b) → (not (k .certified) && isId prev (k .point .id)) ≡ false) →
+        (k ≡ markOne (isId prev) x) ⊎ List·Memᴰ k (mark (isId prev) b) → (not (k .certified) && isId prev (k .point .id)) ≡ false
     go rec (inl e) =
-        subst (λ (z : Kept). (not (z .certified) && sameId j (z .point .id)) ≡ false) (sym e)
-        (rw (same-sym j (x .point .id)) (either (x .certified) (sameId (x .point .id) j)))
+        subst (λ (z : Kept). (not (z .certified) && isId prev (z .point .id)) ≡ false) (sym e) (either (x .certified) (isId prev (x .point .id)))
     go rec (inr n) = rec n
-
-pub prev-covers : (prev : Option PointId) (b : Book) → Covered prev (markPrev prev b)
-prev-covers none b k m = and-false (not (k .certified))
-prev-covers (some j) b k m = mark-covers j b k m
 
 -- ---- so demand 2 over the lists is the verdict
 
 module _ (c : Settings) (required : Bool) (p : PointInfo) (b : Book) (d : InDomain b) (o : Distinct (bookIds b)) (v : Covered (prevId p) b)
     (ri : rising (peers (p .includes)) ≡ true) (rwi : rising (peers (p .witness)) ≡ true) (two : 2 ≤ p .id .round) where
-  pub clear : answerOver c required p (directList b p) (indirectList b p) ≡ Given (ofResult (validate c required 3 p (directList b p) (indirectList b p)))
+  pub clear : answerOver c required 3 p (directList b p) (indirectList b p) ≡ Given (validate c required 3 p (directList b p) (indirectList b p))
   unfolding answerOver
   clear = rw (no-state-out b p d, no-mismatch b p o ri rwi two, none-uncovered b p v)
+
+-- of any two lists: a number, or the verdict
+pub over-cases : (c : Settings) (required : Bool) (presence : ℕ) (p : PointInfo) (es : List Entry) (ts : List IndirectEntry) (P : JudgeAnswer → Type 0) →
+    ((n : ℕ) → P (Number n)) → P (Given (validate c required presence p es ts)) → P (answerOver c required presence p es ts)
+unfolding answerOver
+over-cases c required presence p es ts P number given =
+    go (areStatesOk es && areStatesOk (entriesIn ts)) (mismatch presence p es ts) (uncovered (prevId p) es ts)
+  where
+    go : (x y z : Bool) → P (pick x (pick y (Number 8) (pick z (Number 9) (Given (validate c required presence p es ts)))) (Number 7))
+    go true true z = number 8
+    go true false true = number 9
+    go true false false = given
+    go false y z = number 7

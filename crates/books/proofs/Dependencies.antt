@@ -19,17 +19,17 @@ use Rattle.point.specs.declared.data.AnchorStageRole.the-variants.{Proof, Trigg
 use Rattle.point.proofs.Ids.{same-eq, eq-same}
 use Rattle.schedule.specs.Settings.{Settings}
 use Rattle.rules.specs.DagPoint.{Entry, entryId, isDropped, linkIds, pointView, linksIn, depView, topIn}
-use Rattle.rules.specs.Validate.{newerRow, anchorTimeRow, carriedRow, sourceRow, anchorRows, pointRows, Taken, asDependency, asPrevPoint, taken}
+use Rattle.rules.specs.Validate.{newerRow, anchorTimeRow, carriedRow, sourceRow, anchorRows, pointRows, Taken, taken}
+use Rattle.rules.proofs.Records.{takenAs, IsTaken}
 use Rattle.rules.specs.Passed.{RowsNone, EntryRowsNone}
 use Rattle.rules.proofs.Passed.{by-position}
 use Rattle.rules.specs.Mismatch.{pairId}
 use Rattle.books.specs.Kept.{Status, Valid, TransInvalid, Invalid, IllFormed, Kept, Book, findKept}
 use Rattle.books.specs.Lists.{dagPoint, keptEntry, entryWith, lookup, lookups, directList}
 use Rattle.books.specs.Following.{isIllFormed}
-use Rattle.books.specs.FoundBook.{Held}
 use Rattle.books.proofs.Clear.{lookup-id}
 use Rattle.books.proofs.Find.{find-id}
-use Rattle.books.proofs.Following.{Inherited, Linked}
+use Rattle.books.proofs.Following.{Inherited, HeldById, Linked}
 
 -- ---- the direct list holds each dependency
 
@@ -45,11 +45,11 @@ lookups-member b p round (x ∷ l) q m = go (lookups-member b p round l q) (List
     go f (inr n) = List·Memᴰ·tail (f n)
 
 module _ (b : Book) (p : PointInfo) (q : Pair) where
-  witness-listed : List·Memᴰ q (p .witness) → List·Memᴰ (lookup b p (pairId (p .id .round - 2) q)) (directList b p)
+  pub witness-listed : List·Memᴰ q (p .witness) → List·Memᴰ (lookup b p (pairId (p .id .round - 2) q)) (directList b p)
   unfolding directList
   witness-listed m = Memᴰ·append-left _ (lookups-member b p (p .id .round - 2) (p .witness) q m)
 
-  includes-listed : List·Memᴰ q (p .includes) → List·Memᴰ (lookup b p (pairId (p .id .round - 1) q)) (directList b p)
+  pub includes-listed : List·Memᴰ q (p .includes) → List·Memᴰ (lookup b p (pairId (p .id .round - 1) q)) (directList b p)
   unfolding directList
   includes-listed m =
       Memᴰ·append-right (lookups b p (p .id .round - 2) (p .witness))
@@ -57,26 +57,19 @@ module _ (b : Book) (p : PointInfo) (q : Pair) where
 
 -- ---- how a dependency is taken: as the previous point or not
 
-abbrev takenAs : Bool → Taken
-takenAs true = asPrevPoint
-takenAs false = asDependency
-
-abbrev IsTaken : PointInfo → PointId → Type 0
-IsTaken p i = (isPrevPoint : Bool) × (taken (pointView p) i ≡ takenAs isPrevPoint)
-
 module _ (p : PointInfo) (q : Pair) where
-  includes-taken : rising (peers (p .includes)) ≡ true → List·Memᴰ q (p .includes) → IsTaken p (pairId (p .id .round - 1) q)
+  pub includes-taken : rising (peers (p .includes)) ≡ true → List·Memᴰ q (p .includes) → IsTaken (pointView p) (pairId (p .id .round - 1) q)
   unfolding taken pointView
   includes-taken r m = go (eqb (q .peer) (p .id .author)) refl
     where
       own : p .id .author ≡ q .peer → prevDigest p ≡ some (q .digest)
       own e = unfold prevDigest in (ap (get (p .includes)) e ∙ member-get (p .includes) q r m)
 
-      go : (t : Bool) → eqb (q .peer) (p .id .author) ≡ t → IsTaken p (pairId (p .id .round - 1) q)
+      go : (t : Bool) → eqb (q .peer) (p .id .author) ≡ t → IsTaken (pointView p) (pairId (p .id .round - 1) q)
       go true h = (true, rw (eq-eqb (p .id .round - 1) (p .id .round - 1) refl, h, own (sym (eqb-true _ _ h)), eq-eqb (q .digest) (q .digest) refl))
       go false h = (false, rw (eq-eqb (p .id .round - 1) (p .id .round - 1) refl, h))
 
-  witness-taken : 2 ≤ p .id .round → IsTaken p (pairId (p .id .round - 2) q)
+  pub witness-taken : 2 ≤ p .id .round → IsTaken (pointView p) (pairId (p .id .round - 2) q)
   unfolding taken pointView
   witness-taken h = (false, rw (ne-eqb (p .id .round - 2) (p .id .round - 1) (λ e. omega arith)))
 
@@ -108,7 +101,7 @@ module _ (c : Settings) (b : Book) (p : PointInfo) (required : Bool) where
   taken-rows true e h = h
   taken-rows false e h = h
 
-  clean : (i : PointId) → IsTaken p i → EntryRowsNone c required (pointView p) (taken (pointView p) (entryId (lookup b p i .state))) (lookup b p i) → Clean c b p required i
+  clean : (i : PointId) → IsTaken (pointView p) i → EntryRowsNone c required (pointView p) (taken (pointView p) (entryId (lookup b p i .state))) (lookup b p i) → Clean c b p required i
   clean i w h =
       let e : taken (pointView p) (entryId (lookup b p i .state)) ≡ takenAs (w .0) = ap (taken (pointView p)) (lookup-id b p i) ∙ w .1 in
       clean-state (w .0) i (taken-rows (w .0) (lookup b p i) (subst (λ (t : Taken). EntryRowsNone c required (pointView p) t (lookup b p i)) e h))
@@ -168,7 +161,7 @@ module _ (c : Settings) (b : Book) (p : PointInfo) (required : Bool) (i : PointI
   source-none Proof = anchors-none .1 .1 .0
   source-none Trigger = anchors-none .1 .1 .1 .0
 
-  held : Held b p i
+  held : HeldById b p i
   unfolding newerRow
   held =
       record {
@@ -208,10 +201,10 @@ module _ (c : Settings) (b : Book) (p : PointInfo) (required : Bool) (rise : ris
   through-clean (Includes x) d h = includes-clean (record { peer = x; digest = d }) (get-member (p .includes) x d h)
   through-clean (Witness x) d h = witness-clean (record { peer = x; digest = d }) (get-member (p .witness) x d h)
 
-  pub includes-held : (q : Pair) → List·Memᴰ q (p .includes) → Held b p (pairId (p .id .round - 1) q)
+  pub includes-held : (q : Pair) → List·Memᴰ q (p .includes) → HeldById b p (pairId (p .id .round - 1) q)
   includes-held q m = held c b p required (pairId (p .id .round - 1) q) (includes-clean q m)
 
-  pub witness-held : (q : Pair) → List·Memᴰ q (p .witness) → Held b p (pairId (p .id .round - 2) q)
+  pub witness-held : (q : Pair) → List·Memᴰ q (p .witness) → HeldById b p (pairId (p .id .round - 2) q)
   witness-held q m = held c b p required (pairId (p .id .round - 2) q) (witness-clean q m)
 
   pub source-linked : (g : AnchorStageRole) (d : ℕ) → digestSafe p (through (anchorLink g p)) ≡ some d → Linked b p g

@@ -1,14 +1,16 @@
--- Laws of the entry of an id: where it is found, and that no id stands twice.
+-- Laws of the entry of an id: where it is found, that no id stands twice, and what a mark changes.
 use mathlib.Core.Path.{_≡_, refl, ap, sym, _∙_}
+use mathlib.Core.Logic.{_⊎_, inl, inr}
 use mathlib.Core.Bool.{Bool, true, false}
 use mathlib.Core.Option.{none, some, Option·map}
-use mathlib.Core.List.{[], _∷_, _++_, List·Memᴰ, List·Memᴰ·head, List·Memᴰ·tail}
+use mathlib.Core.List.{[], _∷_, _++_, List·Memᴰ, List·Memᴰ·head, List·Memᴰ·tail, List·Memᴰ·not-nil, List·Memᴰ·cases-cons}
 use Rattle.base.specs.Base.{pick, isSome}
 use Rattle.base.proofs.Bool.{or-left, or-right}
 use Rattle.base.proofs.Option.{none-some, unfound, unpicked, map-some}
 use Rattle.point.specs.Point.{PointId, sameId}
-use Rattle.point.proofs.Ids.{same-eq, same-sym}
+use Rattle.point.proofs.Ids.{same-refl, same-eq, same-sym}
 use Rattle.books.specs.Kept.{Kept, Book, findKept, isTwice, markOne, mark}
+use Rattle.books.specs.FoundBook.{NoIdTwice}
 
 pub find-id : (b : Book) (i : PointId) (k : Kept) → findKept b i ≡ some k → k .point .id ≡ i
 unfolding findKept
@@ -34,10 +36,10 @@ unfolding findKept
 absent-first k b i h = unpicked (sameId (k .point .id) i) k (findKept b i) h
 
 -- an id that the first entries don't have is looked for after them
-pub find-behind : (front back : Book) (i : PointId) → findKept front i ≡ none → findKept (front ++ back) i ≡ findKept back i
+pub find-after : (front back : Book) (i : PointId) → findKept front i ≡ none → findKept (front ++ back) i ≡ findKept back i
 unfolding findKept
-find-behind [] back i h = refl
-find-behind (x ∷ front) back i h = let p = absent-first x front i h in rw (p .0) (find-behind front back i (p .1))
+find-after [] back i h = refl
+find-after (x ∷ front) back i h = let p = absent-first x front i h in rw (p .0) (find-after front back i (p .1))
 
 -- one that they have is found among them
 pub find-front : (b l : Book) (i : PointId) (k : Kept) → findKept b i ≡ some k → findKept (b ++ l) i ≡ some k
@@ -59,6 +61,26 @@ pub once-rest : (k : Kept) (b : Book) → isTwice (k ∷ b) ≡ false → isTwic
 unfolding isTwice
 once-rest k b h = or-right (isSome (findKept b (k .point .id))) (isTwice b) h
 
+-- an entry is found by its id
+pub once-found : (b : Book) → isTwice b ≡ false → (k : Kept) → List·Memᴰ k b → findKept b (k .point .id) ≡ some k
+unfolding findKept
+once-found [] h k m = absurd (List·Memᴰ·not-nil m)
+once-found (x ∷ b) h k m = go (once-found b (once-rest x b h) k) (List·Memᴰ·cases-cons m)
+  where
+    later : (t : Bool) → sameId (x .point .id) (k .point .id) ≡ t → findKept b (k .point .id) ≡ some k → pick t (some x) (findKept b (k .point .id)) ≡ some k
+    later true e f =
+        none-some (sym (once-first x b h) ∙ (ap (findKept b) (same-eq (x .point .id) (k .point .id) e) ∙ f))
+    later false e f = f
+
+    go : (List·Memᴰ k b → findKept b (k .point .id) ≡ some k) → (k ≡ x) ⊎ List·Memᴰ k b → pick (sameId (x .point .id) (k .point .id)) (some x) (findKept b (k .point .id)) ≡ some k
+    go next (inl e) = rw e (rw (same-refl (x .point .id)) refl)
+    go next (inr n) = later (sameId (x .point .id) (k .point .id)) refl (next n)
+
+pub no-id-twice : (b : Book) → isTwice b ≡ false → NoIdTwice b
+no-id-twice [] h = tt
+no-id-twice (k ∷ b) h =
+    (λ x m e. none-some (sym (once-first k b h) ∙ (ap (findKept b) (sym e) ∙ once-found b (once-rest k b h) x m)), no-id-twice b (once-rest k b h))
+
 -- a new id after the others
 pub once-more : (b : Book) (k : Kept) → isTwice b ≡ false → findKept b (k .point .id) ≡ none → isTwice (b ++ (k ∷ [])) ≡ false
 unfolding isTwice findKept
@@ -66,7 +88,7 @@ once-more [] k h g = refl
 once-more (x ∷ b) k h g =
     let p = absent-first x b (k .point .id) g in
     let other : sameId (k .point .id) (x .point .id) ≡ false = same-sym (k .point .id) (x .point .id) ∙ p .0 in
-    rw (find-behind b (k ∷ []) (x .point .id) (once-first x b h), other) (once-more b k (once-rest x b h) (p .1))
+    rw (find-after b (k ∷ []) (x .point .id) (once-first x b h), other) (once-more b k (once-rest x b h) (p .1))
 
 -- an id that a list does not have, none of its entries has
 absent-other : (front : Book) (k : Kept) (back : Book) (i : PointId) → findKept (front ++ k ∷ back) i ≡ none → sameId (k .point .id) i ≡ false
@@ -86,14 +108,29 @@ module _ (i : PointId) (k : Kept) (back : Book) (t : sameId (k .point .id) i ≡
 
 -- ---- marks: an entry that is marked differs in its mark alone
 
-pub find-marked : (i : PointId) (b : Book) (j : PointId) → findKept (mark i b) j ≡ Option·map (markOne i) (findKept b j)
+pub find-marked : (covers : PointId → Bool) (b : Book) (j : PointId) → findKept (mark covers b) j ≡ Option·map (markOne covers) (findKept b j)
 unfolding findKept mark markOne
-find-marked i [] j = refl
-find-marked i (k ∷ b) j = go (sameId (k .point .id) j) (find-marked i b j)
+find-marked covers [] j = refl
+find-marked covers (k ∷ b) j = go (sameId (k .point .id) j) (find-marked covers b j)
   where
-    go : (t : Bool) → findKept (mark i b) j ≡ Option·map (markOne i) (findKept b j) → pick t (some (markOne i k)) (findKept (mark i b) j) ≡ Option·map (markOne i) (pick t (some k) (findKept b j))
+    go : (t : Bool) → findKept (mark covers b) j ≡ Option·map (markOne covers) (findKept b j) →
+        pick t (some (markOne covers k)) (findKept (mark covers b) j) ≡ Option·map (markOne covers) (pick t (some k) (findKept b j))
     go true h = refl
     go false h = h
 
-pub marked-found : (i : PointId) (b : Book) (j : PointId) → isSome (findKept (mark i b) j) ≡ isSome (findKept b j)
-marked-found i b j = ap isSome (find-marked i b j) ∙ map-some (markOne i) (findKept b j)
+pub marked-kept : (covers : PointId → Bool) (b : Book) (j : PointId) (k : Kept) → findKept b j ≡ some k → findKept (mark covers b) j ≡ some (markOne covers k)
+marked-kept covers b j k h = find-marked covers b j ∙ ap (Option·map (markOne covers)) h
+
+pub marked-found : (covers : PointId → Bool) (b : Book) (j : PointId) → isSome (findKept (mark covers b) j) ≡ isSome (findKept b j)
+marked-found covers b j = ap isSome (find-marked covers b j) ∙ map-some (markOne covers) (findKept b j)
+
+-- an entry of a marked book is one of the book, marked
+pub mark-member : (covers : PointId → Bool) (b : Book) (k : Kept) → List·Memᴰ k (mark covers b) → (x : Kept) × (List·Memᴰ x b × (k ≡ markOne covers x))
+unfolding mark
+mark-member covers [] k m = absurd (List·Memᴰ·not-nil m)
+mark-member covers (x ∷ b) k m = go (mark-member covers b k) (List·Memᴰ·cases-cons m)
+  where
+    go : (List·Memᴰ k (mark covers b) → (y : Kept) × (List·Memᴰ y b × (k ≡ markOne covers y))) → (k ≡ markOne covers x) ⊎ List·Memᴰ k (mark covers b) →
+        (y : Kept) × (List·Memᴰ y (x ∷ b) × (k ≡ markOne covers y))
+    go rec (inl e) = (x, (List·Memᴰ·head refl, e))
+    go rec (inr n) = let r = rec n in (r .0, (List·Memᴰ·tail (r .1 .0), r .1 .1))

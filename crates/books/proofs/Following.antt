@@ -6,7 +6,6 @@ use mathlib.Core.Bool.{Bool, true, false, not, and-false}
 use mathlib.Core.Option.{Option, some}
 use mathlib.Core.List.{List·Memᴰ}
 use lib.Dec.{T}
-use Rattle.base.specs.Base.{pick}
 use Rattle.base.proofs.Impossible.{impossible}
 use Rattle.base.proofs.Bool.{clash}
 use Rattle.map.specs.Rows.{Pair}
@@ -17,8 +16,8 @@ use Rattle.point.proofs.Ids.{eq-same}
 use Rattle.schedule.specs.Settings.{Settings}
 use Rattle.rules.specs.Mismatch.{pairId}
 use Rattle.books.specs.Kept.{Status, Valid, TransInvalid, Invalid, IllFormed, Kept, Book, findKept}
-use Rattle.books.specs.Following.{isIllFormed, End, reached, stopped, astray, onward, arrive, stepTo, follow, hasArrived}
-use Rattle.books.specs.FoundBook.{isUsable, Held}
+use Rattle.books.specs.Following.{isIllFormed, End, reached, stopped, astray, onward, arrive, stepTo, follow, isUsable}
+use Rattle.books.specs.FoundBook.{IsEnd}
 use Rattle.books.proofs.Find.{find-id, find-member}
 
 -- ---- what holds of an entry
@@ -27,6 +26,13 @@ use Rattle.books.proofs.Find.{find-id, find-member}
 abbrev pub Inherited : AnchorStageRole → PointInfo → PointInfo → Type 0
 Inherited Proof p q = isAnchorProof (p .role) ≡ false → q .anchorTime ≡ p .anchorTime
 Inherited Trigger p q = Unit
+
+-- Held, with the entry found by its id
+pub record HeldById (b : Book) (p : PointInfo) (i : PointId) : Type 0 where
+  pub entry : Kept
+  pub kept : findKept b i ≡ some entry
+  pub formed : T (not (isIllFormed (entry .status)))
+  pub topped : (g : AnchorStageRole) → top g (entry .point) .round ≤ target g p .round
 
 -- the source of a link is kept, and its top is the link's target
 pub record Linked (b : Book) (p : PointInfo) (g : AnchorStageRole) : Type 0 where
@@ -40,8 +46,8 @@ pub record Linked (b : Book) (p : PointInfo) (g : AnchorStageRole) : Type 0 wher
 pub record Stands (c : Settings) (b : Book) (p : PointInfo) (s : Status) : Type 0 where
   pub floor : T (not (isIllFormed s)) → c .genesisRound ≤ p .id .round
   pub genesis : T (not (isIllFormed s)) → p .id .round ≡ c .genesisRound → (g : AnchorStageRole) → isAnchorStage g (p .role) ≡ true
-  pub includes : T (isUsable s) → c .genesisRound < p .id .round → (q : Pair) → List·Memᴰ q (p .includes) → Held b p (pairId (p .id .round - 1) q)
-  pub witness : T (isUsable s) → c .genesisRound < p .id .round → (q : Pair) → List·Memᴰ q (p .witness) → Held b p (pairId (p .id .round - 2) q)
+  pub includes : T (isUsable s) → c .genesisRound < p .id .round → (q : Pair) → List·Memᴰ q (p .includes) → HeldById b p (pairId (p .id .round - 1) q)
+  pub witness : T (isUsable s) → c .genesisRound < p .id .round → (q : Pair) → List·Memᴰ q (p .witness) → HeldById b p (pairId (p .id .round - 2) q)
   pub linked : T (isUsable s) → c .genesisRound < p .id .round → (g : AnchorStageRole) → Linked b p g
 
 abbrev pub AllStand : Settings → Book → Type 0
@@ -76,28 +82,31 @@ module _ (g : AnchorStageRole) (to : PointId) (k : Kept) (rest : End) where
   unfolding arrive
   arrive-own f s e = rw (eq-same (k .point .id) to e, s, yes-is (not (isIllFormed (k .status))) f)
 
-  arrive-past : isAnchorStage g (k .point .role) ≡ false → arrive g to k rest ≡ onward g to k rest (k .status)
+  arrive-past : isAnchorStage g (k .point .role) ≡ false → target g (k .point) ≡ to → arrive g to k rest ≡ onward k rest (k .status)
   unfolding arrive
-  arrive-past s = rw (s, and-false (sameId (k .point .id) to))
+  arrive-past s e = rw (s, and-false (sameId (k .point .id) to), eq-same (target g (k .point)) to e)
 
-  onward-arrives : (s : Status) → T (not (isIllFormed s)) → target g (k .point) ≡ to → (T (isUsable s) → T (hasArrived rest)) →
-      T (hasArrived (onward g to k rest s))
-  onward-arrives Valid f e h = h tt
-  onward-arrives (TransInvalid d) f e h = h tt
-  onward-arrives (Invalid n) f e h = rw (eq-same (target g (k .point)) to e) tt
-  onward-arrives (IllFormed n) f e h = absurd f
+  module _ (b : Book) (m : List·Memᴰ k b) where
+    onward-ends : (s : Status) → k .status ≡ s → T (not (isIllFormed s)) → target g (k .point) ≡ to → (T (isUsable s) → IsEnd b g to rest) →
+        IsEnd b g to (onward k rest s)
+    onward-ends Valid q f e h = h tt
+    onward-ends (TransInvalid d) q f e h = h tt
+    onward-ends (Invalid n) q f e h = (m, (e, rw q tt))
+    onward-ends (IllFormed n) q f e h = absurd f
 
-  -- a step to a point whose top is the target arrives, or goes on from a Valid or TransInvalid point that links it
-  arrive-arrives : T (not (isIllFormed (k .status))) → top g (k .point) ≡ to →
-      (T (isUsable (k .status)) → isAnchorStage g (k .point .role) ≡ false → target g (k .point) ≡ to → T (hasArrived rest)) →
-      T (hasArrived (arrive g to k rest))
-  arrive-arrives f e h = go (isAnchorStage g (k .point .role)) refl
-    where
-      go : (b : Bool) → isAnchorStage g (k .point .role) ≡ b → T (hasArrived (arrive g to k rest))
-      go true s = rw (arrive-own f s (sym (top-own g (k .point) s) ∙ e)) tt
-      go false s =
-          let l : target g (k .point) ≡ to = sym (top-linked g (k .point) s) ∙ e in
-          rw (arrive-past s) (onward-arrives (k .status) f l (λ u. h u s l))
+    -- a step to a point whose top is the target arrives, or goes on from a Valid or TransInvalid point that links it
+    arrive-ends : T (not (isIllFormed (k .status))) → top g (k .point) ≡ to →
+        (T (isUsable (k .status)) → isAnchorStage g (k .point .role) ≡ false → target g (k .point) ≡ to → IsEnd b g to rest) →
+        IsEnd b g to (arrive g to k rest)
+    arrive-ends f e h = go (isAnchorStage g (k .point .role)) refl
+      where
+        go : (t : Bool) → isAnchorStage g (k .point .role) ≡ t → IsEnd b g to (arrive g to k rest)
+        go true s =
+            let own : k .point .id ≡ to = sym (top-own g (k .point) s) ∙ e in
+            rw (arrive-own f s own) (m, (own, (rw s tt, f)))
+        go false s =
+            let l : target g (k .point) ≡ to = sym (top-linked g (k .point) s) ∙ e in
+            rw (arrive-past s l) (onward-ends (k .status) refl f l (λ u. h u s l))
 
 -- ---- the walk
 
@@ -110,19 +119,19 @@ module _ (c : Settings) (b : Book) (all : AllStand c b) where
       let apart : k .point .id .round ≡ c .genesisRound → ⊥ = λ e. (let t = all k m .genesis f e g in impossible (cc)) in
       omega (arith, apart)
 
-  pub follow-arrives : (g : AnchorStageRole) (to : PointId) (n : ℕ) (p : PointInfo) (s : Status) → Stands c b p s → T (isUsable s) →
-      c .genesisRound < p .id .round → target g p ≡ to → p .id .round ≤ c .genesisRound + n → T (hasArrived (follow g b to n p))
+  pub follow-ends : (g : AnchorStageRole) (to : PointId) (n : ℕ) (p : PointInfo) (s : Status) → Stands c b p s → T (isUsable s) →
+      c .genesisRound < p .id .round → target g p ≡ to → p .id .round ≤ c .genesisRound + n → IsEnd b g to (follow g b to n p)
   unfolding follow
-  follow-arrives g to zero p s w u a e h = absurd (omega arith)
-  follow-arrives g to (suc n) p s w u a e h =
+  follow-ends g to zero p s w u a e h = absurd (omega arith)
+  follow-ends g to (suc n) p s w u a e h =
       let l : Linked b p g = w .linked u a g in
       let k : Kept = l .entry in
       let m : List·Memᴰ k b = find-member b (source g p) k (l .kept) in
       let less : source g p .round < p .id .round = source-lower g p (omega arith) in
       let same : k .point .id .round ≡ source g p .round = ap (λ (i : PointId). i .round) (find-id b (source g p) k (l .kept)) in
-      subst (λ (o : Option Kept). T (hasArrived (stepTo g to o (λ q. follow g b to n q)))) (sym (l .kept))
-      (arrive-arrives g to k (follow g b to n (k .point)) (l .formed) (l .leads ∙ e)
-      (λ v t f. follow-arrives g to n (k .point) (k .status) (all k m) v (above g k m (l .formed) t) f (omega arith)))
+      subst (λ (o : Option Kept). IsEnd b g to (stepTo g to o (λ q. follow g b to n q))) (sym (l .kept))
+      (arrive-ends g to k (follow g b to n (k .point)) b m (l .formed) (l .leads ∙ e)
+      (λ v t f. follow-ends g to n (k .point) (k .status) (all k m) v (above g k m (l .formed) t) f (omega arith)))
 
 -- ---- the anchor time
 
@@ -134,17 +143,12 @@ isReached astray = false
 unreached : (x : End) (e : Kept) → isReached x ≡ false → x ≡ reached e → ⊥
 unreached x e h f = clash (isReached x) (ap isReached f) h
 
-module _ (g : AnchorStageRole) (to : PointId) (k : Kept) (rest : End) (e : Kept) where
-  -- past a point that is not the target, only a Valid or TransInvalid one leads on
-  onward-reached : (s : Status) → onward g to k rest s ≡ reached e → T (isUsable s) × (rest ≡ reached e)
-  onward-reached Valid h = (tt, h)
-  onward-reached (TransInvalid d) h = (tt, h)
-  onward-reached (Invalid n) h = go (sameId (target g (k .point)) to) h
-    where
-      go : (t : Bool) → pick t (stopped k) astray ≡ reached e → ⊥ × (rest ≡ reached e)
-      go true f = absurd (unreached (stopped k) e refl f)
-      go false f = absurd (unreached astray e refl f)
-  onward-reached (IllFormed n) h = absurd (unreached astray e refl h)
+-- past a point that is not the target, only a Valid or TransInvalid one leads on
+onward-reached : (k : Kept) (rest : End) (e : Kept) (s : Status) → onward k rest s ≡ reached e → T (isUsable s) × (rest ≡ reached e)
+onward-reached k rest e Valid h = (tt, h)
+onward-reached k rest e (TransInvalid d) h = (tt, h)
+onward-reached k rest e (Invalid n) h = absurd (unreached (stopped k) e refl h)
+onward-reached k rest e (IllFormed n) h = absurd (unreached astray e refl h)
 
 -- a step towards a proof carries the anchor time, if the walk after it does
 step-time : (to : PointId) (k : Kept) (rest : End) (e : Kept) (time : ℕ) → T (not (isIllFormed (k .status))) → top Proof (k .point) ≡ to → k .point .anchorTime ≡ time →
@@ -158,8 +162,9 @@ step-time to k rest e time formed l t f h = go (isAnchorProof (k .point .role)) 
         let q : e ≡ k = cc in
         ap (λ (y : Kept). y .point .anchorTime) q ∙ t
     go false s =
-        let o = onward-reached Proof to k rest e (k .status) (sym (arrive-past Proof to k rest s) ∙ h) in
-        f (o .0) s (sym (top-linked Proof (k .point) s) ∙ l) (o .1)
+        let linked : target Proof (k .point) ≡ to = sym (top-linked Proof (k .point) s) ∙ l in
+        let o = onward-reached k rest e (k .status) (sym (arrive-past Proof to k rest s linked) ∙ h) in
+        f (o .0) s linked (o .1)
 
 module _ (c : Settings) (b : Book) (all : AllStand c b) where
   pub follow-time : (to : PointId) (n : ℕ) (p : PointInfo) (s : Status) → Stands c b p s → T (isUsable s) →

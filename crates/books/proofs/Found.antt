@@ -1,57 +1,49 @@
--- What holds of every Valid or TransInvalid point above genesis in a book after any list of offers since its opening.
-use Prim.Native.Nat.{ℕ, _-_, _<_}
+-- What is so of every Valid or TransInvalid point above genesis in a book whose entries all stand.
+use Prim.Native.Nat.{_-_, _<_}
 use native.Mathlib.Omega.{arith}
 use mathlib.Core.Path.{_≡_, refl}
 use mathlib.Core.Bool.{Bool, true, false, not}
-use mathlib.Core.List.{List, [], List·Memᴰ}
+use mathlib.Core.List.{List·Memᴰ}
 use lib.Dec.{T}
 use Rattle.map.specs.Rows.{Pair}
-use Rattle.point.specs.Point.{isAnchorProof, target}
+use Rattle.point.specs.Point.{PointId, isAnchorProof, target}
 use Rattle.point.specs.declared.data.AnchorStageRole.{AnchorStageRole}
 use Rattle.point.specs.declared.data.AnchorStageRole.the-variants.{Proof}
 use Rattle.schedule.specs.Settings.{Settings}
 use Rattle.rules.specs.Mismatch.{pairId}
 use Rattle.books.specs.Kept.{Kept, Book}
-use Rattle.books.specs.Offer.{Offer, after}
-use Rattle.books.specs.Following.{reached, hasArrived}
-use Rattle.books.specs.FoundBook.{Usable, Held, followed}
-use Rattle.books.proofs.Following.{Stands, AllStand, follow-arrives, follow-time}
-use Rattle.books.proofs.Kept.{empty-stands, after-stands}
+use Rattle.books.specs.Following.{reached}
+use Rattle.books.specs.FoundBook.{Usable, Held, followed, IsEnd}
+use Rattle.books.proofs.Find.{find-id, find-member}
+use Rattle.books.proofs.Following.{HeldById, Stands, AllStand, follow-ends, follow-time}
 
 no-is : (b : Bool) → T (not b) → b ≡ false
 no-is true h = absurd h
 no-is false h = refl
 
-module _ (c : Settings) (len : ℕ) (l : List Offer) where
-  abbrev book : Book
-  book = after c len [] l
+module _ (c : Settings) (b : Book) (all : AllStand c b) (k : Kept) (u : Usable c b k) where
+  stands : Stands c b (k .point) (k .status)
+  stands = all k (u .member)
 
-  all-stand : AllStand c book
-  all-stand = after-stands c len [] l (empty-stands c)
+  held : (i : PointId) → HeldById b (k .point) i → Held b (k .point) i
+  held i h =
+      record {
+        entry = h .entry;
+        kept = find-member b i (h .entry) (h .kept);
+        named = find-id b i (h .entry) (h .kept);
+        formed = h .formed;
+        topped = h .topped;
+      }
 
-  module _ (k : Kept) (u : Usable c book k) where
-    stands : Stands c book (k .point) (k .status)
-    stands = all-stand k (u .member)
+  pub found-dependencies : ((q : Pair) → List·Memᴰ q (k .point .includes) → Held b (k .point) (pairId (k .point .id .round - 1) q))
+      × ((q : Pair) → List·Memᴰ q (k .point .witness) → Held b (k .point) (pairId (k .point .id .round - 2) q))
+  found-dependencies = (λ q m. held _ (stands .includes (u .usable) (u .above) q m), λ q m. held _ (stands .witness (u .usable) (u .above) q m))
 
-    -- "every Valid or TransInvalid point above genesis has all its includes and witness kept, none ill-formed, none topped by an
-    -- anchor of a greater round than it links"
-    pub found-includes : (q : Pair) → List·Memᴰ q (k .point .includes) → Held book (k .point) (pairId (k .point .id .round - 1) q)
-    found-includes = stands .includes (u .judged) (u .above)
+  pub found-links : (g : AnchorStageRole) → IsEnd b g (target g (k .point)) (followed c b g (k .point))
+  found-links g =
+      let a : c .genesisRound < k .point .id .round = u .above in
+      follow-ends c b all g (target g (k .point)) (k .point .id .round - c .genesisRound) (k .point) (k .status) stands (u .usable) a refl (omega arith)
 
-    pub found-witness : (q : Pair) → List·Memᴰ q (k .point .witness) → Held book (k .point) (pairId (k .point .id .round - 2) q)
-    found-witness = stands .witness (u .judged) (u .above)
-
-    -- "either anchor link, followed through its sources, reaches within round minus genesis round steps the linked point in that
-    -- role, or a point judged Invalid that links the same target"
-    pub found-links : (g : AnchorStageRole) → T (hasArrived (followed c book g (k .point)))
-    found-links g =
-        let a : c .genesisRound < k .point .id .round = u .above in
-        follow-arrives c book all-stand g (target g (k .point)) (k .point .id .round - c .genesisRound) (k .point) (k .status)
-        stands (u .judged) a refl (omega arith)
-
-    -- "if such a point is no proof and its proof link reaches the proof, both have one anchor time"
-    pub found-times : T (not (isAnchorProof (k .point .role))) → (e : Kept) → followed c book Proof (k .point) ≡ reached e →
-        e .point .anchorTime ≡ k .point .anchorTime
-    found-times r e h =
-        follow-time c book all-stand (target Proof (k .point)) (k .point .id .round - c .genesisRound) (k .point) (k .status)
-        stands (u .judged) (u .above) refl (no-is _ r) e h
+  pub found-times : T (not (isAnchorProof (k .point .role))) → (e : Kept) → followed c b Proof (k .point) ≡ reached e → e .point .anchorTime ≡ k .point .anchorTime
+  found-times r e h =
+      follow-time c b all (target Proof (k .point)) (k .point .id .round - c .genesisRound) (k .point) (k .status) stands (u .usable) (u .above) refl (no-is _ r) e h

@@ -1,51 +1,75 @@
 -- The statement on found books, put together from the law of each sentence.
-use mathlib.Core.Path.{_≡_, refl, ap, sym, _∙_}
-use mathlib.Core.Logic.{_⊎_, inl, inr}
-use mathlib.Core.Bool.{Bool, true, false}
-use mathlib.Core.Option.{some}
-use mathlib.Core.List.{[], _∷_, List·Memᴰ, List·Memᴰ·not-nil, List·Memᴰ·cases-cons}
+use Prim.Native.Nat.{ℕ}
+use mathlib.Core.Path.{_≡_, ap, sym, _∙_, subst}
+use mathlib.Core.Logic.{_↔_}
+use mathlib.Core.List.{List, List·Memᴰ}
 use lib.ListN.{length}
-use Rattle.base.specs.Base.{pick}
-use Rattle.base.proofs.Option.{none-some}
-use Rattle.point.specs.Point.{sameId}
-use Rattle.point.proofs.Ids.{same-refl, same-eq}
-use Rattle.books.specs.Kept.{Kept, Book, findKept, isTwice}
-use Rattle.books.specs.Offer.{after}
-use Rattle.books.specs.FoundBook.{FoundBooks}
-use Rattle.books.proofs.Shape.{empty-shape}
-use Rattle.books.proofs.Offered.{after-shape}
-use Rattle.books.proofs.Lift.{opened-bytes, opened-answers, opened-buffers}
-use Rattle.books.proofs.Find.{once-first, once-rest}
-use Rattle.books.proofs.Found.{found-includes, found-witness, found-links, found-times}
-use Rattle.books.proofs.Marks.{found-marks}
-use Rattle.books.proofs.LeftEntries.{found-entries}
+use Rattle.parts.specs.Bytes.{Bytes}
+use Rattle.rules.specs.Judge.{Number}
+use Rattle.books.specs.Kept.{Kept, Opened}
+use Rattle.books.specs.Offer.{Offer, offer}
+use Rattle.books.specs.Run.{Run}
+use Rattle.books.specs.Calls.{opened, laidOut, inBytes, offerBytes}
+use Rattle.books.specs.FoundBook.{Left, allLeft, leftIn, WasKept, HasNoRoom, everMarked, NextOffer, FoundBook, FoundBooks}
+use Rattle.books.proofs.Find.{once-found, no-id-twice}
+use Rattle.books.proofs.Offered.{numbers, number-unchanged}
+use Rattle.books.proofs.Following.{AllStand}
+use Rattle.books.proofs.Found.{found-dependencies, found-links, found-times}
+use Rattle.books.proofs.Marks.{isCertified}
+use Rattle.books.proofs.LeftEntries.{left-in-slice}
+use Rattle.books.proofs.Invariant.{sound-reads, offer-bytes, Invariant, opens, invariant}
+use Rattle.books.proofs.NextOffer.{next-tests, next-again, next-no-room}
+use Rattle.books.proofs.Judged.{next-judged}
+use Rattle.books.proofs.Clean.{next-clean, next-caught}
 
--- where no id stands twice, an entry is found by its id
-once-found : (b : Book) → isTwice b ≡ false → (k : Kept) → List·Memᴰ k b → findKept b (k .point .id) ≡ some k
-unfolding findKept
-once-found [] h k m = absurd (List·Memᴰ·not-nil m)
-once-found (x ∷ b) h k m =
-    go (once-found b (once-rest x b h) k) (List·Memᴰ·cases-cons m)
-  where
-    later : (t : Bool) → sameId (x .point .id) (k .point .id) ≡ t → findKept b (k .point .id) ≡ some k → pick t (some x) (findKept b (k .point .id)) ≡ some k
-    later true e f =
-        none-some (sym (once-first x b h) ∙ (ap (findKept b) (same-eq (x .point .id) (k .point .id) e) ∙ f))
-    later false e f = f
+module _ (start : Opened) (found : Run (List ℕ)) (plain : Run Opened) (h : Invariant start found plain) where
+  abbrev z : Opened
+  z = plain .last
 
-    go : (List·Memᴰ k b → findKept b (k .point .id) ≡ some k) → (k ≡ x) ⊎ List·Memᴰ k b → pick (sameId (x .point .id) (k .point .id)) (some x) (findKept b (k .point .id)) ≡ some k
-    go next (inl e) = rw e (rw (same-refl (x .point .id)) refl)
-    go next (inr n) = later (sameId (x .point .id) (k .point .id)) refl (next n)
+  stands : AllStand (start .settings) (z .book)
+  stands = subst (λ (x : Opened). AllStand (x .settings) (z .book)) (h .stays) (h .sound .stands)
+
+  marks : (k : Kept) → List·Memᴰ k (z .book) → k .certified ≡ everMarked (plain .moments) (k .point .id)
+  marks k m = ap isCertified (sym (once-found (z .book) (h .sound .shape .once) k m)) ∙ h .marks (k .point .id)
+
+  last-bytes : found .last ≡ laidOut z
+  last-bytes = ap (λ (x : Run (List ℕ)). x .last) (h .same)
+
+  -- the answers over the slice's bytes are the plain book's
+  kept : leftIn (z .book) ≡ allLeft (found .moments)
+  kept = h .kept ∙ (sym (left-in-slice (plain .moments)) ∙ ap (λ (x : Run (List ℕ)). allLeft (x .moments)) (sym (h .same)))
+
+  next-offer : (o : Offer) → Bytes (o .bytes) → NextOffer found plain o (inBytes (offer z o))
+  next-offer o w =
+      record {
+        tests = next-tests z o (h .sound);
+        again = λ i e. subst (λ (l : List Left). (offer z o .answer ≡ Number 11) ↔ WasKept l (i .point .id)) kept (next-again z o (h .sound) i e);
+        full = λ i e.
+            subst (λ (l : List Left). (offer z o .answer ≡ Number 12) ↔ ((WasKept l (i .point .id) → ⊥) × HasNoRoom (z .length) l (o .bytes))) kept
+            (next-no-room z o (h .sound) i e);
+        unchanged = λ n e. (let u = number-unchanged z o n e in (numbers z o (h .sound .shape) n e, (ap laidOut (u .0) ∙ sym last-bytes, u .1)));
+        judged = next-judged plain o w (h .sound) marks;
+        clean = next-clean plain o (h .sound) marks;
+        caught = next-caught plain o (h .sound) marks;
+      }
+
+  found-book : FoundBook start found plain
+  found-book =
+      record {
+        same = h .same;
+        reads = rw last-bytes (sound-reads z (h .sound));
+        stays = (ap (λ (x : Opened). x .bytes) (h .stays), (ap (λ (x : Opened). x .settings) (h .stays), ap (λ (x : Opened). x .length) (h .stays)));
+        once = no-id-twice (z .book) (h .sound .shape .once);
+        few = h .sound .shape .few;
+        says = λ k m. h .sound .shape .entries k m .read;
+        kept = kept;
+        dependencies = found-dependencies (start .settings) (z .book) stands;
+        links = found-links (start .settings) (z .book) stands;
+        times = found-times (start .settings) (z .book) stands;
+        marks = marks;
+        next = λ o w. subst (NextOffer found plain o) (sym (ap (λ (s : List ℕ). offerBytes s o) last-bytes ∙ offer-bytes z (h .sound) o)) (next-offer o w);
+      }
 
 pub found-books : FoundBooks
-found-books settings slice c l r z w =
-    record {
-      plain =
-          (opened-answers settings slice c r z l w, (opened-buffers settings slice c r z l w, opened-bytes settings slice c r z l w));
-      dependencies = λ k u. (found-includes c (length slice) l k u, found-witness c (length slice) l k u);
-      links = found-links c (length slice) l;
-      times = found-times c (length slice) l;
-      marks = λ k m.
-          found-marks c (length slice) l (k .point .id) k
-          (once-found (after c (length slice) [] l) (after-shape c (length slice) [] l w empty-shape .once) k m);
-      entries = found-entries c (length slice) l;
-    }
+found-books settings slice c l r least most w =
+    (opens settings slice c r least most, found-book (opened settings c (length slice)) _ _ (invariant settings slice c r least most l w))

@@ -2,38 +2,38 @@
 use Prim.Native.Nat.{ℕ, _≤_}
 use native.Mathlib.Omega.{arith}
 use mathlib.Core.Path.{_≡_, refl, sym, ap, subst}
-use mathlib.Core.Bool.{Bool, true, false, _&&_}
+use mathlib.Core.Bool.{Bool, true, false}
 use mathlib.Core.Option.{Option, none, some}
 use mathlib.Core.List.{List, [], _∷_, List·Memᴰ, List·Memᴰ·not-nil, List·Memᴰ·eq-of-singleton}
-use lib.Dec.{leb, eqb}
-use borrow.Author.Tests.{leb-true, eqb-true}
-use Rattle.base.specs.Base.{pick}
-use Rattle.base.proofs.Bool.{and-left}
+use lib.Dec.{eqb}
+use borrow.Author.Tests.{eqb-true}
 use Rattle.map.specs.Rows.{rising, peers}
-use Rattle.point.specs.Point.{PointId, PointInfo, prevId, inDomain}
+use Rattle.point.specs.Point.{PointInfo, prevId, inDomain}
 use Rattle.point.specs.Reading.{readPoint}
 use Rattle.point.proofs.Laws.{readable}
 use Rattle.schedule.specs.Settings.{Settings}
 use Rattle.schedule.specs.Schedule.{Schedule}
 use Rattle.reasons.specs.IllFormed.{illFormedNumber}
 use Rattle.reasons.specs.Invalid.{invalidNumber}
+use Rattle.reasons.specs.Verdict as verdict
 use Rattle.reasons.specs.declared.ill_formed.VerifyError.{VerifyError}
 use Rattle.reasons.specs.declared.ill_formed.VerifyError.the-variants as case-error
 use Rattle.rules.specs.Verify.{verify}
 use Rattle.rules.specs.DagPoint.{IndirectEntry, pointView}
-use Rattle.rules.specs.Validate.{ValidateResult, isInvalid, isTransInvalid, isValid, validate, ofResult}
-use Rattle.rules.specs.Judge.{Input, Tested, refused, admitted, Number, Given, ofError, Before, answered, needed, beforeWith, before}
+use Rattle.rules.specs.Validate.{validate}
+use Rattle.rules.specs.Judge.{Input, JudgeAnswer, Number, Given, ofError, Before, answered, needed, beforeWith, before}
 use Rattle.reasons.specs.declared.ill_formed.WaveChecked.{WaveChecked}
 use Rattle.reasons.specs.declared.ill_formed.WaveChecked.the-variants as case-wave
 use Rattle.rules.specs.CheckIllFormed.{waveChecked}
 use Rattle.rules.specs.Passed.{hasReason, Passed}
 use Rattle.rules.proofs.Passed.{validate-all}
-use Rattle.rules.specs.Mismatch.{mismatch, uncovered, entriesIn}
-use Rattle.books.specs.Kept.{Status, Valid, TransInvalid, Invalid, IllFormed, Kept, Book, markOne, mark, markPrev}
+use Rattle.rules.specs.Mismatch.{isId}
+use Rattle.books.specs.Kept.{Status, Valid, TransInvalid, Invalid, IllFormed, Kept, Book, Opened}
 use Rattle.books.specs.Lists.{directList, indirectList}
-use Rattle.books.specs.Offer.{Offer, offerTested, markedBy, areStatesOk, answerOver, answerWith, keptAs, leftBy, leftFrom, beforeIn, markedIn, answerIn, offerWith, offer, after}
-use Rattle.books.proofs.Offered.{accepted}
-use Rattle.books.specs.FoundBook.{Unmarked, unmarkedOf}
+use Rattle.books.specs.Offer.{Offer, markedBy, answerOver, answerWith, keptAs, leftBy, beforeIn, markedIn, answerIn, offer}
+use Rattle.books.proofs.Clear.{over-cases}
+use Rattle.books.proofs.Offered.{accepted, offer-cases}
+use Rattle.books.proofs.Shape.{domain-least}
 use Rattle.books.proofs.Following.{Stands, AllStand}
 use Rattle.books.proofs.Growth.{all-stand-marked, all-stand-append}
 use Rattle.books.proofs.Verified.{pass-floor, pass-genesis, pass-link}
@@ -79,94 +79,77 @@ module _ (c : Settings) (b : Book) (p : PointInfo) where
 
 -- ---- what a judgement leaves
 
-module _ (c : Settings) (s : Schedule) (b : Book) (bytes : List ℕ) (p : PointInfo) (rise : rising (peers (p .includes)) ≡ true) (second : 2 ≤ p .id .round) where
-  abbrev Each : List Kept → Type 0
-  Each l = (k : Kept) → List·Memᴰ k l → Stands c b (k .point) (k .status)
+abbrev Each : Settings → Book → List Kept → Type 0
+Each c b l = (k : Kept) → List·Memᴰ k l → Stands c b (k .point) (k .status)
 
-  each-none : Each []
+-- a number leaves nothing
+abbrev leftFrom : List ℕ → PointInfo → JudgeAnswer → List Kept
+leftFrom bytes p (Number n) = []
+leftFrom bytes p (Given v) = leftBy bytes p v
+
+module _ (c : Settings) (s : Schedule) (b : Book) (bytes : List ℕ) (p : PointInfo) (rise : rising (peers (p .includes)) ≡ true) (second : 2 ≤ p .id .round) where
+  each-none : Each c b []
   each-none k m = absurd (List·Memᴰ·not-nil m)
 
-  each-one : (x : Status) → Stands c b p x → Each (keptAs bytes p x ∷ [])
+  each-one : (x : Status) → Stands c b p x → Each c b (keptAs bytes p x ∷ [])
   each-one x h k m = subst (λ (y : Kept). Stands c b (y .point) (y .status)) (sym (List·Memᴰ·eq-of-singleton m)) h
 
-  each-error : (e : VerifyError) → Each (leftBy bytes p (ofError e))
+  each-error : (e : VerifyError) → Each c b (leftBy bytes p (ofError e))
   each-error (case-error.Fail u) = each-none
   each-error (case-error.IllFormed r) = each-one (IllFormed (illFormedNumber r)) (ill-formed-stands c b p (illFormedNumber r))
 
   module _ (pass : verify c s p ≡ none) (required : Bool) where
-    each-result : (ts : List IndirectEntry) (r : ValidateResult) → validate c required 3 p (directList b p) ts ≡ r → Each (leftBy bytes p (ofResult r))
-    each-result ts (isInvalid r) h = each-one (Invalid (invalidNumber r)) (invalid-stands c b p s pass (invalidNumber r))
-    each-result ts (isTransInvalid d) h =
-        each-one (TransInvalid d) (usable-stands c b p s pass rise second required ts (validate-all c required p (directList b p) ts 3 (ap hasReason h) .1) (TransInvalid d))
-    each-result ts isValid h =
-        each-one Valid (usable-stands c b p s pass rise second required ts (validate-all c required p (directList b p) ts 3 (ap hasReason h) .1) Valid)
+    each-result : (ts : List IndirectEntry) (v : verdict.Verdict) → validate c required 3 p (directList b p) ts ≡ v → Each c b (leftBy bytes p v)
+    each-result ts (verdict.Fail u) h = each-none
+    each-result ts (verdict.IllFormed r) h = each-one (IllFormed (illFormedNumber r)) (ill-formed-stands c b p (illFormedNumber r))
+    each-result ts (verdict.Invalid r) h = each-one (Invalid (invalidNumber r)) (invalid-stands c b p s pass (invalidNumber r))
+    each-result ts (verdict.TransInvalid d) h =
+        each-one (TransInvalid d) (usable-stands c b p s pass rise second required ts (validate-all c required p (directList b p) ts 3 (ap hasReason h)) (TransInvalid d))
+    each-result ts verdict.Valid h =
+        each-one Valid (usable-stands c b p s pass rise second required ts (validate-all c required p (directList b p) ts 3 (ap hasReason h)) Valid)
 
     -- the numbers 7 to 9 leave nothing
-    each-lists : (ts : List IndirectEntry) → Each (leftFrom bytes p (answerOver c required p (directList b p) ts))
-    unfolding answerOver
+    each-lists : (ts : List IndirectEntry) → Each c b (leftFrom bytes p (answerOver c required 3 p (directList b p) ts))
     each-lists ts =
-        go (areStatesOk (directList b p) && areStatesOk (entriesIn ts)) (mismatch 3 p (directList b p) ts) (uncovered (prevId p) (directList b p) ts)
-      where
-        go : (x y z : Bool) → Each (leftFrom bytes p (pick x (pick y (Number 8) (pick z (Number 9) (Given (ofResult (validate c required 3 p (directList b p) ts))))) (Number 7)))
-        go true true z = each-none
-        go true false true = each-none
-        go true false false = each-result ts (validate c required 3 p (directList b p) ts) refl
-        go false y z = each-none
+        over-cases c required 3 p (directList b p) ts (λ a. Each c b (leftFrom bytes p a)) (λ n. each-none)
+        (each-result ts (validate c required 3 p (directList b p) ts) refl)
 
   each-before : (o : Option VerifyError) → verify c s p ≡ o → (g : Bool) → eqb (p .id .round) (c .genesisRound) ≡ g → (w : WaveChecked) →
-      Each (leftFrom bytes p (answerWith c p b (beforeWith o g w)))
+      Each c b (leftFrom bytes p (answerWith c 3 p b (beforeWith o g w)))
   each-before (some e) v g t w = each-error e
   each-before none v true t w = each-one Valid (genesis-stands c b p s v (eqb-true _ _ t) Valid)
   each-before none v false t case-wave.Horizon = each-none
   each-before none v false t (case-wave.IllFormed r) = each-one (IllFormed (illFormedNumber r)) (ill-formed-stands c b p (illFormedNumber r))
   each-before none v false t (case-wave.Sound required) = each-lists v required (indirectList b p)
 
--- ---- a mark changes marks alone
+-- ---- the book after an offer
 
-mark-judged : (i : PointId) (b : Book) → unmarkedOf (mark i b) ≡ unmarkedOf b
-unfolding mark markOne unmarkedOf
-mark-judged i [] = refl
-mark-judged i (k ∷ b) = ap (λ (l : List Unmarked). record { bytes = k .bytes; point = k .point; status = k .status } ∷ l) (mark-judged i b)
+by-stands : (c : Settings) (p : PointInfo) (b : Book) (x : Before) → AllStand c b → AllStand c (markedBy p b x)
+by-stands c p b (answered a) all = all
+by-stands c p b (needed required) all = all-stand-marked c (isId (prevId p)) b all
 
-prev-judged : (o : Option PointId) (b : Book) → unmarkedOf (markPrev o b) ≡ unmarkedOf b
-prev-judged none b = refl
-prev-judged (some i) b = mark-judged i b
+module _ (z : Opened) (i : Input) (leader : ℕ) where
+  marked-stands : (c : Settings) → AllStand c (z .book) → AllStand c (markedIn z i leader)
+  unfolding markedIn
+  marked-stands c all = by-stands c (i .point) (z .book) (beforeIn i leader) all
 
-by-judged : (p : PointInfo) (b : Book) (x : Before) → unmarkedOf (markedBy p b x) ≡ unmarkedOf b
-by-judged p b (answered a) = refl
-by-judged p b (needed required) = prev-judged (prevId p) b
+  answer-stands : (bytes : List ℕ) → readPoint bytes ≡ some (i .point) → inDomain (i .point) ≡ true →
+      Each (i .settings) (markedIn z i leader) (leftFrom bytes (i .point) (answerIn z i leader))
+  unfolding answerIn beforeIn before inDomain
+  answer-stands bytes read domain =
+      let four : 4 ≤ i .point .id .round = domain-least (i .point) domain in
+      each-before (i .settings) (i .schedule) (markedIn z i leader) bytes (i .point) (readable bytes (i .point) read .includes .rise) (omega arith)
+      (verify (i .settings) (i .schedule) (i .point)) refl (eqb (i .point .id .round) (i .settings .genesisRound)) refl (waveChecked (i .schedule) (eqb leader 1) (i .point))
 
-pub marked-judged : (i : Input) (leader : ℕ) (b : Book) → unmarkedOf (markedIn i leader b) ≡ unmarkedOf b
-unfolding markedIn
-marked-judged i leader b = by-judged (i .point) b (beforeIn i leader)
-
--- ---- the book after an offer, and after all of them
-
-answer-stands : (i : Input) (leader : ℕ) (b : Book) (bytes : List ℕ) → readPoint bytes ≡ some (i .point) → inDomain (i .point) ≡ true →
-    (k : Kept) → List·Memᴰ k (leftFrom bytes (i .point) (answerIn i leader b)) → Stands (i .settings) (markedIn i leader b) (k .point) (k .status)
-unfolding answerIn beforeIn before inDomain
-answer-stands i leader b bytes read domain =
-    let four : 4 ≤ i .point .id .round = leb-true _ _ (and-left (leb 4 (i .point .id .round)) _ domain) in
-    each-before (i .settings) (i .schedule) (markedIn i leader b) bytes (i .point) (readable bytes (i .point) read .includes .rise) (omega arith)
-    (verify (i .settings) (i .schedule) (i .point)) refl (eqb (i .point .id .round) (i .settings .genesisRound)) refl (waveChecked (i .schedule) (eqb leader 1) (i .point))
-
-offer-stands : (c : Settings) (len : ℕ) (b : Book) (o : Offer) → AllStand c b → AllStand c (offer c len b o .book)
-unfolding offer offerWith
-offer-stands c len b o all = go (offerTested c len b o) refl
-  where
-    go : (t : Tested) → offerTested c len b o ≡ t → AllStand c (offerWith b o t .book)
-    go (refused n) h = all
-    go (admitted i) h =
-        let w = accepted c len b o i h in
-        all-stand-append c (markedIn i (o .leader) b) (leftFrom (o .bytes) (i .point) (answerIn i (o .leader) b))
-        (all-stand-marked c b (markedIn i (o .leader) b) (sym (marked-judged i (o .leader) b)) all)
-        (λ k m. subst (λ (x : Settings). Stands x (markedIn i (o .leader) b) (k .point) (k .status)) (w .settings)
-        (answer-stands i (o .leader) b (o .bytes) (w .read) (w .domain) k m))
-
-pub after-stands : (c : Settings) (len : ℕ) (b : Book) (l : List Offer) → AllStand c b → AllStand c (after c len b l)
-unfolding after
-after-stands c len b [] all = all
-after-stands c len b (o ∷ l) all = after-stands c len (offer c len b o .book) l (offer-stands c len b o all)
+pub offer-stands : (z : Opened) (o : Offer) → AllStand (z .settings) (z .book) → AllStand (z .settings) (offer z o .after .book)
+offer-stands z o all =
+    offer-cases z o (λ x. AllStand (z .settings) (x .after .book)) (λ n h. all) (λ i h n e. all)
+    (λ i h v e. (let w = accepted z o i h in
+    all-stand-append (z .settings) (markedIn z i (o .leader)) (leftBy (o .bytes) (i .point) v)
+    (marked-stands z i (o .leader) (z .settings) all)
+    (subst (λ (c : Settings). Each c (markedIn z i (o .leader)) (leftBy (o .bytes) (i .point) v)) (w .settings)
+    (subst (λ (a : JudgeAnswer). Each (i .settings) (markedIn z i (o .leader)) (leftFrom (o .bytes) (i .point) a)) e
+    (answer-stands z i (o .leader) (o .bytes) (w .read) (w .domain))))))
 
 pub empty-stands : (c : Settings) → AllStand c []
 empty-stands c k m = absurd (List·Memᴰ·not-nil m)

@@ -1,16 +1,14 @@
--- Offers keep a book's shape. Over a book of that shape an offer's answer is never the number 1 nor one of 7 to 10, and a number leaves
--- the book as it was.
+-- One offer: what is so of every offer that is judged, which numbers can come, and that an offer keeps a book's shape and its room.
 use Prim.Native.Nat.{ℕ, _+_, _-_, _≤_, _<_}
 use native.Mathlib.Omega.{arith}
-use mathlib.Core.Path.{_≡_, refl, ap, sym, _∙_, subst}
+use mathlib.Core.Path.{_≡_, refl, ap, _∙_, subst}
 use mathlib.Core.Logic.{inl, inr}
-use mathlib.Core.Bool.{Bool, true, false, not, _&&_}
+use mathlib.Core.Bool.{Bool, true, false, not, _&&_, and-true}
 use mathlib.Core.Option.{Option, none, some}
 use mathlib.Core.List.{List, [], _∷_, _++_, append-nil}
 use lib.ListN.{length}
 use lib.Dec.{leb, ltb, eqb}
 use borrow.Author.Tests.{leb-true, le-leb, leb-false, ltb-false}
-use Rattle.rules.specs.Validate.{ofResult}
 use Rattle.base.specs.Base.{pick, isSome}
 use Rattle.base.proofs.Bool.{and-right, or-left, or-right, and-both}
 use Rattle.base.proofs.Option.{unfound}
@@ -18,7 +16,7 @@ use Rattle.base.proofs.Impossible.{impossible}
 use Rattle.parts.specs.Bytes.{Bytes}
 use Rattle.point.specs.Point.{PointId, PointInfo, prevId, inDomain}
 use Rattle.point.specs.Reading.{readPoint}
-use Rattle.schedule.specs.Settings.{Settings}
+use Rattle.schedule.specs.Settings.{Settings, readSettings}
 use Rattle.schedule.specs.Schedule.{Schedule, readSchedule}
 use Rattle.reasons.specs.IllFormed.{illFormedNumber}
 use Rattle.reasons.specs.Invalid.{InvalidReason, NoRoundInDag, DependencyRoundDropped, NotTrigger, TerminalTriggerBeforeLastProof, TimeNotGreaterThanInPrevPoint, AnchorProofDoesntInheritAnchorTime, AnchorTimeNotInheritedFromProof, MustHaveReferencedPrevPoint, MustHaveSkippedRound, DependencyTimeTooFarInFuture, NewerAnchorInDependency, AnchorLink, AnchorLinkRole, AnchorLinkBadPath, BadStickySequence, TriggerProofMismatch, DepIllFormed, DepNotFound, InvalidDependency, invalidNumber, dagRound}
@@ -29,32 +27,36 @@ use Rattle.reasons.specs.declared.ill_formed.VerifyError.the-variants as case-e
 use Rattle.reasons.specs.Verdict as verdict
 use Rattle.reasons.specs.Verdict.{Verdict}
 use Rattle.rules.specs.Verify.{verify}
-use Rattle.rules.specs.Judge.{Input, Tested, refused, admitted, testedWith, JudgeAnswer, Number, Given, Before, answered, needed, beforeWith, before}
+use Rattle.rules.specs.Judge.{Input, Tested, refused, admitted, testedWith, tested, JudgeAnswer, Number, Given, Before, answered, needed, beforeWith, before}
 use Rattle.rules.specs.CheckIllFormed.{waveChecked}
 use Rattle.reasons.specs.declared.ill_formed.WaveChecked.{WaveChecked}
 use Rattle.reasons.specs.declared.ill_formed.WaveChecked.the-variants as case-wave
 use Rattle.rules.specs.List.{isListable}
-use Rattle.books.specs.Kept.{Status, Valid, TransInvalid, Invalid, IllFormed, Book, findKept, markPrev}
+use Rattle.rules.specs.Mismatch.{isId}
+use Rattle.books.specs.Kept.{Status, Valid, TransInvalid, Invalid, IllFormed, Book, findKept, mark, Opened, withEntries}
 use Rattle.books.specs.Lists.{directList, indirectList}
-use Rattle.books.specs.Offer.{AreBytes, Offer, used, isFull, testedRoom, offerTested, markedBy, answerWith, keptAs, leftFrom, beforeIn, markedIn, answerIn, offerWith, offer, after}
+use Rattle.books.specs.Offer.{Offer, Result, startIn, used, isFull, testedRoom, inputTested, offerTested, markedBy, answerWith, keptAs, leftBy, beforeIn, markedIn, answerIn, numbered, judgedAs, offerWith, offer}
 use Rattle.books.specs.Calls.{IsOfferNumber}
+use Rattle.books.specs.FoundBook.{testedAs}
 use Rattle.books.proofs.Fits.{point-fits}
 use Rattle.books.proofs.Named.{listable}
 use Rattle.books.proofs.Roots.{Recorded, reason-fits, validated}
 use Rattle.books.proofs.Bytes.{used-append, mark-used}
-use Rattle.books.proofs.Shape.{StatusShape, Shape, prev-found, prev-length, prev-shape, append-shape, direct-rooted, indirect-rooted, whole}
+use Rattle.books.proofs.Shape.{StatusShape, Shape, mark-length, mark-shape, append-shape, direct-rooted, indirect-rooted, whole}
+use Rattle.books.proofs.Find.{marked-found}
 
 -- ---- the tests before judging
 
 -- what an offer gives that is judged
-pub record Accepted (c : Settings) (len : ℕ) (b : Book) (o : Offer) (i : Input) : Type 0 where
-  pub settings : i .settings ≡ c
+pub record Accepted (z : Opened) (o : Offer) (i : Input) : Type 0 where
+  pub input : inputTested (z .settings) o ≡ admitted i
+  pub settings : i .settings ≡ z .settings
   pub schedule : readSchedule (o .schedule) ≡ some (i .schedule)
   pub read : readPoint (o .bytes) ≡ some (i .point)
   pub domain : inDomain (i .point) ≡ true
-  pub new : findKept b (i .point .id) ≡ none
-  pub few : length b < 4096
-  pub room : length (o .bytes) + 108 ≤ len - 47 - used b
+  pub new : findKept (z .book) (i .point .id) ≡ none
+  pub few : length (z .book) < 4096
+  pub room : length (o .bytes) + 108 ≤ z .length - startIn z - used (z .book)
 
 with-taken : (c : Settings) (s : Option Schedule) (p : Option PointInfo) (others : Bool) (size : ℕ) (i : Input) → testedWith (some c) s p others size ≡ admitted i →
     (i .settings ≡ c) × (s ≡ some (i .schedule)) × (p ≡ some (i .point)) × (inDomain (i .point) ≡ true)
@@ -74,33 +76,58 @@ with-taken c (some s) (some p) others size i h = go (inDomain p) refl others (lt
     go true e false u k = impossible (cc)
     go false e t u k = impossible (cc)
 
-room-taken : (len : ℕ) (b : Book) (bytes : List ℕ) (t : Tested) (i : Input) → testedRoom len b bytes t ≡ admitted i →
-    (t ≡ admitted i) × (isSome (findKept b (i .point .id)) ≡ false) × (isFull len b bytes ≡ false)
-room-taken len b bytes (refused n) i h = impossible (cc)
-room-taken len b bytes (admitted j) i h = go (isSome (findKept b (j .point .id))) refl (isFull len b bytes) refl h
+room-taken : (z : Opened) (bytes : List ℕ) (t : Tested) (i : Input) → testedRoom z bytes t ≡ admitted i →
+    (t ≡ admitted i) × (isSome (findKept (z .book) (i .point .id)) ≡ false) × (isFull z bytes ≡ false)
+room-taken z bytes (refused n) i h = impossible (cc)
+room-taken z bytes (admitted j) i h = go (isSome (findKept (z .book) (j .point .id))) refl (isFull z bytes) refl h
   where
-    go : (x : Bool) → isSome (findKept b (j .point .id)) ≡ x → (y : Bool) → isFull len b bytes ≡ y → pick x (refused 11) (pick y (refused 12) (admitted j)) ≡ admitted i →
-        (admitted j ≡ admitted i) × (isSome (findKept b (i .point .id)) ≡ false) × (isFull len b bytes ≡ false)
+    go : (x : Bool) → isSome (findKept (z .book) (j .point .id)) ≡ x → (y : Bool) → isFull z bytes ≡ y → pick x (refused 11) (pick y (refused 12) (admitted j)) ≡ admitted i →
+        (admitted j ≡ admitted i) × (isSome (findKept (z .book) (i .point .id)) ≡ false) × (isFull z bytes ≡ false)
     go true e y f k = impossible (cc)
     go false e true f k = impossible (cc)
     go false e false f k =
-        let g : j ≡ i = cc in (k, subst (λ (x : Input). isSome (findKept b (x .point .id)) ≡ false) g e, f)
+        let g : j ≡ i = cc in (k, subst (λ (x : Input). isSome (findKept (z .book) (x .point .id)) ≡ false) g e, f)
 
-module _ (c : Settings) (len : ℕ) (b : Book) (o : Offer) where
-  pub accepted : (i : Input) → offerTested c len b o ≡ admitted i → Accepted c len b o i
+module _ (z : Opened) (o : Offer) where
+  pub accepted : (i : Input) → offerTested z o ≡ admitted i → Accepted z o i
   unfolding offerTested isFull
   accepted i h =
-      let r = room-taken len b (o .bytes) (testedWith (some c) (readSchedule (o .schedule)) (readPoint (o .bytes)) (leb (o .leader) 1) (length (o .peers))) i h in
-      let w = with-taken c (readSchedule (o .schedule)) (readPoint (o .bytes)) (leb (o .leader) 1) (length (o .peers)) i (r .0) in
+      let r = room-taken z (o .bytes) (inputTested (z .settings) o) i h in
+      let w = with-taken (z .settings) (readSchedule (o .schedule)) (readPoint (o .bytes)) (leb (o .leader) 1) (length (o .peers)) i (r .0) in
       record {
+        input = r .0;
         settings = w .0;
         schedule = w .1;
         read = w .2;
         domain = w .3;
-        new = unfound (findKept b (i .point .id)) (r .1);
-        few = leb-false 4096 (length b) (or-left (leb 4096 (length b)) _ (r .2));
-        room = ltb-false (len - 47 - used b) (length (o .bytes) + 108) (or-right (leb 4096 (length b)) _ (r .2));
+        new = unfound (findKept (z .book) (i .point .id)) (r .1);
+        few = leb-false 4096 (length (z .book)) (or-left (leb 4096 (length (z .book))) _ (r .2));
+        room = ltb-false (z .length - startIn z - used (z .book)) (length (o .bytes) + 108) (or-right (leb 4096 (length (z .book))) _ (r .2));
       }
+
+-- what is so of an offer that is refused, of a number that judging gives and of each verdict, is so of an offer
+pub offer-cases : (z : Opened) (o : Offer) (P : Result Opened → Type 0) →
+    ((n : ℕ) → offerTested z o ≡ refused n → P (numbered z o n)) →
+    ((i : Input) → offerTested z o ≡ admitted i → (n : ℕ) → answerIn z i (o .leader) ≡ Number n → P (numbered z o n)) →
+    ((i : Input) → offerTested z o ≡ admitted i → (v : Verdict) → answerIn z i (o .leader) ≡ Given v → P (judgedAs z o i (Given v))) →
+    P (offer z o)
+unfolding offer offerWith
+offer-cases z o P refusal number given = go (offerTested z o) refl
+  where
+    judged : (i : Input) → offerTested z o ≡ admitted i → (a : JudgeAnswer) → answerIn z i (o .leader) ≡ a → P (judgedAs z o i a)
+    judged i h (Number n) e = number i h n e
+    judged i h (Given v) e = given i h v e
+
+    go : (t : Tested) → offerTested z o ≡ t → P (offerWith z o t)
+    go (refused n) h = refusal n h
+    go (admitted i) h = judged i h (answerIn z i (o .leader)) refl
+
+-- ---- the numbers
+
+-- the tests of a call with the book's settings are the book's
+pub same-tests : (z : Opened) (o : Offer) → readSettings (z .bytes) ≡ some (z .settings) → testedAs (z .bytes) o ≡ inputTested (z .settings) o
+unfolding tested
+same-tests z o s = rw (s, and-true (leb (o .leader) 1))
 
 abbrev Refusal : Tested → Type 0
 Refusal (refused n) = IsOfferNumber n
@@ -116,22 +143,20 @@ with-refusal c (some s) (some p) others size = go (not (inDomain p && others)) (
     go false true = inl (omega arith, omega arith)
     go false false = tt
 
-room-refusal : (len : ℕ) (b : Book) (bytes : List ℕ) (t : Tested) → Refusal t → Refusal (testedRoom len b bytes t)
-room-refusal len b bytes (refused n) h = h
-room-refusal len b bytes (admitted i) h = go (isSome (findKept b (i .point .id))) (isFull len b bytes)
+room-refusal : (z : Opened) (bytes : List ℕ) (t : Tested) → Refusal t → Refusal (testedRoom z bytes t)
+room-refusal z bytes (refused n) h = h
+room-refusal z bytes (admitted i) h = go (isSome (findKept (z .book) (i .point .id))) (isFull z bytes)
   where
     go : (x y : Bool) → Refusal (pick x (refused 11) (pick y (refused 12) (admitted i)))
     go true y = inr (omega arith, omega arith)
     go false true = inr (omega arith, omega arith)
     go false false = tt
 
-tested-refusal : (c : Settings) (len : ℕ) (b : Book) (o : Offer) → Refusal (offerTested c len b o)
+tested-refusal : (z : Opened) (o : Offer) → Refusal (offerTested z o)
 unfolding offerTested
-tested-refusal c len b o =
-    room-refusal len b (o .bytes) (testedWith (some c) (readSchedule (o .schedule)) (readPoint (o .bytes)) (leb (o .leader) 1) (length (o .peers)))
-    (with-refusal c (readSchedule (o .schedule)) (readPoint (o .bytes)) (leb (o .leader) 1) (length (o .peers)))
-
--- ---- the numbers
+tested-refusal z o =
+    room-refusal z (o .bytes) (inputTested (z .settings) o)
+    (with-refusal (z .settings) (readSchedule (o .schedule)) (readPoint (o .bytes)) (leb (o .leader) 1) (length (o .peers)))
 
 -- before any list is built, 6 is the only number
 abbrev OnlySix : JudgeAnswer → Type 0
@@ -154,32 +179,42 @@ before-six c s leader p = go (verify c s p) (eqb (p .id .round) (c .genesisRound
     go none false (case-wave.Sound required) = tt
 
 module _ (c : Settings) (bytes : List ℕ) (p : PointInfo) (b : Book) (h : Shape b) (r : readPoint bytes ≡ some p) (d : inDomain p ≡ true) where
-  number-with : (x : Before) → BeforeSix x → (n : ℕ) → answerWith c p (markedBy p b x) x ≡ Number n →
-      (n ≡ 6) × (markedBy p b x ++ leftFrom bytes p (answerWith c p (markedBy p b x) x) ≡ b)
-  number-with (answered (Number m)) s n e = let f : m ≡ n = cc in (sym f ∙ s, append-nil b)
-  number-with (answered (Given v)) s n e = impossible (cc)
-  number-with (needed required) s n e = let w = whole c required bytes p b h r d in impossible (cc)
+  number-with : (x : Before) (n : ℕ) → answerWith c 3 p (markedBy p b x) x ≡ Number n → x ≡ answered (Number n)
+  number-with (answered a) n e = ap answered e
+  number-with (needed required) n e = let w = whole c required bytes p b h r d in impossible (cc)
 
-module _ (c : Settings) (len : ℕ) (b : Book) (o : Offer) (h : Shape b) where
-  -- an offer that gets a number: which one, and that it leaves the book as it was
-  pub number-kept : (n : ℕ) → offer c len b o .answer ≡ Number n → IsOfferNumber n × (offer c len b o .book ≡ b)
-  unfolding offer
-  number-kept n e = go (offerTested c len b o) refl (tested-refusal c len b o) e
-    where
-      go : (t : Tested) → offerTested c len b o ≡ t → Refusal t → offerWith b o t .answer ≡ Number n → IsOfferNumber n × (offerWith b o t .book ≡ b)
-      go (refused m) q s k = unfold offerWith in (let f : m ≡ n = cc in (subst IsOfferNumber f s, refl))
-      go (admitted i) q s k =
-          unfold offerWith answerIn markedIn beforeIn in
-          (let a = accepted c len b o i q in
-          let w = number-with (i .settings) (o .bytes) (i .point) b h (a .read) (a .domain) (before (i .settings) (i .schedule) (eqb (o .leader) 1) (i .point))
-          (before-six (i .settings) (i .schedule) (eqb (o .leader) 1) (i .point)) n k in
-          let six = w .0 in (inl (omega arith, omega arith), w .1))
+pub number-of : (n m : ℕ) → Number m ≡ Number n → m ≡ n
+number-of n m e = cc
 
-  pub numbers : (n : ℕ) → offer c len b o .answer ≡ Number n → IsOfferNumber n
-  numbers n e = number-kept n e .0
+module _ (z : Opened) (o : Offer) where
+  -- over a book of that shape the numbers 7 to 9 never come: a number of judging comes before any list is built
+  pub number-before : Shape (z .book) → (i : Input) → offerTested z o ≡ admitted i → (n : ℕ) → answerIn z i (o .leader) ≡ Number n →
+      beforeIn i (o .leader) ≡ answered (Number n)
+  unfolding answerIn markedIn
+  number-before h i q n e =
+      let a = accepted z o i q in number-with (i .settings) (o .bytes) (i .point) (z .book) h (a .read) (a .domain) (beforeIn i (o .leader)) n e
 
-  pub kept-by-number : (n : ℕ) → offer c len b o .answer ≡ Number n → offer c len b o .book ≡ b
-  kept-by-number n e = number-kept n e .1
+  -- so it is 6
+  pub number-six : Shape (z .book) → (i : Input) → offerTested z o ≡ admitted i → (n : ℕ) → answerIn z i (o .leader) ≡ Number n → n ≡ 6
+  number-six h i q n e = subst BeforeSix (number-before h i q n e) (unfold beforeIn in before-six (i .settings) (i .schedule) (eqb (o .leader) 1) (i .point))
+
+  -- the numbers 1 and 10 never come either
+  pub numbers : Shape (z .book) → (n : ℕ) → offer z o .answer ≡ Number n → IsOfferNumber n
+  numbers h =
+      offer-cases z o (λ x. (n : ℕ) → x .answer ≡ Number n → IsOfferNumber n)
+      (λ m q n e. subst IsOfferNumber (number-of n m e) (subst Refusal q (tested-refusal z o)))
+      (λ i q m f n e. (let six = number-six h i q m f in let same = number-of n m e in inl (omega arith, omega arith)))
+      (λ i q v f n e. impossible (cc))
+
+  -- "with all lent bytes unchanged"
+  pub number-unchanged : (n : ℕ) → offer z o .answer ≡ Number n → (offer z o .after ≡ z) × (offer z o .peers ≡ o .peers)
+  number-unchanged =
+      offer-cases z o (λ x. (n : ℕ) → x .answer ≡ Number n → (x .after ≡ z) × (x .peers ≡ o .peers))
+      (λ m q n e. (refl, refl)) (λ i q m f n e. (refl, refl)) (λ i q v f n e. impossible (cc))
+
+  -- an offer changes entries alone
+  pub offer-within : offer z o .after ≡ withEntries z (offer z o .after .book)
+  offer-within = offer-cases z o (λ x. x .after ≡ withEntries z (x .after .book)) (λ n q. refl) (λ i q n f. refl) (λ i q v f. refl)
 
 -- ---- the verdict is one that the book may keep of the point
 
@@ -276,101 +311,81 @@ module _ (p : PointInfo) where
 -- ---- an offer keeps the shape
 
 module _ (bytes : List ℕ) (p : PointInfo) (b : Book) (h : Shape b) (by : Bytes bytes) (r : readPoint bytes ≡ some p) (d : inDomain p ≡ true) where
-  answer-shape : (c : Settings) (x : Before) → BeforeShape p x → AnswerShape p (answerWith c p (markedBy p b x) x)
+  answer-shape : (c : Settings) (x : Before) → BeforeShape p x → AnswerShape p (answerWith c 3 p (markedBy p b x) x)
   answer-shape c (answered a) s = s
   answer-shape c (needed required) l =
-      let b′ : Book = markPrev (prevId p) b in
-      let s : Shape b′ = prev-shape (prevId p) b h in
+      let marked : Book = mark (isId (prevId p)) b in
+      let s : Shape marked = mark-shape (isId (prevId p)) b h in
       rw (whole c required bytes p b h r d)
-      (validated (λ z. VerdictShape p (ofResult z)) (invalid-shape p l) (trans-invalid-shape p l) (valid-shape p l)
-      c required p (directList b′ p) (indirectList b′ p) (point-fits bytes p by r) (direct-rooted b′ p s) (indirect-rooted b′ p s) 3)
+      (validated (VerdictShape p) (invalid-shape p l) (trans-invalid-shape p l) (valid-shape p l)
+      c required p (directList marked p) (indirectList marked p) (point-fits bytes p by r) (direct-rooted marked p s) (indirect-rooted marked p s) 3)
 
   module _ (new : findKept b (p .id) ≡ none) (few : length b < 4096) where
     left-entry : (x : Status) → StatusShape p x → Shape (b ++ (keptAs bytes p x ∷ []))
     left-entry x s = append-shape b (keptAs bytes p x) h (record { bytes = by; read = r; domain = d; status = s }) new few
 
-    left-shape : (a : JudgeAnswer) → AnswerShape p a → Shape (b ++ leftFrom bytes p a)
-    left-shape (Number n) s = rw (append-nil b) h
-    left-shape (Given (verdict.Fail u)) s = rw (append-nil b) h
-    left-shape (Given (verdict.IllFormed x)) s = left-entry (IllFormed (illFormedNumber x)) s
-    left-shape (Given (verdict.Invalid x)) s = left-entry (Invalid (invalidNumber x)) s
-    left-shape (Given (verdict.TransInvalid x)) s = left-entry (TransInvalid x) s
-    left-shape (Given verdict.Valid) s = left-entry Valid s
+    left-shape : (v : Verdict) → VerdictShape p v → Shape (b ++ leftBy bytes p v)
+    left-shape (verdict.Fail u) s = rw (append-nil b) h
+    left-shape (verdict.IllFormed x) s = left-entry (IllFormed (illFormedNumber x)) s
+    left-shape (verdict.Invalid x) s = left-entry (Invalid (invalidNumber x)) s
+    left-shape (verdict.TransInvalid x) s = left-entry (TransInvalid x) s
+    left-shape verdict.Valid s = left-entry Valid s
 
 -- marks change neither the ids nor how many entries there are
 module _ (p : PointInfo) (b : Book) where
   marked-shape : (x : Before) → Shape b → Shape (markedBy p b x)
   marked-shape (answered a) h = h
-  marked-shape (needed required) h = prev-shape (prevId p) b h
+  marked-shape (needed required) h = mark-shape (isId (prevId p)) b h
 
   marked-new : (x : Before) (i : PointId) → findKept b i ≡ none → findKept (markedBy p b x) i ≡ none
   marked-new (answered a) i h = h
-  marked-new (needed required) i h = unfound (findKept (markPrev (prevId p) b) i) (prev-found (prevId p) b i ∙ ap isSome h)
+  marked-new (needed required) i h = unfound (findKept (mark (isId (prevId p)) b) i) (marked-found (isId (prevId p)) b i ∙ ap isSome h)
 
   marked-length : (x : Before) → length (markedBy p b x) ≡ length b
   marked-length (answered a) = refl
-  marked-length (needed required) = prev-length (prevId p) b
+  marked-length (needed required) = mark-length (isId (prevId p)) b
 
-module _ (c : Settings) (len : ℕ) (b : Book) (o : Offer) where
-  pub offer-shape : Bytes (o .bytes) → Shape b → Shape (offer c len b o .book)
-  unfolding offer
-  offer-shape by h = go (offerTested c len b o) refl
-    where
-      go : (t : Tested) → offerTested c len b o ≡ t → Shape (offerWith b o t .book)
-      go (refused n) q = unfold offerWith in h
-      go (admitted i) q =
-          unfold offerWith answerIn markedIn beforeIn in
-          (let a = accepted c len b o i q in
-          let p : PointInfo = i .point in
-          let x : Before = before (i .settings) (i .schedule) (eqb (o .leader) 1) p in
-          left-shape (o .bytes) p (markedBy p b x) (marked-shape p b x h) by (a .read) (a .domain) (marked-new p b x (p .id) (a .new)) (rw (marked-length p b x) (a .few))
-          (answerWith (i .settings) p (markedBy p b x) x)
-          (answer-shape (o .bytes) p b h by (a .read) (a .domain) (i .settings) x (before-shape p (i .settings) (i .schedule) (eqb (o .leader) 1) (a .domain))))
+  pub marked-used : (x : Before) → used (markedBy p b x) ≡ used b
+  marked-used (answered a) = refl
+  marked-used (needed required) = mark-used (isId (prevId p)) b
 
-pub after-shape : (c : Settings) (len : ℕ) (b : Book) (l : List Offer) → AreBytes l → Shape b → Shape (after c len b l)
-unfolding after
-after-shape c len b [] w h = h
-after-shape c len b (o ∷ l) w h = after-shape c len (offer c len b o .book) l (w .1) (offer-shape c len b o (w .0) h)
-
--- ---- the entries fit the slice after the settings
-
-pub marked-used : (p : PointInfo) (b : Book) (x : Before) → used (markedBy p b x) ≡ used b
-marked-used p b (answered a) = refl
-marked-used p b (needed required) = go (prevId p)
-  where
-    go : (o : Option PointId) → used (markPrev o b) ≡ used b
-    go none = refl
-    go (some i) = mark-used i b
-
-left-used : (bytes : List ℕ) (p : PointInfo) (a : JudgeAnswer) → used (leftFrom bytes p a) ≤ length bytes + 108
+left-used : (bytes : List ℕ) (p : PointInfo) (v : Verdict) → used (leftBy bytes p v) ≤ length bytes + 108
 unfolding used
-left-used bytes p (Number n) = omega arith
-left-used bytes p (Given (verdict.Fail u)) = omega arith
-left-used bytes p (Given (verdict.IllFormed r)) = omega arith
-left-used bytes p (Given (verdict.Invalid r)) = omega arith
-left-used bytes p (Given (verdict.TransInvalid d)) = omega arith
-left-used bytes p (Given verdict.Valid) = omega arith
+left-used bytes p (verdict.Fail u) = omega arith
+left-used bytes p (verdict.IllFormed r) = omega arith
+left-used bytes p (verdict.Invalid r) = omega arith
+left-used bytes p (verdict.TransInvalid d) = omega arith
+left-used bytes p verdict.Valid = omega arith
 
-module _ (c : Settings) (len : ℕ) (b : Book) (o : Offer) where
-  pub offer-room : 47 + used b ≤ len → 47 + used (offer c len b o .book) ≤ len
-  unfolding offer
-  offer-room h = go (offerTested c len b o) refl
-    where
-      go : (t : Tested) → offerTested c len b o ≡ t → 47 + used (offerWith b o t .book) ≤ len
-      go (refused n) q = unfold offerWith in h
-      go (admitted i) q =
-          unfold offerWith markedIn in
-          (let x : Before = beforeIn i (o .leader) in
-          let a : JudgeAnswer = answerIn i (o .leader) b in
-          omega (
-            arith,
-            accepted c len b o i q .room,
-            used-append (markedBy (i .point) b x) (leftFrom (o .bytes) (i .point) a),
-            marked-used (i .point) b x,
-            left-used (o .bytes) (i .point) a,
-          ))
+module _ (z : Opened) (o : Offer) where
+  given-shape : Bytes (o .bytes) → Shape (z .book) → (i : Input) → offerTested z o ≡ admitted i → (v : Verdict) → answerIn z i (o .leader) ≡ Given v →
+      Shape (judgedAs z o i (Given v) .after .book)
+  unfolding answerIn markedIn beforeIn
+  given-shape by h i q v e =
+      let a = accepted z o i q in
+      let p : PointInfo = i .point in
+      let x : Before = before (i .settings) (i .schedule) (eqb (o .leader) 1) p in
+      left-shape (o .bytes) p (markedBy p (z .book) x) (marked-shape p (z .book) x h) by (a .read) (a .domain)
+      (marked-new p (z .book) x (p .id) (a .new)) (rw (marked-length p (z .book) x) (a .few)) v
+      (subst (AnswerShape p) e
+      (answer-shape (o .bytes) p (z .book) h by (a .read) (a .domain) (i .settings) x (before-shape p (i .settings) (i .schedule) (eqb (o .leader) 1) (a .domain))))
 
-pub after-room : (c : Settings) (len : ℕ) (b : Book) (l : List Offer) → 47 + used b ≤ len → 47 + used (after c len b l) ≤ len
-unfolding after
-after-room c len b [] h = h
-after-room c len b (o ∷ l) h = after-room c len (offer c len b o .book) l (offer-room c len b o h)
+  pub offer-shape : Bytes (o .bytes) → Shape (z .book) → Shape (offer z o .after .book)
+  offer-shape by h = offer-cases z o (λ x. Shape (x .after .book)) (λ n q. h) (λ i q n e. h) (given-shape by h)
+
+  -- the entries fit the slice after the settings
+  given-room : (i : Input) → offerTested z o ≡ admitted i → (v : Verdict) → startIn z + used (z .book) ≤ z .length →
+      startIn z + used (judgedAs z o i (Given v) .after .book) ≤ z .length
+  unfolding markedIn
+  given-room i q v h =
+      let x : Before = beforeIn i (o .leader) in
+      omega (
+        arith,
+        accepted z o i q .room,
+        used-append (markedBy (i .point) (z .book) x) (leftBy (o .bytes) (i .point) v),
+        marked-used (i .point) (z .book) x,
+        left-used (o .bytes) (i .point) v,
+      )
+
+  pub offer-room : startIn z + used (z .book) ≤ z .length → startIn z + used (offer z o .after .book) ≤ z .length
+  offer-room h = offer-cases z o (λ x. startIn z + used (x .after .book) ≤ z .length) (λ n q. h) (λ i q n e. h) (λ i q v e. given-room i q v h)

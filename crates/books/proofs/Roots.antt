@@ -2,24 +2,28 @@
 use Prim.Native.Nat.{ℕ, _+_, _-_, _^_, _≤_, _<_}
 use native.Mathlib.Omega.{arith}
 use native.Mathlib.Decide.{decLt}
-use mathlib.Core.Path.{_≡_}
+use mathlib.Core.Path.{_≡_, ap, subst}
+use mathlib.Core.Logic.{_⊎_, inl, inr}
 use mathlib.Core.Bool.{Bool, true, false, _||_}
 use mathlib.Core.Option.{Option, none, some}
-use mathlib.Core.List.{List, [], _∷_}
+use mathlib.Core.List.{List, [], _∷_, List·Memᴰ, List·Memᴰ·head, List·Memᴰ·tail, List·Memᴰ·not-nil, List·Memᴰ·cases-cons}
 use lib.Dec.{leb, eqb}
-use Rattle.base.specs.Base.{pick, lastOf, isSome, isEmpty}
+use Rattle.base.specs.Base.{pick, isSome}
 use Rattle.base.proofs.Impossible.{impossible}
 use Rattle.point.specs.Point.{PointId, Through, Includes, Witness, PointInfo, throughPeer, through, anchorLink}
 use Rattle.point.specs.declared.data.AnchorStageRole.{AnchorStageRole}
 use Rattle.point.specs.declared.data.AnchorStageRole.the-variants.{Proof, Trigger}
 use Rattle.schedule.specs.Settings.{Settings}
 use Rattle.reasons.specs.Invalid.{InvalidReason, InvalidDependency, dagRound}
+use Rattle.reasons.specs.Verdict as verdict
+use Rattle.reasons.specs.Verdict.{Verdict}
 use Rattle.reasons.proofs.Laws.{no-reason-above}
-use Rattle.rules.specs.DagPoint.{DagPoint, Valid, TransInvalid, Invalid, IllFormed, NotFound, Dropped, Entry, IndirectEntry, entryId, isDropped, PointView, pointView}
-use Rattle.rules.specs.Validate.{Taken, asDependency, asPrevPoint, asVersion, aside, taken, directTrail, indirectTrail, recordOf, isNewer, join, directThrough, recordAs, entryRecord, directRecord, indirectRecord, ValidateResult, isInvalid, isTransInvalid, isValid, resultWith, overLists, presenceReason, validateWith, validate}
+use Rattle.rules.specs.DagPoint.{DagPoint, Valid, TransInvalid, Invalid, IllFormed, NotFound, Dropped, Entry, IndirectEntry, entryId}
+use Rattle.rules.specs.Validate.{recordOf, directThrough, validate}
+use Rattle.rules.proofs.Records.{IsRoot, validate-cases}
 use Rattle.rules.specs.Mismatch.{entriesIn}
 use Rattle.books.proofs.Fits.{IdFits, PointFits}
-use Rattle.books.proofs.Clear.{All}
+use Rattle.books.proofs.Clear.{All, all-member}
 
 -- the id of a root cause, and its reason's number
 pub record Root (i : PointId) (n : ℕ) : Type 0 where
@@ -40,7 +44,7 @@ pub record Recorded (d : InvalidDependency) : Type 0 where
   pub root : Root (d .to) (d .reason)
   pub through : throughPeer (d .through) < 256 ^ 32
 
-abbrev pub MayRecord : Option InvalidDependency → Type 0
+abbrev MayRecord : Option InvalidDependency → Type 0
 MayRecord none = Unit
 MayRecord (some d) = Recorded d
 
@@ -55,16 +59,6 @@ Rooted Dropped = Unit
 
 abbrev pub RootedEntry : Entry → Type 0
 RootedEntry e = Rooted (e .state)
-
-join-recorded : (a b : Option InvalidDependency) → MayRecord a → MayRecord b → MayRecord (join a b)
-unfolding join
-join-recorded none b x y = y
-join-recorded (some a) none x y = x
-join-recorded (some a) (some b) x y = go (isNewer a b)
-  where
-    go : (t : Bool) → MayRecord (pick t (some b) (some a))
-    go true = y
-    go false = x
 
 unless-recorded : (t : Bool) (d : InvalidDependency) → Recorded d → MayRecord (pick t none (some d))
 unless-recorded true d h = tt
@@ -97,61 +91,30 @@ module _ (c : Settings) (round : ℕ) (certified : Bool) where
   direct-recorded (NotFound i) h = tt
   direct-recorded Dropped h = tt
 
-module _ (c : Settings) where
-  as-recorded : (round : ℕ) (w : Taken) (e : Entry) → Rooted (e .state) → MayRecord (recordAs c round w e)
-  as-recorded round asDependency e h = direct-recorded c round (e .certified) (e .state) h
-  as-recorded round asPrevPoint e h = direct-recorded c round (e .certified) (e .state) h
-  as-recorded round asVersion e h = tt
-  as-recorded round aside e h = tt
-
-  entry-recorded : (p : PointView) (e : Entry) → Rooted (e .state) → MayRecord (entryRecord c p e)
-  unfolding entryRecord
-  entry-recorded p e h = as-recorded (p .id .round) (taken p (entryId (e .state))) e h
-
-  pub direct-root : (p : PointView) (old : Option InvalidDependency) (es : List Entry) → MayRecord old → All RootedEntry es → MayRecord (directRecord c p old es)
-  unfolding directRecord
-  direct-root p old [] h f = h
-  direct-root p old (e ∷ l) h f =
-      go (isDropped (e .state)) (direct-root p (join old (entryRecord c p e)) l (join-recorded old (entryRecord c p e) h (entry-recorded p e (f .0))) (f .1))
-    where
-      go : (t : Bool) → MayRecord (directRecord c p (join old (entryRecord c p e)) l) → MayRecord (pick t old (directRecord c p (join old (entryRecord c p e)) l))
-      go true r = h
-      go false r = r
-
-  link-peer : (p : PointInfo) → PointFits p → (g : AnchorStageRole) → throughPeer (through (anchorLink g p)) < 256 ^ 32
-  link-peer p f Proof = f .proof
-  link-peer p f Trigger = f .trigger
-
-  pub indirect-root : (p : PointInfo) → PointFits p → (old : Option InvalidDependency) (ts : List IndirectEntry) → MayRecord old → All RootedEntry (entriesIn ts) →
-      MayRecord (indirectRecord c p old ts)
-  unfolding indirectRecord entriesIn
-  indirect-root p f old [] h g = h
-  indirect-root p f old (a ∷ l) h g =
-      let new : Option InvalidDependency = recordOf c (p .id .round) (a .entry .certified) (through (anchorLink (a .role) p)) (a .entry .state) in
-      indirect-root p f (join old new) l
-      (join-recorded old new h (of-recorded c (p .id .round) (a .entry .certified) (through (anchorLink (a .role) p)) (a .entry .state) (link-peer p f (a .role)) (g .0))) (g .1)
+link-peer : (p : PointInfo) → PointFits p → (g : AnchorStageRole) → throughPeer (through (anchorLink g p)) < 256 ^ 32
+link-peer p f Proof = f .proof
+link-peer p f Trigger = f .trigger
 
 -- ---- so of what judging gives
 
-module _ (P : ValidateResult → Type 0) (invalid : (r : InvalidReason) → P (isInvalid r)) (trans : (d : InvalidDependency) → Recorded d → P (isTransInvalid d)) (valid : P isValid) where
-  with-root : (o : Option InvalidReason) (d : Option InvalidDependency) → MayRecord d → P (resultWith o d)
-  with-root (some r) d h = invalid r
-  with-root none (some d) h = trans d h
-  with-root none none h = valid
+target-in : (ts : List IndirectEntry) (a : IndirectEntry) → List·Memᴰ a ts → List·Memᴰ (a .entry) (entriesIn ts)
+unfolding entriesIn
+target-in [] a m = absurd (List·Memᴰ·not-nil m)
+target-in (x ∷ l) a m = go (target-in l a) (List·Memᴰ·cases-cons m)
+  where
+    go : (List·Memᴰ a l → List·Memᴰ (a .entry) (entriesIn l)) → (a ≡ x) ⊎ List·Memᴰ a l → List·Memᴰ (a .entry) (x .entry ∷ entriesIn l)
+    go rec (inl q) = List·Memᴰ·head (ap (λ (y : IndirectEntry). y .entry) q)
+    go rec (inr n) = List·Memᴰ·tail (rec n)
 
+module _ (P : Verdict → Type 0) (invalid : (r : InvalidReason) → P (verdict.Invalid r)) (trans : (d : InvalidDependency) → Recorded d → P (verdict.TransInvalid d)) (valid : P verdict.Valid) where
   module _ (c : Settings) (required : Bool) (p : PointInfo) (es : List Entry) (ts : List IndirectEntry) (f : PointFits p)
       (g : All RootedEntry es) (h : All RootedEntry (entriesIn ts)) where
-    over-lists : P (overLists c required p es ts)
-    unfolding overLists
-    over-lists =
-        let direct : List InvalidReason = directTrail c required (pointView p) false es in
-        with-root (lastOf (pick (isEmpty direct) (indirectTrail c (pointView p) ts) direct)) (indirectRecord c p (directRecord c (pointView p) none es) ts)
-        (indirect-root c p f (directRecord c (pointView p) none es) ts (direct-root c (pointView p) none es tt g) h)
+    entry-root : (d : InvalidDependency) → IsRoot c p es ts d → Recorded d
+    entry-root d (inl (e, m, w, k)) = subst MayRecord k (direct-recorded c (p .id .round) (e .certified) (e .state) (all-member RootedEntry es g e m))
+    entry-root d (inr (a, m, k)) =
+        subst MayRecord k
+        (of-recorded c (p .id .round) (a .entry .certified) (through (anchorLink (a .role) p)) (a .entry .state) (link-peer p f (a .role))
+        (all-member RootedEntry (entriesIn ts) h (a .entry) (target-in ts a m)))
 
     pub validated : (presence : ℕ) → P (validate c required presence p es ts)
-    unfolding validate
-    validated presence = go (presenceReason presence p)
-      where
-        go : (o : Option InvalidReason) → P (validateWith o (overLists c required p es ts))
-        go (some r) = invalid r
-        go none = over-lists
+    validated presence = validate-cases c required presence p es ts P invalid (λ d w. trans d (entry-root d w)) valid

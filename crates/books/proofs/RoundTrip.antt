@@ -2,30 +2,32 @@
 -- entries and of a book.
 use Prim.Native.Nat.{ℕ, zero, suc, _+_, _-_, _^_, _≤_, _<_}
 use native.Mathlib.Omega.{arith}
-use mathlib.Core.Path.{_≡_, refl, ap, _∙_}
+use mathlib.Core.Path.{_≡_, refl, ap, _∙_, subst}
 use mathlib.Core.Bool.{Bool, true, false}
-use mathlib.Core.Option.{Option, none, some}
+use mathlib.Core.Option.{Option, none, some, Option·map}
 use mathlib.Core.List.{List, [], _∷_, _++_, List·Memᴰ, List·Memᴰ·head, List·Memᴰ·tail, append-assoc}
 use lib.ListN.{length, getD, take, drop, replicate, length-append, length-replicate}
 use lib.Seq.{take-append-seam, take-at, drop-at, drop-append-add, getD-append-seam}
 use lib.Dec.{leb, eqb}
 use borrow.Author.Tests.{le-leb, leb-true, eqb-true}
+use Rattle.base.specs.Base.{pick, andThen}
 use Rattle.base.proofs.Bool.{and-left, and-right, pick-true, pick-false}
 use Rattle.base.proofs.Option.{picked}
-use Rattle.parts.specs.Bytes.{little, littleAt, bigAt, idAt, bigBytes, littleBytes}
+use Rattle.parts.specs.Bytes.{little, littleAt, bigAt, bigBytes, littleBytes}
 use Rattle.record.specs.Record.{fieldRow, fieldOk, lengthAt, rowOf, rows, startOf, recordEnd, wellShaped}
 use Rattle.record.proofs.Laws.{append-end, field-last, front-field}
 use Rattle.write.proofs.Laws.{bytes-length, big-bytes}
 use Rattle.write.proofs.Numbers.{little-back}
-use Rattle.point.specs.Point.{Through, Includes, Witness, PointInfo, throughPeer}
+use Rattle.point.specs.Point.{PointId, Through, Includes, Witness, PointInfo, throughPeer}
 use Rattle.point.specs.Reading.{pointIdAt, readPoint}
 use Rattle.point.proofs.Laws.{readable}
 use Rattle.schedule.specs.Settings.{Settings, settingsIn, readSettings}
 use Rattle.reasons.specs.Invalid.{InvalidDependency}
 use Rattle.rules.specs.List.{isListable}
-use Rattle.books.specs.Kept.{Status, Valid, TransInvalid, Invalid, IllFormed, Kept, Book, isTwice}
+use Rattle.books.specs.Kept.{Status, Valid, TransInvalid, Invalid, IllFormed, Kept, Book, isTwice, Opened}
 use Rattle.books.specs.Offer.{used}
-use Rattle.books.specs.Layout.{flagByte, throughBytes, statusBytes, keptBytes, entriesBytes, bookBytes, isZeros, throughAt, rootAt, isRootOk, readStatus, readKept, KeptFront, frontWith, frontTo, keptFront, entriesWith, entriesFrom, openedWith, readBook}
+use Rattle.books.specs.Layout.{flagByte, idBytes, throughBytes, statusBytes, keptBytes, entriesBytes, bookBytes, isZeros, throughAt, rootAt, isRootOk, readStatus, readKept, KeptFront, keptFront, entriesFrom, readBook}
+use Rattle.books.proofs.Fits.{IdFits}
 use Rattle.books.proofs.Roots.{Recorded}
 use Rattle.books.proofs.Shape.{StatusShape, KeptShape, Shape}
 
@@ -46,7 +48,7 @@ pub flag-back : (c : Bool) → eqb (flagByte c) 1 ≡ c
 flag-back true = refl
 flag-back false = refl
 
-flag-fits : (c : Bool) → leb (flagByte c) 1 ≡ true
+pub flag-fits : (c : Bool) → leb (flagByte c) 1 ≡ true
 flag-fits true = refl
 flag-fits false = refl
 
@@ -71,22 +73,19 @@ unfolding bigAt bigBytes
 through-reads (Includes x) h = ap Includes (big-bytes 32 x h)
 through-reads (Witness x) h = ap Witness (big-bytes 32 x h)
 
+-- an id that stands after three bytes
+pub id-back : (x y z : ℕ) (i : PointId) (rest : List ℕ) → IdFits i → pointIdAt (x ∷ y ∷ z ∷ (idBytes i ++ rest)) 3 ≡ i
+unfolding pointIdAt littleAt littleBytes bigAt bigBytes
+id-back x y z i rest f = rw (little-back 4 (i .round) (f .round), big-bytes 32 (i .digest) (f .digest), big-bytes 32 (i .author) (f .author))
+
 module _ (d : InvalidDependency) (c : Bool) (o : Recorded d) where
-  root-round : littleAt 4 (statusBytes (TransInvalid d) c) 3 ≡ d .to .round
-  unfolding statusBytes littleAt littleBytes bigBytes
-  root-round = little-back 4 (d .to .round) (o .root .id .round)
-
-  root-digest : idAt (statusBytes (TransInvalid d) c) 7 ≡ d .to .digest
-  unfolding statusBytes bigAt littleBytes bigBytes
-  root-digest = big-bytes 32 (d .to .digest) (o .root .id .digest)
-
-  root-author : idAt (statusBytes (TransInvalid d) c) 39 ≡ d .to .author
-  unfolding statusBytes bigAt littleBytes bigBytes
-  root-author = big-bytes 32 (d .to .author) (o .root .id .author)
-
   root-id : pointIdAt (statusBytes (TransInvalid d) c) 3 ≡ d .to
+  unfolding statusBytes
+  root-id = id-back 1 (flagByte c) 0 (d .to) _ (o .root .id)
+
+  root-round : littleAt 4 (statusBytes (TransInvalid d) c) 3 ≡ d .to .round
   unfolding pointIdAt
-  root-id = rw (root-round, root-digest, root-author)
+  root-round = ap (λ (i : PointId). i .round) root-id
 
   root-reason : getD (statusBytes (TransInvalid d) c) 71 0 ≡ d .reason
   unfolding statusBytes littleBytes bigBytes
@@ -153,29 +152,26 @@ kept-split k rest = append-assoc (k .bytes) (33 ∷ 105 ∷ 0 ∷ statusBytes (k
 pub kept-shaped : (k : Kept) → KeptShape k → wellShaped (k .bytes) ≡ true
 kept-shaped k o = readable (k .bytes) (k .point) (o .read) .shaped
 
--- tag 33 after a record
-length-there : (r u : List ℕ) → lengthAt (r ++ (33 ∷ 105 ∷ 0 ∷ u)) (length r) ≡ 105
-unfolding littleAt little
-length-there r u = rw (drop-append-add r (33 ∷ 105 ∷ 0 ∷ u) 1)
+-- a field of n bytes after other bytes
+module _ (tag n : ℕ) (r u : List ℕ) where
+  length-there : lengthAt (r ++ (tag ∷ n ∷ 0 ∷ u)) (length r) ≡ n
+  unfolding littleAt little
+  length-there = rw (drop-append-add r (tag ∷ n ∷ 0 ∷ u) 1) (omega arith)
 
-field-there : (r u : List ℕ) → 105 ≤ length u → fieldOk (fieldRow 33 105 105) (r ++ (33 ∷ 105 ∷ 0 ∷ u)) (length r) ≡ true
-field-there r u h =
-    let s = r ++ (33 ∷ 105 ∷ 0 ∷ u) in
-    let l = length-append r (33 ∷ 105 ∷ 0 ∷ u) in
-    let e = length-there r u in
-    field-last (fieldRow 33 105 105) s (length r) (omega arith) (getD-append-seam r 33 (105 ∷ 0 ∷ u) 0) (omega arith) (omega arith)
-    ∙ le-leb (length r + 3 + lengthAt s (length r)) (length s) (omega arith)
+  pub field-there : n ≤ length u → fieldOk (fieldRow tag n n) (r ++ (tag ∷ n ∷ 0 ∷ u)) (length r) ≡ true
+  field-there h =
+      let s = r ++ (tag ∷ n ∷ 0 ∷ u) in
+      let l = length-append r (tag ∷ n ∷ 0 ∷ u) in
+      let e = length-there in
+      field-last (fieldRow tag n n) s (length r) (omega arith) (getD-append-seam r tag (n ∷ 0 ∷ u) 0) (omega arith) (omega arith)
+      ∙ le-leb (length r + 3 + lengthAt s (length r)) (length s) (omega arith)
 
 -- an entry by its parts
-module _ (s r t : List ℕ) (n : ℕ) (q : PointInfo) (k : Kept) (f : take n s ≡ r) where
-  with-is : fieldOk (fieldRow 33 105 105) s n ≡ true → take 105 (drop (n + 3) s) ≡ t → readKept r q t ≡ some k →
-      frontWith s n (some q) ≡ some (record { kept = k; size = n + 108 })
-  with-is w g h = rw (w, f, g, h)
-
-  front-is : recordEnd s ≡ some n → readPoint r ≡ some q → fieldOk (fieldRow 33 105 105) s n ≡ true → take 105 (drop (n + 3) s) ≡ t → readKept r q t ≡ some k →
-      keptFront s ≡ some (record { kept = k; size = n + 108 })
-  unfolding keptFront
-  front-is e p w g h = ap (frontTo s) e ∙ (ap (frontWith s n) (ap readPoint f ∙ p) ∙ with-is w g h)
+front-is : (s r t : List ℕ) (n : ℕ) (q : PointInfo) (k : Kept) → take n s ≡ r →
+    recordEnd s ≡ some n → readPoint r ≡ some q → fieldOk (fieldRow 33 105 105) s n ≡ true → take 105 (drop (n + 3) s) ≡ t → readKept r q t ≡ some k →
+    keptFront s ≡ some (record { kept = k; size = n + 108 })
+unfolding keptFront
+front-is s r t n q k f e p w g h = rw (e, f, p, w, g, h)
 
 parts-front : (k : Kept) (rest : List ℕ) → KeptShape k →
     keptFront (k .bytes ++ (33 ∷ 105 ∷ 0 ∷ (statusBytes (k .status) (k .certified) ++ rest))) ≡ some (record { kept = k; size = length (k .bytes) + 108 })
@@ -183,7 +179,7 @@ parts-front k rest o =
     let t = statusBytes (k .status) (k .certified) in
     let l = status-length (k .status) (k .certified) in
     front-is _ (k .bytes) t (length (k .bytes)) (k .point) k (take-append-seam (k .bytes) _) (append-end (k .bytes) _ (kept-shaped k o)) (o .read)
-    (field-there (k .bytes) (t ++ rest) (omega (arith, length-append t rest)))
+    (field-there 33 105 (k .bytes) (t ++ rest) (omega (arith, length-append t rest)))
     (ap (take 105) (drop-append-add (k .bytes) (33 ∷ 105 ∷ 0 ∷ (t ++ rest)) 3) ∙ take-at t rest 105 l)
     (kept-reads k o)
 
@@ -191,8 +187,8 @@ parts-front k rest o =
 pub kept-front : (k : Kept) (rest : List ℕ) → KeptShape k → keptFront (keptBytes k ++ rest) ≡ some (record { kept = k; size = length (k .bytes) + 108 })
 kept-front k rest o = ap keptFront (kept-split k rest) ∙ parts-front k rest o
 
-pub kept-behind : (k : Kept) (rest : List ℕ) → drop (length (k .bytes) + 108) (keptBytes k ++ rest) ≡ rest
-kept-behind k rest = drop-at (keptBytes k) rest (length (k .bytes) + 108) (kept-length k)
+pub kept-after : (k : Kept) (rest : List ℕ) → drop (length (k .bytes) + 108) (keptBytes k ++ rest) ≡ rest
+kept-after k rest = drop-at (keptBytes k) rest (length (k .bytes) + 108) (kept-length k)
 
 -- an entry begins with tag 1: 0 is no entry
 first-tag : (s : List ℕ) (n : ℕ) → recordEnd s ≡ some n → getD s 0 0 ≡ 1
@@ -223,13 +219,11 @@ zeros-read (suc n) (suc m) = rw (zeros-are m)
 
 -- one more entry in front
 module _ (n : ℕ) (s : List ℕ) (x : KeptFront) (b : Book) where
-  more-with : entriesFrom n (drop (x .size) s) ≡ some b → entriesWith (λ t. entriesFrom n t) s (some x) ≡ some (x .kept ∷ b)
-  more-with h = rw h
-
   pub more-reads : getD s 0 0 ≡ 1 → keptFront s ≡ some x → entriesFrom n (drop (x .size) s) ≡ some b → entriesFrom (suc n) s ≡ some (x .kept ∷ b)
   unfolding entriesFrom
   more-reads t f h =
-      pick-false (eqb (getD s 0 0) 0) _ _ (ap (λ (y : ℕ). eqb y 0) t) ∙ (ap (entriesWith (λ t. entriesFrom n t) s) f ∙ more-with h)
+      pick-false (eqb (getD s 0 0) 0) _ _ (ap (λ (y : ℕ). eqb y 0) t)
+      ∙ (ap (λ o. andThen o (λ y. Option·map (λ c. y .kept ∷ c) (entriesFrom n (drop (y .size) s)))) f ∙ ap (Option·map (λ c. x .kept ∷ c)) h)
 
 -- entries are read back, with zeros after them
 pub entries-read : (n m : ℕ) (b : Book) → ((k : Kept) → List·Memᴰ k b → KeptShape k) → length b ≤ n → entriesFrom n (entriesBytes b ++ replicate m 0) ≡ some b
@@ -241,7 +235,7 @@ entries-read (suc n) m (k ∷ b) o h =
     let ok : KeptShape k = o k (List·Memᴰ·head refl) in
     ap (entriesFrom (suc n)) (append-assoc (keptBytes k) (entriesBytes b) (replicate m 0))
     ∙ more-reads n (keptBytes k ++ rest) (record { kept = k; size = length (k .bytes) + 108 }) b (kept-begins k rest ok) (kept-front k rest ok)
-    (ap (entriesFrom n) (kept-behind k rest) ∙ entries-read n m b (λ x i. o x (List·Memᴰ·tail i)) (omega arith))
+    (ap (entriesFrom n) (kept-after k rest) ∙ entries-read n m b (λ x i. o x (List·Memᴰ·tail i)) (omega arith))
 
 -- ---- a book
 
@@ -260,30 +254,33 @@ module _ (settings : List ℕ) (len : ℕ) (b : Book) (l : length settings ≡ 4
   unfolding bookBytes
   book-front = take-at settings _ 47 l
 
-  pub book-behind : drop 47 (bookBytes settings len b) ≡ entriesBytes b ++ replicate (len - 47 - used b) 0
+  pub book-after : drop 47 (bookBytes settings len b) ≡ entriesBytes b ++ replicate (len - 47 - used b) 0
   unfolding bookBytes
-  book-behind = drop-at settings _ 47 l
+  book-after = drop-at settings _ 47 l
 
 -- a book by its parts
-module _ (s settings : List ℕ) (c : Settings) (b : Book) (f : take 47 s ≡ settings) where
-  with-once : isTwice b ≡ false → openedWith (take 47 s) (some c) (some b) ≡ some (record { bytes = settings; settings = c; book = b })
-  with-once o = rw (o, f)
-
-  book-is : length s ≤ 16777216 → readSettings settings ≡ some c → entriesFrom 4096 (drop 47 s) ≡ some b → isTwice b ≡ false →
-      readBook s ≡ some (record { bytes = settings; settings = c; book = b })
-  unfolding readBook
-  book-is l r e o =
-      pick-true (leb (length s) 16777216) _ none (le-leb (length s) 16777216 l)
-      ∙ (ap (λ (x : Option Settings). openedWith (take 47 s) x (entriesFrom 4096 (drop 47 s))) (ap readSettings f ∙ r)
-      ∙ (ap (openedWith (take 47 s) (some c)) e ∙ with-once o))
+book-is : (s settings : List ℕ) (c : Settings) (b : Book) → take 47 s ≡ settings →
+    length s ≤ 16777216 → readSettings settings ≡ some c → entriesFrom 4096 (drop 47 s) ≡ some b → isTwice b ≡ false →
+    readBook s ≡ some (record { bytes = settings; settings = c; length = length s; book = b })
+unfolding readBook
+book-is s settings c b f l r e o =
+    pick-true (leb (length s) 16777216) _ none (le-leb (length s) 16777216 l)
+    ∙ go (readSettings (take 47 s)) (entriesFrom 4096 (drop 47 s)) (ap readSettings f ∙ r) e
+  where
+    go : (x : Option Settings) (y : Option Book) → x ≡ some c → y ≡ some b →
+        andThen x (λ d. andThen {B = Opened} y (λ a. pick (isTwice a) none (some (record { bytes = take 47 s; settings = d; length = length s; book = a }))))
+        ≡ some (record { bytes = settings; settings = c; length = length s; book = b })
+    go x y p q = rw (p, q, o, f)
 
 -- a book is read back
 pub book-reads : (settings : List ℕ) (c : Settings) (len : ℕ) (b : Book) → readSettings settings ≡ some c → len ≤ 16777216 → Shape b → 47 + used b ≤ len →
-    readBook (bookBytes settings len b) ≡ some (record { bytes = settings; settings = c; book = b })
+    readBook (bookBytes settings len b) ≡ some (record { bytes = settings; settings = c; length = len; book = b })
 book-reads settings c len b r m h room =
     let l = settings-length settings c r in
-    book-is (bookBytes settings len b) settings c b (book-front settings len b l)
+    subst (λ (n : ℕ). readBook (bookBytes settings len b) ≡ some (record { bytes = settings; settings = c; length = n; book = b }))
+    (book-length settings len b l room)
+    (book-is (bookBytes settings len b) settings c b (book-front settings len b l)
     (omega (arith, book-length settings len b l room))
     r
-    (ap (entriesFrom 4096) (book-behind settings len b l) ∙ entries-read 4096 (len - 47 - used b) b (h .entries) (h .few))
-    (h .once)
+    (ap (entriesFrom 4096) (book-after settings len b l) ∙ entries-read 4096 (len - 47 - used b) b (h .entries) (h .few))
+    (h .once))

@@ -6,8 +6,8 @@ use native.Mathlib.Omega.{arith}
 use mathlib.Core.Path.{_≡_, refl, ap, sym, _∙_, subst}
 use mathlib.Core.Logic.{_⊎_, inl, inr}
 use mathlib.Core.Bool.{Bool, true, false, _&&_}
-use mathlib.Core.Option.{Option, none, some}
-use mathlib.Core.List.{List, [], _∷_, _++_, List·Memᴰ, List·Memᴰ·head, List·Memᴰ·tail, List·Memᴰ·not-nil, List·Memᴰ·cases-cons, List·Memᴰ·append-cases, List·Memᴰ·eq-of-singleton}
+use mathlib.Core.Option.{none, some}
+use mathlib.Core.List.{List, [], _∷_, _++_, List·Memᴰ, List·Memᴰ·not-nil, List·Memᴰ·append-cases, List·Memᴰ·eq-of-singleton}
 use lib.ListN.{length, length-append}
 use lib.Dec.{leb}
 use borrow.Author.Tests.{leb-true}
@@ -19,18 +19,18 @@ use Rattle.point.specs.Reading.{readPoint}
 use Rattle.point.proofs.Laws.{readable}
 use Rattle.schedule.specs.Settings.{Settings}
 use Rattle.reasons.specs.Invalid.{InvalidDependency, dagRound}
-use Rattle.rules.specs.Validate.{validate, ofResult}
+use Rattle.rules.specs.Validate.{validate}
 use Rattle.rules.specs.List.{isListable}
-use Rattle.rules.specs.Mismatch.{entriesIn}
+use Rattle.rules.specs.Mismatch.{entriesIn, isId}
 use Rattle.rules.specs.Judge.{Given}
-use Rattle.books.specs.Kept.{Status, Valid, TransInvalid, Invalid, IllFormed, Kept, Book, findKept, isTwice, markOne, mark, markPrev}
+use Rattle.books.specs.Kept.{Status, Valid, TransInvalid, Invalid, IllFormed, Kept, Book, findKept, isTwice, markOne, mark}
 use Rattle.books.specs.Lists.{dagPoint, keptEntry, directList, indirectList}
 use Rattle.books.specs.Offer.{isStateOk, answerOver}
 use Rattle.books.specs.Layout.{isKeepable}
 use Rattle.books.proofs.Fits.{IdFits, PointFits, point-fits}
 use Rattle.books.proofs.Clear.{All, once-distinct, each-direct, each-indirect, prev-covers, clear}
 use Rattle.books.proofs.Roots.{Root, Rooted, RootedEntry}
-use Rattle.books.proofs.Find.{once-more, marked-found}
+use Rattle.books.proofs.Find.{once-more, marked-found, mark-member}
 
 -- a root cause fits "root id, root's reason, map and peer it came through"
 pub record RootFits (d : InvalidDependency) : Type 0 where
@@ -78,51 +78,26 @@ module _ (p : PointInfo) (h : inDomain p ≡ true) where
 
 -- ---- marks keep the shape
 
-module _ (i : PointId) where
-  mark-one : (k : Kept) → KeptShape k → KeptShape (markOne i k)
+module _ (covers : PointId → Bool) where
+  mark-one : (k : Kept) → KeptShape k → KeptShape (markOne covers k)
   unfolding markOne
   mark-one k h = record { bytes = h .bytes; read = h .read; domain = h .domain; status = h .status }
 
-  mark-entries : (b : Book) → ((k : Kept) → List·Memᴰ k b → KeptShape k) → (k : Kept) → List·Memᴰ k (mark i b) → KeptShape k
-  unfolding mark
-  mark-entries [] f k m = absurd (List·Memᴰ·not-nil m)
-  mark-entries (x ∷ b) f k m = go (mark-entries b (λ y n. f y (List·Memᴰ·tail n)) k) (List·Memᴰ·cases-cons m)
-    where
-      go : (List·Memᴰ k (mark i b) → KeptShape k) → (k ≡ markOne i x) ⊎ List·Memᴰ k (mark i b) → KeptShape k
-      go rec (inl e) = subst KeptShape (sym e) (mark-one x (f x (List·Memᴰ·head refl)))
-      go rec (inr n) = rec n
+  mark-entries : (b : Book) → ((k : Kept) → List·Memᴰ k b → KeptShape k) → (k : Kept) → List·Memᴰ k (mark covers b) → KeptShape k
+  mark-entries b f k m = let x = mark-member covers b k m in subst KeptShape (sym (x .1 .1)) (mark-one (x .0) (f (x .0) (x .1 .0)))
 
-  mark-twice : (b : Book) → isTwice (mark i b) ≡ isTwice b
+  mark-twice : (b : Book) → isTwice (mark covers b) ≡ isTwice b
   unfolding mark markOne isTwice
   mark-twice [] = refl
-  mark-twice (k ∷ b) = rw (marked-found i b (k .point .id), mark-twice b)
+  mark-twice (k ∷ b) = rw (marked-found covers b (k .point .id), mark-twice b)
 
-  mark-length : (b : Book) → length (mark i b) ≡ length b
+  pub mark-length : (b : Book) → length (mark covers b) ≡ length b
   unfolding mark
   mark-length [] = refl
   mark-length (k ∷ b) = ap suc (mark-length b)
 
-module _ (prev : Option PointId) (b : Book) where
-  pub prev-found : (j : PointId) → isSome (findKept (markPrev prev b) j) ≡ isSome (findKept b j)
-  prev-found j = go prev
-    where
-      go : (o : Option PointId) → isSome (findKept (markPrev o b) j) ≡ isSome (findKept b j)
-      go none = refl
-      go (some i) = marked-found i b j
-
-  pub prev-length : length (markPrev prev b) ≡ length b
-  prev-length = go prev
-    where
-      go : (o : Option PointId) → length (markPrev o b) ≡ length b
-      go none = refl
-      go (some i) = mark-length i b
-
-  pub prev-shape : Shape b → Shape (markPrev prev b)
-  prev-shape h = go prev
-    where
-      go : (o : Option PointId) → Shape (markPrev o b)
-      go none = h
-      go (some i) = record { entries = mark-entries i b (h .entries); once = mark-twice i b ∙ h .once; few = rw (mark-length i b) (h .few) }
+  pub mark-shape : (b : Book) → Shape b → Shape (mark covers b)
+  mark-shape b h = record { entries = mark-entries b (h .entries); once = mark-twice b ∙ h .once; few = rw (mark-length b) (h .few) }
 
 -- ---- a new entry keeps the shape
 
@@ -180,10 +155,10 @@ module _ (b : Book) (p : PointInfo) (h : Shape b) where
 
 module _ (c : Settings) (required : Bool) (bytes : List ℕ) (p : PointInfo) (b : Book) (h : Shape b) (r : readPoint bytes ≡ some p) (d : inDomain p ≡ true) where
   pub whole :
-      answerOver c required p (directList (markPrev (prevId p) b) p) (indirectList (markPrev (prevId p) b) p)
-      ≡ Given (ofResult (validate c required 3 p (directList (markPrev (prevId p) b) p) (indirectList (markPrev (prevId p) b) p)))
+      answerOver c required 3 p (directList (mark (isId (prevId p)) b) p) (indirectList (mark (isId (prevId p)) b) p)
+      ≡ Given (validate c required 3 p (directList (mark (isId (prevId p)) b) p) (indirectList (mark (isId (prevId p)) b) p))
   whole =
-      let s = prev-shape (prevId p) b h in
+      let s = mark-shape (isId (prevId p)) b h in
       let w = readable bytes p r in
-      clear c required p (markPrev (prevId p) b) (λ k m. s .entries k m .status .state) (once-distinct (markPrev (prevId p) b) (s .once)) (prev-covers (prevId p) b)
+      clear c required p (mark (isId (prevId p)) b) (λ k m. s .entries k m .status .state) (once-distinct (mark (isId (prevId p)) b) (s .once)) (prev-covers (prevId p) b)
       (w .includes .rise) (w .witness .rise) (omega (arith, domain-least p d))

@@ -1,17 +1,18 @@
--- The two calls, on bytes: opening and offering; and a list of offers, one after the other.
+-- The two calls, on bytes: opening and offering.
 use Prim.Native.Nat.{ℕ, zero, suc, _≤_}
 use mathlib.Core.Logic.{_⊎_}
 use mathlib.Core.Bool.{_||_}
 use mathlib.Core.Option.{Option, none, some}
-use mathlib.Core.List.{List, [], _∷_}
+use mathlib.Core.List.{List, []}
 use lib.ListN.{length}
 use lib.Dec.{ltb}
 use Rattle.base.specs.Base.{pick}
 use Rattle.parts.specs.Limits.{entriesStart, longestBook}
 use Rattle.schedule.specs.Settings.{Settings, readSettings}
-use Rattle.rules.specs.Judge.{JudgeAnswer, Number}
-use Rattle.books.specs.Offer.{Offer, Outcome, offer}
-use Rattle.books.specs.Layout.{bookBytes, Opened, readBook}
+use Rattle.rules.specs.Judge.{Number}
+use Rattle.books.specs.Kept.{Opened}
+use Rattle.books.specs.Offer.{Offer, Result, offer}
+use Rattle.books.specs.Layout.{bookBytes, readBook}
 
 -- ---- opening: 1, then 5, else 0
 
@@ -32,41 +33,28 @@ unfoldable pub openBytes : List ℕ → List ℕ → List ℕ
 unfolding openNumber bookBytes
 openBytes settings s = openedAs settings s (openNumber settings (length s))
 
+-- the book that opening leaves
+abbrev pub opened : List ℕ → Settings → ℕ → Opened
+opened settings c len = record { bytes = settings; settings = c; length = len; book = [] }
+
 -- ---- offering, to any bytes
 
-pub record Result : Type 0 where
-  pub answer : JudgeAnswer
-  pub peers : List ℕ
-  pub bytes : List ℕ
+-- a book in its slice
+unfoldable pub laidOut : Opened → List ℕ
+unfolding bookBytes
+laidOut z = bookBytes (z .bytes) (z .length) (z .book)
 
-abbrev pub laidOut : List ℕ → ℕ → Outcome → Result
-laidOut settings len x = record { answer = x .answer; peers = x .peers; bytes = bookBytes settings len (x .book) }
+abbrev pub inBytes : Result Opened → Result (List ℕ)
+inBytes x = record { answer = x .answer; peers = x .peers; after = laidOut (x .after) }
 
-abbrev pub offerTo : List ℕ → Offer → Option Opened → Result
-offerTo s o none = record { answer = Number 10; peers = o .peers; bytes = s }
-offerTo s o (some z) = laidOut (z .bytes) (length s) (offer (z .settings) (length s) (z .book) o)
+abbrev pub offerTo : List ℕ → Offer → Option Opened → Result (List ℕ)
+offerTo s o none = record { answer = Number 10; peers = o .peers; after = s }
+offerTo s o (some z) = inBytes (offer z o)
 
-unfoldable pub offerBytes : List ℕ → Offer → Result
-unfolding readBook offer bookBytes
+unfoldable pub offerBytes : List ℕ → Offer → Result (List ℕ)
+unfolding readBook offer laidOut
 offerBytes s o = offerTo s o (readBook s)
 
 -- the numbers that an offer to a book can get: 2 to 6, 11 and 12
 abbrev pub IsOfferNumber : ℕ → Type 0
 IsOfferNumber n = ((2 ≤ n) × (n ≤ 6)) ⊎ ((11 ≤ n) × (n ≤ 12))
-
--- ---- a list of offers, each on the bytes that the last one left
-
-unfoldable pub bytesAfter : List ℕ → List Offer → List ℕ
-unfolding offerBytes
-bytesAfter s [] = s
-bytesAfter s (o ∷ l) = bytesAfter (offerBytes s o .bytes) l
-
-unfoldable pub answersAfter : List ℕ → List Offer → List JudgeAnswer
-unfolding offerBytes
-answersAfter s [] = []
-answersAfter s (o ∷ l) = offerBytes s o .answer ∷ answersAfter (offerBytes s o .bytes) l
-
-unfoldable pub buffersAfter : List ℕ → List Offer → List (List ℕ)
-unfolding offerBytes
-buffersAfter s [] = []
-buffersAfter s (o ∷ l) = offerBytes s o .peers ∷ buffersAfter (offerBytes s o .bytes) l

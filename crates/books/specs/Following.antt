@@ -1,7 +1,7 @@
 -- Following an anchor link through a book (document 01: "A step goes there, the next along its link in that role, up to the target,
 -- which is its own Top, or an Invalid point").
 use Prim.Native.Nat.{ℕ, zero, suc}
-use mathlib.Core.Bool.{Bool, true, false, not, _&&_}
+use mathlib.Core.Bool.{Bool, true, false, not, _&&_, _||_}
 use mathlib.Core.Option.{Option, none, some}
 use Rattle.base.specs.Base.{pick}
 use Rattle.point.specs.Point.{PointId, PointInfo, isAnchorStage, source, target, sameId}
@@ -14,6 +14,16 @@ isIllFormed (TransInvalid d) = false
 isIllFormed (Invalid n) = false
 isIllFormed (IllFormed n) = true
 
+abbrev pub isInvalid : Status → Bool
+isInvalid Valid = false
+isInvalid (TransInvalid d) = false
+isInvalid (Invalid n) = true
+isInvalid (IllFormed n) = false
+
+-- Valid or TransInvalid
+abbrev pub isUsable : Status → Bool
+isUsable s = not (isInvalid s || isIllFormed s)
+
 -- where a walk ends: at the target in its role, at an Invalid point that links the same target, or at neither
 pub data End : Type 0 where
   reached : Kept → End
@@ -21,18 +31,18 @@ pub data End : Type 0 where
   astray : End
 
 -- past a point that is not the target: a Valid or TransInvalid one leads on
-abbrev pub onward : AnchorStageRole → PointId → Kept → End → Status → End
-onward g to k rest Valid = rest
-onward g to k rest (TransInvalid d) = rest
-onward g to k rest (Invalid n) = pick (sameId (target g (k .point)) to) (stopped k) astray
-onward g to k rest (IllFormed n) = astray
+abbrev pub onward : Kept → End → Status → End
+onward k rest Valid = rest
+onward k rest (TransInvalid d) = rest
+onward k rest (Invalid n) = stopped k
+onward k rest (IllFormed n) = astray
 
--- the target counts as reached in its role in any state but ill-formed
+-- the target counts as reached in its role in any state but ill-formed; every other point on the way links the same target
 unfoldable pub arrive : AnchorStageRole → PointId → Kept → End → End
 unfolding sameId target
 arrive g to k rest =
     pick (sameId (k .point .id) to && (isAnchorStage g (k .point .role) && not (isIllFormed (k .status)))) (reached k)
-    (onward g to k rest (k .status))
+    (pick (sameId (target g (k .point)) to) (onward k rest (k .status)) astray)
 
 abbrev pub stepTo : AnchorStageRole → PointId → Option Kept → (PointInfo → End) → End
 stepTo g to none next = astray
@@ -43,8 +53,3 @@ unfoldable pub follow : AnchorStageRole → Book → PointId → ℕ → PointIn
 unfolding arrive findKept source
 follow g b to zero p = astray
 follow g b to (suc n) p = stepTo g to (findKept b (source g p)) (λ q. follow g b to n q)
-
-abbrev pub hasArrived : End → Bool
-hasArrived (reached k) = true
-hasArrived (stopped k) = true
-hasArrived astray = false

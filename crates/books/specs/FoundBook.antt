@@ -1,45 +1,157 @@
--- The statement on found books: one claim about every list of offers since the opening. What is quoted is the
--- demand in the words of docs/GUIDE.md.
-use Prim.Native.Nat.{ℕ, _-_, _≤_, _<_}
+-- The statement on found books: one claim about every list of offers since the opening. Quoted are docs/GUIDE.md's words for the
+-- demand, and document 01's for the table of numbers, the book and its rule for marks.
+use Prim.Native.Nat.{ℕ, _+_, _-_, _≤_, _<_}
 use mathlib.Core.Path.{_≡_}
+use mathlib.Core.Logic.{_⊎_, _↔_}
 use mathlib.Core.Bool.{Bool, true, false, not, _&&_, _||_}
-use mathlib.Core.Option.{Option, none, some}
-use mathlib.Core.List.{List, [], _∷_, _++_, List·Memᴰ}
+use mathlib.Core.Option.{some}
+use mathlib.Core.List.{List, [], _∷_, _++_, map, List·Memᴰ}
 use lib.ListN.{length}
-use lib.Dec.{T}
+use lib.Dec.{T, ltb, eqb}
 use Rattle.base.specs.Base.{isSome}
+use Rattle.parts.specs.Bytes.{Bytes}
+use Rattle.parts.specs.Limits.{entriesStart, tag33Length, mostKept, longestBook}
 use Rattle.map.specs.Rows.{Pair}
-use Rattle.point.specs.Point.{PointId, PointInfo, isAnchorProof, target, top, prevId}
+use Rattle.point.specs.Point.{PointId, Through, Includes, Witness, Indirect, PointInfo, isAnchorProof, isAnchorStage, anchorLink, target, top, prevId}
+use Rattle.point.specs.Reading.{readPoint}
 use Rattle.point.specs.declared.data.AnchorStageRole.{AnchorStageRole}
 use Rattle.point.specs.declared.data.AnchorStageRole.the-variants.{Proof}
 use Rattle.schedule.specs.Settings.{Settings, readSettings}
-use Rattle.rules.specs.Judge.{Tested, refused, admitted, Before, answered, needed}
+use Rattle.reasons.specs.IllFormed.{illFormedNumber}
+use Rattle.reasons.specs.Invalid.{invalidNumber, InvalidDependency}
+use Rattle.reasons.specs.Verdict as verdict
+use Rattle.rules.specs.Judge.{Input, Tested, refused, admitted, tested, verifyBuffer, JudgeAnswer, Number, Given}
+use Rattle.rules.specs.Judge.{Before, answered, needed, before, flagsOk, judgeWith}
 use Rattle.rules.specs.Mismatch.{pairId, isId}
-use Rattle.books.specs.Kept.{Status, Valid, TransInvalid, Invalid, IllFormed, Kept, Book, findKept}
-use Rattle.books.specs.Offer.{Offer, AreBytes, offerTested, leftFrom, beforeIn, answerIn, offer, after, answers, buffers}
-use Rattle.books.specs.Layout.{bookBytes}
-use Rattle.books.specs.Calls.{openNumber, openBytes, bytesAfter, answersAfter, buffersAfter}
-use Rattle.books.specs.Following.{isIllFormed, End, reached, follow, hasArrived}
+use Rattle.books.specs.Kept.{Status, Valid, TransInvalid, Invalid, IllFormed, Kept, Book, findKept, Opened}
+use Rattle.books.specs.Offer.{Offer, Result, offer}
+use Rattle.books.specs.Run.{Moment, Run, momentOf, run, AreBytes}
+use Rattle.books.specs.Layout.{readBook}
+use Rattle.books.specs.ListFor.{listFor}
+use Rattle.books.specs.Calls.{openNumber, openBytes, opened, laidOut, inBytes, offerBytes, IsOfferNumber}
+use Rattle.books.specs.Following.{isInvalid, isIllFormed, isUsable, End, reached, stopped, astray, follow}
+
+-- ---- what the offers did: their entries by their answers, their marks by the rule
+
+-- an entry as an answer tells it: the record, and the verdict with reason, root cause, map and peer
+pub record Left : Type 0 where
+  pub bytes : List ℕ
+  pub status : Status
+
+abbrev pub leaves : List ℕ → JudgeAnswer → List Left
+leaves bytes (Number n) = []
+leaves bytes (Given (verdict.Fail u)) = []
+leaves bytes (Given (verdict.IllFormed r)) = record { bytes = bytes; status = IllFormed (illFormedNumber r) } ∷ []
+leaves bytes (Given (verdict.Invalid r)) = record { bytes = bytes; status = Invalid (invalidNumber r) } ∷ []
+leaves bytes (Given (verdict.TransInvalid d)) = record { bytes = bytes; status = TransInvalid d } ∷ []
+leaves bytes (Given verdict.Valid) = record { bytes = bytes; status = Valid } ∷ []
+
+unfoldable pub allLeft : {S : Type 0} → List (Moment S) → List Left
+allLeft [] = []
+allLeft (m ∷ l) = leaves (m .offer .bytes) (m .result .answer) ++ allLeft l
+
+unfoldable pub leftIn : Book → List Left
+leftIn b = map (λ k. record { bytes = k .bytes; status = k .status }) b
+
+-- an earlier offer of an id was kept
+abbrev pub WasKept : List Left → PointId → Type 0
+WasKept l i = (x : Left) × (List·Memᴰ x l × ((p : PointInfo) × ((readPoint (x .bytes) ≡ some p) × (p .id ≡ i))))
+
+unfoldable pub bytesTaken : List Left → ℕ
+bytesTaken [] = 0
+bytesTaken (x ∷ l) = length (x .bytes) + tag33Length + bytesTaken l
+
+-- "4,096 entries, or record plus 108 bytes exceeds the rest" of a slice of `len` bytes
+abbrev pub HasNoRoom : ℕ → List Left → List ℕ → Type 0
+HasNoRoom len l bytes = (mostKept ≤ length l) ⊎ (len < entriesStart + bytesTaken l + (length bytes + tag33Length))
+
+-- what the call's own tests, the numbers 1 to 5, say of an offer
+abbrev pub testedAs : List ℕ → Offer → Tested
+testedAs settings o = tested settings (o .schedule) (o .bytes) (flagsOk (o .leader) 3) (length (o .peers))
+
+-- "Rule for marks: where the list is needed, .. the previous point .. is marked certified"
+abbrev pub coversWith : PointInfo → Before → PointId → Bool
+coversWith p (answered a) i = false
+coversWith p (needed required) i = isId (prevId p) i
+
+abbrev pub covers : ℕ → Tested → PointId → Bool
+covers leader (refused n) i = false
+covers leader (admitted x) i = coversWith (x .point) (before (x .settings) (x .schedule) (eqb leader 1) (x .point)) i
+
+abbrev pub isGiven : JudgeAnswer → Bool
+isGiven (Number n) = false
+isGiven (Given v) = true
+
+-- "if kept", by an offer that got a verdict
+unfoldable pub everMarked : List (Moment Opened) → PointId → Bool
+unfolding findKept prevId before tested
+everMarked [] i = false
+everMarked (m ∷ l) i =
+    (isSome (findKept (m .before .book) i)
+    && (isGiven (m .result .answer) && covers (m .offer .leader) (testedAs (m .before .bytes) (m .offer)) i))
+    || everMarked l i
+
+-- the run with one offer more
+abbrev pub withNext : Run Opened → Offer → List (Moment Opened)
+withNext plain o = plain .moments ++ (momentOf offer (plain .last) o ∷ [])
+
+-- a run over the plain book, each book in its slice
+abbrev pub runInBytes : Run Opened → Run (List ℕ)
+runInBytes x =
+    record {
+      moments = map (λ m. record { before = laidOut (m .before); offer = m .offer; result = inBytes (m .result) }) (x .moments);
+      last = laidOut (x .last);
+    }
+
+-- ---- bad ancestors
+
+-- kept Invalid, or TransInvalid with its root cause inside the window of a point of this round
+abbrev pub isBad : Settings → ℕ → Status → Bool
+isBad c round Valid = false
+isBad c round (TransInvalid d) = ltb (round - 1) (d .to .round + c .commitHistoryRounds)
+isBad c round (Invalid n) = true
+isBad c round (IllFormed n) = false
+
+-- an id is a dependency of a point or the target of one of its indirect links, through this map and peer
+abbrev pub DependsOn : PointInfo → PointId → Through → Type 0
+DependsOn p i t =
+    ((q : Pair) × (List·Memᴰ q (p .includes) × ((i ≡ pairId (p .id .round - 1) q) × (t ≡ Includes (q .peer)))))
+    ⊎ (((q : Pair) × (List·Memᴰ q (p .witness) × ((i ≡ pairId (p .id .round - 2) q) × (t ≡ Witness (q .peer)))))
+    ⊎ ((g : AnchorStageRole) × (anchorLink g p ≡ Indirect i t)))
+
+-- the root cause and its reason, as an entry has them
+abbrev pub IsRootOf : Kept → InvalidDependency → Status → Type 0
+IsRootOf k d Valid = ⊥
+IsRootOf k d (TransInvalid e) = (d .to ≡ e .to) × (d .reason ≡ e .reason)
+IsRootOf k d (Invalid n) = (d .to ≡ k .point .id) × (d .reason ≡ n)
+IsRootOf k d (IllFormed n) = ⊥
+
+-- a bad one that a point depends on and that has no mark, from which a root cause comes
+pub record Caught (c : Settings) (b : Book) (marked : PointId → Bool) (p : PointInfo) (d : InvalidDependency) : Type 0 where
+  pub entry : Kept
+  pub kept : List·Memᴰ entry b
+  pub depends : DependsOn p (entry .point .id) (d .through)
+  pub bad : T (isBad c (p .id .round) (entry .status))
+  pub unmarked : marked (entry .point .id) ≡ false
+  pub root : IsRootOf entry d (entry .status)
 
 -- ---- kept points
 
--- Valid or TransInvalid
-abbrev pub isUsable : Status → Bool
-isUsable Valid = true
-isUsable (TransInvalid d) = true
-isUsable (Invalid n) = false
-isUsable (IllFormed n) = false
+abbrev pub NoIdTwice : Book → Type 0
+NoIdTwice [] = Unit
+NoIdTwice (k ∷ b) = ((x : Kept) → List·Memᴰ x b → x .point .id ≡ k .point .id → ⊥) × NoIdTwice b
 
 -- "every Valid or TransInvalid point above genesis"
 pub record Usable (c : Settings) (b : Book) (k : Kept) : Type 0 where
   pub member : List·Memᴰ k b
-  pub judged : T (isUsable (k .status))
+  pub usable : T (isUsable (k .status))
   pub above : c .genesisRound < k .point .id .round
 
 -- a dependency is kept, not ill-formed, and not topped by an anchor of a greater round than the point links
 pub record Held (b : Book) (p : PointInfo) (i : PointId) : Type 0 where
   pub entry : Kept
-  pub kept : findKept b i ≡ some entry
+  pub kept : List·Memᴰ entry b
+  pub named : entry .point .id ≡ i
   pub formed : T (not (isIllFormed (entry .status)))
   pub topped : (g : AnchorStageRole) → top g (entry .point) .round ≤ target g p .round
 
@@ -47,74 +159,78 @@ pub record Held (b : Book) (p : PointInfo) (i : PointId) : Type 0 where
 abbrev pub followed : Settings → Book → AnchorStageRole → PointInfo → End
 followed c b g p = follow g b (target g p) (p .id .round - c .genesisRound) p
 
--- ---- what the offers did, read off the list of offers
-
--- the id that an offer marks: the previous point, where the list is needed
-abbrev pub marksWith : PointInfo → Before → Option PointId
-marksWith p (answered a) = none
-marksWith p (needed required) = prevId p
-
-abbrev pub marksIn : ℕ → Tested → Option PointId
-marksIn leader (refused n) = none
-marksIn leader (admitted i) = marksWith (i .point) (beforeIn i leader)
-
--- whether some of the offers marked the entry of an id: it was kept by then, and was that offer's previous point
-unfoldable pub everMarked : Settings → ℕ → Book → List Offer → PointId → Bool
-unfolding findKept prevId beforeIn offerTested offer
-everMarked c len b [] i = false
-everMarked c len b (o ∷ l) i =
-    (isSome (findKept b i) && isId (marksIn (o .leader) (offerTested c len b o)) i) || everMarked c len (offer c len b o .book) l i
-
--- an entry without its mark
-pub record Unmarked : Type 0 where
-  pub bytes : List ℕ
-  pub point : PointInfo
-  pub status : Status
-
-unfoldable pub unmarkedOf : Book → List Unmarked
-unmarkedOf [] = []
-unmarkedOf (k ∷ b) = record { bytes = k .bytes; point = k .point; status = k .status } ∷ unmarkedOf b
-
--- the entry that an offer leaves: none if it gets a number or Fail, else one, its verdict the judge's over the schedule, the leader
--- flag, the entries and the marks of that moment
-abbrev pub leaves : Book → Offer → Tested → List Kept
-leaves b o (refused n) = []
-leaves b o (admitted i) = leftFrom (o .bytes) (i .point) (answerIn i (o .leader) b)
-
-unfoldable pub allLeft : Settings → ℕ → Book → List Offer → List Unmarked
-unfolding unmarkedOf answerIn offerTested offer
-allLeft c len b [] = []
-allLeft c len b (o ∷ l) = unmarkedOf (leaves b o (offerTested c len b o)) ++ allLeft c len (offer c len b o .book) l
+-- "the linked point in that role, or a point judged Invalid that links the same target"
+abbrev pub IsEnd : Book → AnchorStageRole → PointId → End → Type 0
+IsEnd b g to (reached k) = List·Memᴰ k b × ((k .point .id ≡ to) × (T (isAnchorStage g (k .point .role)) × T (not (isIllFormed (k .status)))))
+IsEnd b g to (stopped k) = List·Memᴰ k b × ((target g (k .point) ≡ to) × T (isInvalid (k .status)))
+IsEnd b g to astray = ⊥
 
 -- ---- the statement
 
--- of a slice opened with these settings, which say c, and of a list of offers to it; b is the plain book after them
-pub record FoundBook (settings slice : List ℕ) (c : Settings) (l : List Offer) (b : Book) : Type 0 where
+-- of an offer that is made next, after the run `found` over a slice's bytes, and of what it gives: `plain` is the plain book's run
+pub record NextOffer (found : Run (List ℕ)) (plain : Run Opened) (o : Offer) (x : Result (List ℕ)) : Type 0 where
+  -- "the table's number": 2 to 5 first
+  pub tests : (n : ℕ) → testedAs (plain .last .bytes) o ≡ refused n → x .answer ≡ Number n
+  -- 11 "id already in the book"
+  pub again : (i : Input) → testedAs (plain .last .bytes) o ≡ admitted i →
+      (x .answer ≡ Number 11) ↔ WasKept (allLeft (found .moments)) (i .point .id)
+  -- 12 "4,096 entries, or record plus 108 bytes exceeds the rest"
+  pub full : (i : Input) → testedAs (plain .last .bytes) o ≡ admitted i →
+      (x .answer ≡ Number 12)
+      ↔ ((WasKept (allLeft (found .moments)) (i .point .id) → ⊥) × HasNoRoom (plain .last .length) (allLeft (found .moments)) (o .bytes))
+  -- "A number comes without a verdict, with all lent bytes unchanged"
+  pub unchanged : (n : ℕ) → x .answer ≡ Number n → IsOfferNumber n × ((x .after ≡ found .last) × (x .peers ≡ o .peers))
+  -- "demand 2's verdict, reason and unknown peers": those of the public call `judge`, presence 3, over the list that the entries and
+  -- the marks of this moment give, with the mark that this offer makes. The list consists of bytes.
+  pub judged : (p : PointInfo) → readPoint (o .bytes) ≡ some p → (x .answer ≡ Number 11 → ⊥) → (x .answer ≡ Number 12 → ⊥) →
+      Bytes (listFor (plain .last .book) (everMarked (withNext plain o)) p)
+      × ((x .answer ≡ judgeWith (o .leader) 3 (listFor (plain .last .book) (everMarked (withNext plain o)) p) (testedAs (plain .last .bytes) o))
+      × (x .peers ≡ verifyBuffer (testedAs (plain .last .bytes) o) (o .peers)))
+  -- a point above genesis is Valid only if each bad one that it depends on is marked, with the mark that this offer makes
+  pub clean : (p : PointInfo) → readPoint (o .bytes) ≡ some p → x .answer ≡ Given verdict.Valid →
+      plain .last .settings .genesisRound < p .id .round →
+      (k : Kept) → List·Memᴰ k (plain .last .book) → (t : Through) → DependsOn p (k .point .id) t →
+      T (isBad (plain .last .settings) (p .id .round) (k .status)) → T (everMarked (withNext plain o) (k .point .id))
+  -- and is TransInvalid only by one that is not
+  pub caught : (p : PointInfo) → readPoint (o .bytes) ≡ some p → (d : InvalidDependency) → x .answer ≡ Given (verdict.TransInvalid d) →
+      Caught (plain .last .settings) (plain .last .book) (everMarked (withNext plain o)) p d
+
+-- of a slice that was opened as `start`, after a list of offers to it: `found` is the run over its bytes, `plain` the plain book's
+pub record FoundBook (start : Opened) (found : Run (List ℕ)) (plain : Run Opened) : Type 0 where
   -- "each on the bytes the last one left: all answers, unknown peers with every byte of every peer buffer, and book bytes are the
   -- plain book's"
-  pub plain :
-      (answersAfter (openBytes settings slice) l ≡ answers c (length slice) [] l)
-      × ((buffersAfter (openBytes settings slice) l ≡ buffers c (length slice) [] l)
-      × (bytesAfter (openBytes settings slice) l ≡ bookBytes settings (length slice) b))
+  pub same : found ≡ runInBytes plain
+  -- the bytes read as that book, "behind the same settings in as long a slice"
+  pub reads : readBook (found .last) ≡ some (plain .last)
+  pub stays : (plain .last .bytes ≡ start .bytes) × ((plain .last .settings ≡ start .settings) × (plain .last .length ≡ start .length))
+  -- "no id twice", "at most 4,096 entries"; each entry's point is the one that its record says
+  pub once : NoIdTwice (plain .last .book)
+  pub few : length (plain .last .book) ≤ mostKept
+  pub says : (k : Kept) → List·Memᴰ k (plain .last .book) → readPoint (k .bytes) ≡ some (k .point)
+  -- "every offer that got no number and isn't Fail left one entry, in order", with the verdict that it got
+  pub kept : leftIn (plain .last .book) ≡ allLeft (found .moments)
   -- "every Valid or TransInvalid point above genesis has all its includes and witness kept, none ill-formed, none topped by an
   -- anchor of a greater round than it links"
-  pub dependencies : (k : Kept) → Usable c b k →
-      ((q : Pair) → List·Memᴰ q (k .point .includes) → Held b (k .point) (pairId (k .point .id .round - 1) q))
-      × ((q : Pair) → List·Memᴰ q (k .point .witness) → Held b (k .point) (pairId (k .point .id .round - 2) q))
+  pub dependencies : (k : Kept) → Usable (start .settings) (plain .last .book) k →
+      ((q : Pair) → List·Memᴰ q (k .point .includes) → Held (plain .last .book) (k .point) (pairId (k .point .id .round - 1) q))
+      × ((q : Pair) → List·Memᴰ q (k .point .witness) → Held (plain .last .book) (k .point) (pairId (k .point .id .round - 2) q))
   -- "either anchor link, followed through its sources, reaches within round minus genesis round steps the linked point in that
-  -- role, or a point judged Invalid that links the same target"
-  pub links : (k : Kept) → Usable c b k → (g : AnchorStageRole) → T (hasArrived (followed c b g (k .point)))
+  -- role, or a point judged Invalid that links the same target"; every point on the way links it, else the walk is astray
+  pub links : (k : Kept) → Usable (start .settings) (plain .last .book) k → (g : AnchorStageRole) →
+      IsEnd (plain .last .book) g (target g (k .point)) (followed (start .settings) (plain .last .book) g (k .point))
   -- "if such a point is no proof and its proof link reaches the proof, both have one anchor time"
-  pub times : (k : Kept) → Usable c b k → T (not (isAnchorProof (k .point .role))) → (e : Kept)
-      → followed c b Proof (k .point) ≡ reached e → e .point .anchorTime ≡ k .point .anchorTime
+  pub times : (k : Kept) → Usable (start .settings) (plain .last .book) k → T (not (isAnchorProof (k .point .role))) → (e : Kept)
+      → followed (start .settings) (plain .last .book) Proof (k .point) ≡ reached e → e .point .anchorTime ≡ k .point .anchorTime
   -- "marked certified are exactly the entries that the rule for marks, applied in these offers, marked"
-  pub marks : (k : Kept) → List·Memᴰ k b → k .certified ≡ everMarked c (length slice) [] l (k .point .id)
-  -- "every offer that got no number and isn't Fail left one entry, in order, its verdict the judge's definition over the schedule,
-  -- leader flag, entries and marks of that moment"
-  pub entries : unmarkedOf b ≡ allLeft c (length slice) [] l
+  pub marks : (k : Kept) → List·Memᴰ k (plain .last .book) → k .certified ≡ everMarked (plain .moments) (k .point .id)
+  -- whatever is offered next
+  pub next : (o : Offer) → Bytes (o .bytes) → NextOffer found plain o (offerBytes (found .last) o)
 
--- "for every settings, every slice length that opens, every list": refused and Fail offers stand in the list like any other
+-- "for every settings, every slice length that opens, every list": settings that are read open every slice of 47 to 16,777,216 bytes,
+-- and refused and Fail offers stand in the list like any other
 abbrev pub FoundBooks : Type 0
 FoundBooks =
-    (settings slice : List ℕ) (c : Settings) (l : List Offer) → readSettings settings ≡ some c → openNumber settings (length slice) ≡ 0 →
-    AreBytes l → FoundBook settings slice c l (after c (length slice) [] l)
+    (settings slice : List ℕ) (c : Settings) (l : List Offer) → readSettings settings ≡ some c →
+    entriesStart ≤ length slice → length slice ≤ longestBook → AreBytes l →
+    (openNumber settings (length slice) ≡ 0)
+    × FoundBook (opened settings c (length slice)) (run offerBytes (openBytes settings slice) l) (run offer (opened settings c (length slice)) l)

@@ -1,10 +1,12 @@
--- The plain book (document 01, "The book"): a list of entries, and what a mark does to one; Offer.antt says when it is made.
+-- The plain book (document 01, "The book"): a list of entries, what a mark does to them, and the slice that they stand in. Offer.antt
+-- says when a mark is made.
 use Prim.Native.Nat.{ℕ}
 use mathlib.Core.Bool.{Bool, false, _||_}
 use mathlib.Core.Option.{Option, none, some}
 use mathlib.Core.List.{List, [], _∷_}
 use Rattle.base.specs.Base.{pick, isSome}
 use Rattle.point.specs.Point.{PointId, PointInfo, sameId}
+use Rattle.schedule.specs.Settings.{Settings}
 use Rattle.reasons.specs.Invalid.{InvalidDependency}
 
 -- DagPoint of a kept point, its own reason by number; of a trans-invalid one the root cause, and what it came through
@@ -37,19 +39,25 @@ unfolding findKept
 isTwice [] = false
 isTwice (k ∷ b) = isSome (findKept b (k .point .id)) || isTwice b
 
--- ---- "A mark covers that one point"
+-- ---- "A mark covers that one point": which points are covered is a test on their ids
 
-unfoldable pub markOne : PointId → Kept → Kept
-unfolding sameId
-markOne i k =
-    record { bytes = k .bytes; point = k .point; status = k .status; certified = k .certified || sameId (k .point .id) i }
+unfoldable pub markOne : (PointId → Bool) → Kept → Kept
+markOne covers k = record { bytes = k .bytes; point = k .point; status = k .status; certified = k .certified || covers (k .point .id) }
 
-unfoldable pub mark : PointId → Book → Book
+unfoldable pub mark : (PointId → Bool) → Book → Book
 unfolding markOne
-mark i [] = []
-mark i (k ∷ b) = markOne i k ∷ mark i b
+mark covers [] = []
+mark covers (k ∷ b) = markOne covers k ∷ mark covers b
 
--- "the previous point, if kept, is marked certified"
-abbrev pub markPrev : Option PointId → Book → Book
-markPrev none b = b
-markPrev (some i) b = mark i b
+-- ---- the book in its slice
+
+-- a book that was opened or read: the bytes of its settings, what they say, the slice's length, and its entries
+pub record Opened : Type 0 where
+  pub bytes : List ℕ
+  pub settings : Settings
+  pub length : ℕ
+  pub book : Book
+
+-- the same with other entries
+abbrev pub withEntries : Opened → Book → Opened
+withEntries z b = record { bytes = z .bytes; settings = z .settings; length = z .length; book = b }

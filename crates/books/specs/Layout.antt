@@ -2,11 +2,11 @@
 -- and how a book is laid out.
 use Prim.Native.Nat.{ℕ, zero, suc, _+_, _-_}
 use mathlib.Core.Bool.{Bool, true, false, _&&_}
-use mathlib.Core.Option.{Option, none, some}
+use mathlib.Core.Option.{Option, none, some, Option·map}
 use mathlib.Core.List.{List, [], _∷_, _++_}
 use lib.ListN.{length, getD, take, drop, replicate}
 use lib.Dec.{leb, eqb}
-use Rattle.base.specs.Base.{pick, isSome}
+use Rattle.base.specs.Base.{pick, isSome, andThen}
 use Rattle.parts.specs.Bytes.{idAt, bigBytes, littleBytes}
 use Rattle.parts.specs.Limits.{firstRound, lastRound, settingsLength, entriesStart, tag33Length, mostKept, longestBook}
 use Rattle.record.specs.Record.{fieldRow, fieldOk, recordEnd}
@@ -15,7 +15,7 @@ use Rattle.point.specs.Reading.{pointIdAt, readPoint}
 use Rattle.schedule.specs.Settings.{Settings, readSettings}
 use Rattle.reasons.specs.Invalid.{dagRound, InvalidDependency}
 use Rattle.rules.specs.List.{isListable}
-use Rattle.books.specs.Kept.{Status, Valid, TransInvalid, Invalid, IllFormed, Kept, Book, isTwice}
+use Rattle.books.specs.Kept.{Status, Valid, TransInvalid, Invalid, IllFormed, Kept, Book, isTwice, Opened}
 use Rattle.books.specs.Offer.{used}
 
 -- ---- how a book is laid out
@@ -97,45 +97,23 @@ isKeepable q (TransInvalid d) = isListable q
 isKeepable q (Invalid n) = isListable q
 isKeepable q (IllFormed n) = inDomain q
 
-abbrev pub keptWith : List ℕ → PointInfo → Bool → Option Status → Option Kept
-keptWith bytes q certified none = none
-keptWith bytes q certified (some s) =
-    pick (isKeepable q s) (some (record { bytes = bytes; point = q; status = s; certified = certified })) none
-
 -- the 105 bytes of tag 33, after a record
 unfoldable pub readKept : List ℕ → PointInfo → List ℕ → Option Kept
 unfolding readStatus isListable inDomain
-readKept bytes q t = pick (leb (getD t 1 0) 1) (keptWith bytes q (eqb (getD t 1 0) 1) (readStatus t)) none
+readKept bytes q t =
+    pick (leb (getD t 1 0) 1) (andThen (readStatus t) (λ s.
+    pick (isKeepable q s) (some (record { bytes = bytes; point = q; status = s; certified = eqb (getD t 1 0) 1 })) none)) none
 
 -- an entry at the front of a slice, and how many bytes it takes
 pub record KeptFront : Type 0 where
   pub kept : Kept
   pub size : ℕ
 
-abbrev pub sized : ℕ → Option Kept → Option KeptFront
-sized n none = none
-sized n (some k) = some (record { kept = k; size = n })
-
-abbrev pub frontWith : List ℕ → ℕ → Option PointInfo → Option KeptFront
-frontWith s n none = none
-frontWith s n (some q) =
-    pick (fieldOk (fieldRow 33 105 105) s n) (sized (n + tag33Length) (readKept (take n s) q (take 105 (drop (n + 3) s)))) none
-
-abbrev pub frontTo : List ℕ → Option ℕ → Option KeptFront
-frontTo s none = none
-frontTo s (some n) = frontWith s n (readPoint (take n s))
-
 unfoldable pub keptFront : List ℕ → Option KeptFront
 unfolding recordEnd readPoint fieldOk readKept
-keptFront s = frontTo s (recordEnd s)
-
-abbrev pub bookThen : Kept → Option Book → Option Book
-bookThen k none = none
-bookThen k (some b) = some (k ∷ b)
-
-abbrev pub entriesWith : (List ℕ → Option Book) → List ℕ → Option KeptFront → Option Book
-entriesWith next s none = none
-entriesWith next s (some x) = bookThen (x .kept) (next (drop (x .size) s))
+keptFront s =
+    andThen (recordEnd s) (λ n. andThen (readPoint (take n s)) (λ q. pick (fieldOk (fieldRow 33 105 105) s n)
+    (Option·map (λ k. record { kept = k; size = n + tag33Length }) (readKept (take n s) q (take 105 (drop (n + 3) s)))) none))
 
 -- "a 0 where an entry would begin, or the slice's end, ends the entries", and zeros stand after them; at most n entries
 unfoldable pub entriesFrom : ℕ → List ℕ → Option Book
@@ -144,18 +122,7 @@ entriesFrom zero s = pick (isZeros s) (some []) none
 entriesFrom (suc n) s =
     pick (eqb (getD s 0 0) 0)
     (pick (isZeros s) (some []) none)
-    (entriesWith (λ t. entriesFrom n t) s (keptFront s))
-
--- a book that was read: the bytes of its settings, what they say, and its entries
-pub record Opened : Type 0 where
-  pub bytes : List ℕ
-  pub settings : Settings
-  pub book : Book
-
-abbrev pub openedWith : List ℕ → Option Settings → Option Book → Option Opened
-openedWith s none b = none
-openedWith s (some c) none = none
-openedWith s (some c) (some b) = pick (isTwice b) none (some (record { bytes = s; settings = c; book = b }))
+    (andThen (keptFront s) (λ x. Option·map (λ b. x .kept ∷ b) (entriesFrom n (drop (x .size) s))))
 
 -- number 10: "bytes don't read as settings, entries (states 0 to 3) and zeros; or an id stands twice, or over 4,096 entries, or an
 -- entry lies outside the domain, or the slice is over 16,777,216 bytes"
@@ -163,5 +130,6 @@ unfoldable pub readBook : List ℕ → Option Opened
 unfolding readSettings entriesFrom isTwice
 readBook s =
     pick (leb (length s) longestBook)
-    (openedWith (take settingsLength s) (readSettings (take settingsLength s)) (entriesFrom mostKept (drop entriesStart s)))
+    (andThen (readSettings (take settingsLength s)) (λ c. andThen (entriesFrom mostKept (drop entriesStart s)) (λ b.
+    pick (isTwice b) none (some (record { bytes = take settingsLength s; settings = c; length = length s; book = b })))))
     none

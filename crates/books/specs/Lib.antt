@@ -1,7 +1,11 @@
 pub mod Kept
 pub mod Lists
 pub mod Offer
+pub mod Run
 pub mod Layout
 pub mod Calls
 pub mod Following
+pub mod ListFor
 pub mod FoundBook
+pub mod AnyBytes
+pub mod Example

@@ -4,14 +4,14 @@ use Prim.Native.Nat.{ℕ, _-_}
 use mathlib.Core.Bool.{Bool, true, false, _&&_}
 use mathlib.Core.Option.{Option, none, some}
 use mathlib.Core.List.{List, [], _∷_, _++_}
-use lib.Dec.{ltb, eqb}
+use lib.Dec.{ltb}
 use Rattle.base.specs.Base.{pick, isSome}
 use Rattle.map.specs.Rows.{Pair}
 use Rattle.point.specs.Point.{PointId, AnchorLink, Direct, Indirect, PointInfo, prevDigest, prevId}
 use Rattle.point.specs.declared.data.AnchorStageRole.{AnchorStageRole}
 use Rattle.point.specs.declared.data.AnchorStageRole.the-variants.{Proof, Trigger}
 use Rattle.rules.specs.DagPoint as dag
-use Rattle.rules.specs.DagPoint.{DagPoint, Entry, IndirectEntry}
+use Rattle.rules.specs.DagPoint.{DagPoint, Entry, IndirectEntry, isBy}
 use Rattle.rules.specs.Mismatch.{pairId, isId}
 use Rattle.books.specs.Kept.{Status, Valid, TransInvalid, Invalid, IllFormed, Kept, Book, findKept}
 
@@ -29,7 +29,7 @@ isValid (IllFormed n) = false
 
 -- an entry is a version of an author's point at a round
 abbrev pub isOf : ℕ → ℕ → Kept → Bool
-isOf round author k = eqb (k .point .id .round) round && eqb (k .point .id .author) author
+isOf round author k = isBy round author (k .point .id)
 
 -- "First valid is the earliest Valid entry of that author and round"
 unfoldable pub firstValid : Book → ℕ → ℕ → Option PointId

@@ -7,7 +7,6 @@ use mathlib.Core.List.{List, [], _∷_, _++_}
 use lib.ListN.{length}
 use lib.Dec.{leb, ltb, eqb}
 use Rattle.base.specs.Base.{pick, isSome}
-use Rattle.parts.specs.Bytes.{Bytes}
 use Rattle.parts.specs.Limits.{firstRound, lastRound, entriesStart, tag33Length, mostKept}
 use Rattle.point.specs.Point.{PointInfo, prevId}
 use Rattle.point.specs.Reading.{readPoint}
@@ -19,10 +18,11 @@ use Rattle.reasons.specs.Verdict as verdict
 use Rattle.reasons.specs.Verdict.{Verdict}
 use Rattle.rules.specs.DagPoint as dag
 use Rattle.rules.specs.DagPoint.{DagPoint, Entry, IndirectEntry}
-use Rattle.rules.specs.Judge.{Input, Tested, refused, admitted, testedWith, verifyBuffer, JudgeAnswer, Number, Given, Before, answered, needed, before, overEntries}
+use Rattle.rules.specs.Judge.{Input, Tested, refused, admitted, testedWith, verifyBuffer, JudgeAnswer, Number, Given}
+use Rattle.rules.specs.Judge.{Before, answered, needed, before, overEntries}
 use Rattle.rules.specs.List.{isListable}
-use Rattle.rules.specs.Mismatch.{entriesIn}
-use Rattle.books.specs.Kept.{Status, Valid, TransInvalid, Invalid, IllFormed, Kept, Book, findKept, markPrev}
+use Rattle.rules.specs.Mismatch.{entriesIn, isId}
+use Rattle.books.specs.Kept.{Status, Valid, TransInvalid, Invalid, IllFormed, Kept, Book, findKept, mark, Opened, withEntries}
 use Rattle.books.specs.Lists.{directList, indirectList}
 
 pub record Offer : Type 0 where
@@ -31,6 +31,22 @@ pub record Offer : Type 0 where
   pub bytes : List ℕ
   pub peers : List ℕ
 
+-- what an offer gives: its answer, the peer buffer, and the book after it, be it a value or bytes
+pub record Result (S : Type 0) : Type 0 where
+  pub answer : JudgeAnswer
+  pub peers : List ℕ
+  pub after : S
+
+-- ---- what a book's state says of an offer
+
+-- "All rounds are present"
+abbrev pub presenceIn : Opened → PointInfo → ℕ
+presenceIn z p = 3
+
+-- entries begin right after the settings
+abbrev pub startIn : Opened → ℕ
+startIn z = entriesStart
+
 -- ---- the numbers 2 to 5, 11 and 12
 
 -- the bytes that the entries take: "the point record and tag 33 (105 bytes)", which has 3 bytes before its content
@@ -38,30 +54,32 @@ unfoldable pub used : Book → ℕ
 used [] = 0
 used (k ∷ b) = length (k .bytes) + tag33Length + used b
 
--- 12: "4,096 entries, or record plus 108 bytes exceeds the rest" of a slice of `len` bytes
-unfoldable pub isFull : ℕ → Book → List ℕ → Bool
+-- 12: "4,096 entries, or record plus 108 bytes exceeds the rest"
+unfoldable pub isFull : Opened → List ℕ → Bool
 unfolding used
-isFull len b bytes = leb mostKept (length b) || ltb (len - entriesStart - used b) (length bytes + tag33Length)
+isFull z bytes = leb mostKept (length (z .book)) || ltb (z .length - startIn z - used (z .book)) (length bytes + tag33Length)
 
-abbrev pub testedRoom : ℕ → Book → List ℕ → Tested → Tested
-testedRoom len b bytes (refused n) = refused n
-testedRoom len b bytes (admitted i) =
-    pick (isSome (findKept b (i .point .id))) (refused 11)
-    (pick (isFull len b bytes) (refused 12) (admitted i))
+abbrev pub testedRoom : Opened → List ℕ → Tested → Tested
+testedRoom z bytes (refused n) = refused n
+testedRoom z bytes (admitted i) =
+    pick (isSome (findKept (z .book) (i .point .id))) (refused 11)
+    (pick (isFull z bytes) (refused 12) (admitted i))
+
+-- the numbers 2 to 5, of an offer to a book with these settings
+abbrev pub inputTested : Settings → Offer → Tested
+inputTested c o = testedWith (some c) (readSchedule (o .schedule)) (readPoint (o .bytes)) (leb (o .leader) 1) (length (o .peers))
 
 -- "An offer tests 10, then 2 to 5, 11, 12, then judges": 10 is tested of the book's bytes
-unfoldable pub offerTested : Settings → ℕ → Book → Offer → Tested
+unfoldable pub offerTested : Opened → Offer → Tested
 unfolding readSchedule readPoint findKept isFull
-offerTested c len b o =
-    testedRoom len b (o .bytes)
-    (testedWith (some c) (readSchedule (o .schedule)) (readPoint (o .bytes)) (leb (o .leader) 1) (length (o .peers)))
+offerTested z o = testedRoom z (o .bytes) (inputTested (z .settings) o)
 
 -- ---- judging
 
 -- "Rule for marks: where the list is needed, before its direct entries are judged, the previous point, if kept, is marked certified"
 abbrev pub markedBy : PointInfo → Book → Before → Book
 markedBy p b (answered a) = b
-markedBy p b (needed required) = markPrev (prevId p) b
+markedBy p b (needed required) = mark (isId (prevId p)) b
 
 -- the domain of a list, number 7: of records, root causes and reason numbers
 abbrev pub isStateOk : DagPoint → Bool
@@ -78,15 +96,29 @@ unfolding isListable dagRound
 areStatesOk [] = true
 areStatesOk (e ∷ l) = isStateOk (e .state) && areStatesOk l
 
--- demand 2 over two lists: 7 to 9, and the verdict; "All rounds are present"
-unfoldable pub answerOver : Settings → Bool → PointInfo → List Entry → List IndirectEntry → JudgeAnswer
+-- demand 2 over two lists: 7 to 9, and the verdict
+unfoldable pub answerOver : Settings → Bool → ℕ → PointInfo → List Entry → List IndirectEntry → JudgeAnswer
 unfolding areStatesOk entriesIn
-answerOver c required p es ts =
-    pick (areStatesOk es && areStatesOk (entriesIn ts)) (overEntries c required 3 p es ts) (Number 7)
+answerOver c required presence p es ts =
+    pick (areStatesOk es && areStatesOk (entriesIn ts)) (overEntries c required presence p es ts) (Number 7)
 
-abbrev pub answerWith : Settings → PointInfo → Book → Before → JudgeAnswer
-answerWith c p b (answered a) = a
-answerWith c p b (needed required) = answerOver c required p (directList b p) (indirectList b p)
+-- over the lists that entries give
+abbrev pub answerWith : Settings → ℕ → PointInfo → Book → Before → JudgeAnswer
+answerWith c presence p b (answered a) = a
+answerWith c presence p b (needed required) = answerOver c required presence p (directList b p) (indirectList b p)
+
+-- what is known before any list is built
+unfoldable pub beforeIn : Input → ℕ → Before
+unfolding before
+beforeIn i leader = before (i .settings) (i .schedule) (eqb leader 1) (i .point)
+
+unfoldable pub markedIn : Opened → Input → ℕ → Book
+unfolding beforeIn
+markedIn z i leader = markedBy (i .point) (z .book) (beforeIn i leader)
+
+unfoldable pub answerIn : Opened → Input → ℕ → JudgeAnswer
+unfolding markedIn beforeIn answerOver directList indirectList
+answerIn z i leader = answerWith (i .settings) (presenceIn z (i .point)) (i .point) (markedIn z i leader) (beforeIn i leader)
 
 -- ---- what an offer leaves
 
@@ -101,67 +133,27 @@ leftBy bytes p (verdict.Invalid r) = keptAs bytes p (Invalid (invalidNumber r)) 
 leftBy bytes p (verdict.TransInvalid d) = keptAs bytes p (TransInvalid d) ∷ []
 leftBy bytes p verdict.Valid = keptAs bytes p Valid ∷ []
 
-abbrev pub leftFrom : List ℕ → PointInfo → JudgeAnswer → List Kept
-leftFrom bytes p (Number n) = []
-leftFrom bytes p (Given v) = leftBy bytes p v
-
--- ---- an offer
-
--- what is known before any list is built
-unfoldable pub beforeIn : Input → ℕ → Before
-unfolding before
-beforeIn i leader = before (i .settings) (i .schedule) (eqb leader 1) (i .point)
-
-unfoldable pub markedIn : Input → ℕ → Book → Book
-unfolding beforeIn
-markedIn i leader b = markedBy (i .point) b (beforeIn i leader)
-
-unfoldable pub answerIn : Input → ℕ → Book → JudgeAnswer
-unfolding markedIn beforeIn answerOver directList indirectList
-answerIn i leader b = answerWith (i .settings) (i .point) (markedIn i leader b) (beforeIn i leader)
-
-pub record Outcome : Type 0 where
-  pub answer : JudgeAnswer
-  pub peers : List ℕ
-  pub book : Book
-
 -- "A number comes without a verdict, with all lent bytes unchanged"
-unfoldable pub offerWith : Book → Offer → Tested → Outcome
-unfolding answerIn markedIn
-offerWith b o (refused n) = record { answer = Number n; peers = o .peers; book = b }
-offerWith b o (admitted i) =
+abbrev pub numbered : Opened → Offer → ℕ → Result Opened
+numbered z o n = record { answer = Number n; peers = o .peers; after = z }
+
+abbrev pub judgedAs : Opened → Offer → Input → JudgeAnswer → Result Opened
+judgedAs z o i (Number n) = numbered z o n
+judgedAs z o i (Given v) =
     record {
-      answer = answerIn i (o .leader) b;
+      answer = Given v;
       peers = verifyBuffer (admitted i) (o .peers);
-      book = markedIn i (o .leader) b ++ leftFrom (o .bytes) (i .point) (answerIn i (o .leader) b);
+      after = withEntries z (markedIn z i (o .leader) ++ leftBy (o .bytes) (i .point) v);
     }
 
--- of a book with these settings in a slice of `len` bytes
-unfoldable pub offer : Settings → ℕ → Book → Offer → Outcome
+unfoldable pub offerWith : Opened → Offer → Tested → Result Opened
+unfolding answerIn markedIn
+offerWith z o (refused n) = numbered z o n
+offerWith z o (admitted i) = judgedAs z o i (answerIn z i (o .leader))
+
+unfoldable pub offer : Opened → Offer → Result Opened
 unfolding offerWith offerTested
-offer c len b o = offerWith b o (offerTested c len b o)
-
--- ---- a list of offers
-
-unfoldable pub after : Settings → ℕ → Book → List Offer → Book
-unfolding offer
-after c len b [] = b
-after c len b (o ∷ l) = after c len (offer c len b o .book) l
-
-unfoldable pub answers : Settings → ℕ → Book → List Offer → List JudgeAnswer
-unfolding offer
-answers c len b [] = []
-answers c len b (o ∷ l) = offer c len b o .answer ∷ answers c len (offer c len b o .book) l
-
-unfoldable pub buffers : Settings → ℕ → Book → List Offer → List (List ℕ)
-unfolding offer
-buffers c len b [] = []
-buffers c len b (o ∷ l) = offer c len b o .peers ∷ buffers c len (offer c len b o .book) l
-
--- the records of all offers are bytes, as those of every call are
-abbrev pub AreBytes : List Offer → Type 0
-AreBytes [] = Unit
-AreBytes (o ∷ l) = Bytes (o .bytes) × AreBytes l
+offer z o = offerWith z o (offerTested z o)
 
 abbrev pub offerOf : List ℕ → ℕ → List ℕ → List ℕ → Offer
 offerOf schedule leader bytes peers = record { schedule = schedule; leader = leader; bytes = bytes; peers = peers }

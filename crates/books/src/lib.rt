@@ -1,1 +1,16 @@
-// The definitions of the book, which crates prove their code equal to. There is no code here.
+// The definitions of the book, which crates prove their code equal to, and the statement on found books. There is no code here.
+ghost use Prim.Native.Nat.{ℕ};
+ghost use mathlib.Core.List.{List};
+ghost use Rattle.books.specs.FoundBook.{FoundBooks};
+ghost use Rattle.books.specs.AnyBytes.{AnyBytes};
+ghost use Rattle.books.specs.Example.{Example};
+
+// The statement and one book that it speaks of as a promise: without their proofs this crate is not proved, nor any that uses it.
+pub fn found_books()
+    ensures { λ r. ⌜ FoundBooks × Example ⌝ }
+{}
+
+// Likewise what is so of any bytes, whether a book was opened in them or not.
+pub fn any_bytes()
+    ensures { λ r. ⌜ ((s : List ℕ) → AnyBytes s) ⌝ }
+{}

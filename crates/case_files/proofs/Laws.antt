@@ -31,7 +31,7 @@ not-read old at new =
       nothing = λ h. refl;
       from = λ h. false-true (sym h);
       before = λ h. false-true (sym h);
-      behind = λ h. false-true (sym h);
+      after = λ h. false-true (sym h);
     }
 
 -- a blob from a place to an end
@@ -43,5 +43,5 @@ blob-read old at end part h g e =
       nothing = λ f. false-true f;
       from = λ f. h;
       before = λ f. take-put at (end - at) old part (omega arith);
-      behind = λ f. drop-put at end old part h g e;
+      after = λ f. drop-put at end old part h g e;
     }

@@ -31,4 +31,4 @@ pub record BlobRead (old : List ℕ) (at : ℕ) (new : List ℕ) (r : Blob) : Ty
   pub nothing : r .«is_there» ≡ false → r ≡ noBlob
   pub from : r .«is_there» ≡ true → at ≤ r .end
   pub before : r .«is_there» ≡ true → take at new ≡ take at old
-  pub behind : r .«is_there» ≡ true → drop (r .end) new ≡ drop (r .end) old
+  pub after : r .«is_there» ≡ true → drop (r .end) new ≡ drop (r .end) old

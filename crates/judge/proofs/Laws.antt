@@ -14,12 +14,12 @@ use Rattle.point.specs.declared.data.PointMap.the-variants as case-map
 use Rattle.schedule.specs.Settings.{Settings}
 use Rattle.schedule.specs.Schedule.{Schedule}
 use Rattle.reasons.specs.Invalid.{NoRoundInDag}
-use Rattle.reasons.specs.Verdict.{Verdict, Valid}
+use Rattle.reasons.specs.Verdict.{Verdict, Invalid, Valid}
 use Rattle.reasons.specs.declared.ill_formed.VerifyError.{VerifyError}
 use Rattle.rules.specs.Verify.{scheduled, verify, bufferWith}
 use Rattle.rules.specs.DagPoint.{Entry, IndirectEntry}
-use Rattle.rules.specs.Validate.{isInvalid, ofResult, overLists, presenceReason, validate}
-use Rattle.rules.specs.Judge.{Input, Tested, refused, admitted, verifyBuffer, JudgeAnswer, Number, Given, ofError, Before, answered, needed, beforeWave, beforeWith, before, judgeFrom, overList, judgeWith}
+use Rattle.rules.specs.Validate.{overLists, validate}
+use Rattle.rules.specs.Judge.{Input, Tested, refused, admitted, verifyBuffer, JudgeAnswer, Number, Given, ofError, Before, answered, needed, beforeWith, before, judgeFrom, overList, judgeWith}
 use Rattle.rules.specs.CheckIllFormed.{waveChecked}
 use Rattle.reasons.specs.declared.ill_formed.WaveChecked.{WaveChecked}
 use Rattle.rules.specs.List.{Listed, readList, directs, indirects}
@@ -47,7 +47,7 @@ module _ (c : Settings) (required : Bool) (p : PointInfo) where
   over-is : (l : List Listed) (j : ListJudged) → Over (some l) (some j) →
       j
       ≡ record {
-        verdict = ofResult (overLists c required p (directs l) (indirects l));
+        verdict = overLists c required p (directs l) (indirects l);
         uncovered = uncovered (prevId p) (directs l) (indirects l);
       }
   over-is l j h = cc
@@ -73,30 +73,30 @@ module _ (c : Settings) (required : Bool) (presence : ℕ) (p : PointInfo) where
   -- past the numbers
   answer-judged : (l : List Listed) (j : ListJudged) → Over c required p (some l) (some j) →
       Mismatch presence p (some l) false → j .uncovered ≡ false →
-      Given (ofResult (validate c required presence p (directs l) (indirects l))) ≡ overList c required presence p (some l)
+      Given (validate c required presence p (directs l) (indirects l)) ≡ overList c required presence p (some l)
   answer-judged l j h m u = rw (sym (m l refl), is-uncovered c required p l j h, u)
 
   module _ (two : 2 ≤ presence) where
     -- whether the witness round lacks
     by-witness : (b : Bool) (es : List Entry) (ts : List IndirectEntry) → b ≡ (eqb presence 2 && not (isEmpty (p .witness))) →
-        validate c required presence p es ts ≡ pick b (isInvalid (NoRoundInDag case-map.Witness)) (overLists c required p es ts)
-    unfolding validate presenceReason
+        validate c required presence p es ts ≡ pick b (Invalid (NoRoundInDag case-map.Witness)) (overLists c required p es ts)
+    unfolding validate
     by-witness true es ts h = rw (← h, ne-eqb presence 0 (λ e. omega (arith, two, e)), ne-eqb presence 1 (λ e. omega (arith, two, e)))
     by-witness false es ts h = rw (← h, ne-eqb presence 0 (λ e. omega (arith, two, e)), ne-eqb presence 1 (λ e. omega (arith, two, e)))
 
     pub answer-witness : (o : Option (List Listed)) (j : ListJudged) → Over c required p o (some j) →
         Mismatch presence p o false → j .uncovered ≡ false → true ≡ (eqb presence 2 && not (isEmpty (p .witness))) →
-        Given (ofResult (isInvalid (NoRoundInDag case-map.Witness))) ≡ overList c required presence p o
+        Given (Invalid (NoRoundInDag case-map.Witness)) ≡ overList c required presence p o
     answer-witness none j h m u n = impossible (cc)
     answer-witness (some l) j h m u n =
-        ap (λ r. Given (ofResult r)) (sym (by-witness true (directs l) (indirects l) n)) ∙ answer-judged l j h m u
+        ap Given (sym (by-witness true (directs l) (indirects l) n)) ∙ answer-judged l j h m u
 
     pub answer-verdict : (o : Option (List Listed)) (j : ListJudged) → Over c required p o (some j) →
         Mismatch presence p o false → j .uncovered ≡ false → false ≡ (eqb presence 2 && not (isEmpty (p .witness))) → Given (j .verdict) ≡ overList c required presence p o
     answer-verdict none j h m u n = impossible (cc)
     answer-verdict (some l) j h m u n =
         ap (λ (k : ListJudged). Given (k .verdict)) (over-is c required p l j h)
-        ∙ (ap (λ q. Given (ofResult q)) (sym (by-witness false (directs l) (indirects l) n)) ∙ answer-judged l j h m u)
+        ∙ (ap Given (sym (by-witness false (directs l) (indirects l) n)) ∙ answer-judged l j h m u)
 
 -- ---- before the list
 
@@ -105,12 +105,12 @@ module _ (c : Settings) (presence : ℕ) (p : PointInfo) (list : List ℕ) where
   From b a = a ≡ judgeFrom c presence p list b
 
   module _ (required : Bool) where
-    pub answer-evidence : presence ≡ 0 → From (needed required) (Given (ofResult (isInvalid (NoRoundInDag case-map.Evidence))))
-    unfolding validate presenceReason
+    pub answer-evidence : presence ≡ 0 → From (needed required) (Given (Invalid (NoRoundInDag case-map.Evidence)))
+    unfolding validate
     answer-evidence h = rw h
 
-    pub answer-includes : presence ≡ 1 → From (needed required) (Given (ofResult (isInvalid (NoRoundInDag case-map.Includes))))
-    unfolding validate presenceReason
+    pub answer-includes : presence ≡ 1 → From (needed required) (Given (Invalid (NoRoundInDag case-map.Includes)))
+    unfolding validate
     answer-includes h = rw h
 
     pub answer-needed : (a : JudgeAnswer) → 2 ≤ presence → a ≡ overList c required presence p (readList list) → From (needed required) a
@@ -122,7 +122,7 @@ module _ (round genesis : ℕ) (wave : WaveChecked) where
   pub before-genesis : round ≡ genesis → answered (Given Valid) ≡ beforeWith none (eqb round genesis) wave
   before-genesis h = rw (eq-eqb round genesis h)
 
-  pub before-wave : (found : WaveChecked) (b : Before) → (round ≡ genesis → ⊥) → found ≡ wave → b ≡ beforeWave found →
+  pub before-wave : (found : WaveChecked) (b : Before) → (round ≡ genesis → ⊥) → found ≡ wave → b ≡ beforeWith none false found →
       b ≡ beforeWith none (eqb round genesis) wave
   before-wave found b h e f = f ∙ rw (ne-eqb round genesis h, e)
 

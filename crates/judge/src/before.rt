@@ -18,10 +18,11 @@ ghost use Rattle.point.specs.Reading.{readPoint};
 ghost use Rattle.schedule.specs.Code.{settingsOf, scheduleOf};
 ghost use Rattle.schedule.specs.Schedule.{readSchedule};
 ghost use Rattle.reasons.specs.Code.{verdictOf, verifiedOf};
-ghost use Rattle.rules.specs.Verify.{scheduled, verify, bufferWith};
+ghost use Rattle.rules.specs.Verify.{verify};
 ghost use Rattle.rules.specs.CheckIllFormed.{waveChecked};
 ghost use Rattle.rules.specs.Judge.{ofError, beforeWith, before};
 ghost use Rattle.judge.specs.Code.{beforeOf};
+ghost use Rattle.verify_peers.specs.Code.{BufferAfter};
 
 // Document 01's number in place of a verdict, or the verdict.
 pub enum JudgeAnswer {
@@ -63,7 +64,9 @@ fn before_verified(
     is_leader: bool,
 ) -> Before
     requires { ⌜ readPoint (now rec) ≡ some (pointOf (now rec) info) ⌝ }
-    ensures { λ r. ⌜ ((s : List ℕ) → beforeOf r ≡ beforeWith none (eqb (info .id .round) (settingsOf conf .genesisRound)) (waveChecked (scheduleOf s spans) «is_leader» (pointOf (now (rec .entry)) info))) ⌝ }
+    ensures { λ r. ⌜ ((s : List ℕ) →
+        beforeOf r ≡ beforeWith none (eqb (info .id .round) (settingsOf conf .genesisRound))
+        (waveChecked (scheduleOf s spans) «is_leader» (pointOf (now (rec .entry)) info))) ⌝ }
 {
     let id = info.id;
     if id.round == conf.genesis_round {
@@ -93,7 +96,8 @@ pub fn before_list(
     requires { ⌜ readPoint (now rec) ≡ some (pointOf (now rec) info) ⌝ }
     requires { ⌜ peersRoom ≤ length (now peers) ⌝ }
     ensures { λ r. ⌜ beforeOf r ≡ before (settingsOf conf) (scheduleOf (now (schedule .entry)) spans) «is_leader» (pointOf (now (rec .entry)) info) ⌝ }
-    ensures { λ r. ⌜ now (peers .exit) ≡ bufferWith (scheduled (settingsOf conf) (scheduleOf (now (schedule .entry)) spans) (pointOf (now (rec .entry)) info)) (pointOf (now (rec .entry)) info) (verify (settingsOf conf) (scheduleOf (now (schedule .entry)) spans) (pointOf (now (rec .entry)) info)) (now (peers .entry)) ⌝ }
+    ensures { λ r. ⌜ BufferAfter conf (now (schedule .entry)) spans (now (rec .entry)) info
+        (verify (settingsOf conf) (scheduleOf (now (schedule .entry)) spans) (pointOf (now (rec .entry)) info)) (now (peers .entry)) (now (peers .exit)) ⌝ }
 {
     let verified = verify::verify_point(conf, schedule, spans, rec, info, peers);
     let Verified::Passed = verified else {

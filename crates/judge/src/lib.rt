@@ -25,13 +25,13 @@ ghost use Rattle.point.specs.declared.info.PointInfo as code-info;
 ghost use Rattle.point.specs.Point.{inDomain};
 ghost use Rattle.schedule.specs.Code.{settingsOf};
 ghost use Rattle.reasons.specs.Invalid.{NoRoundInDag};
-ghost use Rattle.rules.specs.Validate.{isInvalid, ofResult};
+ghost use Rattle.reasons.specs.Verdict.{Invalid};
 ghost use Rattle.rules.specs.Judge.{tested, verifyBuffer, Given, needed, overList, judgeFrom, flagsOk, judgeWith};
 ghost use Rattle.rules.specs.List.{readList};
 ghost use Rattle.judge.specs.Code.{judgeAnswerOf};
 
 fn no_round(map: PointMap) -> JudgeAnswer
-    ensures { λ r. ⌜ judgeAnswerOf r ≡ Given (ofResult (isInvalid (NoRoundInDag map))) ⌝ }
+    ensures { λ r. ⌜ judgeAnswerOf r ≡ Given (Invalid (NoRoundInDag map)) ⌝ }
 {
     JudgeAnswer::Verdict(Verdict::Invalid(InvalidReason::NoRoundInDag(map)))
 }
@@ -109,8 +109,11 @@ pub fn judge(
     list: &[u8],
     peers: &mut [u8],
 ) -> JudgeAnswer
-    ensures { λ r. ⌜ judgeAnswerOf r ≡ judgeWith leader presence (now (list .entry)) (tested (now (settings .entry)) (now (schedule .entry)) (now (rec .entry)) (flagsOk leader presence) (length (now (peers .entry)))) ⌝ }
-    ensures { λ r. ⌜ now (peers .exit) ≡ verifyBuffer (tested (now (settings .entry)) (now (schedule .entry)) (now (rec .entry)) (flagsOk leader presence) (length (now (peers .entry)))) (now (peers .entry)) ⌝ }
+    ensures { λ r. ⌜ judgeAnswerOf r ≡ judgeWith leader presence (now (list .entry))
+        (tested (now (settings .entry)) (now (schedule .entry)) (now (rec .entry)) (flagsOk leader presence) (length (now (peers .entry)))) ⌝ }
+    ensures { λ r. ⌜ now (peers .exit) ≡ verifyBuffer
+        (tested (now (settings .entry)) (now (schedule .entry)) (now (rec .entry)) (flagsOk leader presence) (length (now (peers .entry))))
+        (now (peers .entry)) ⌝ }
 {
     let ReadSettings::Settings(conf) = schedule::read_settings(settings) else {
         return JudgeAnswer::Number(1);

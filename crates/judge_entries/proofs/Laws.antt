@@ -1,22 +1,22 @@
--- Laws of entries: the steps of reading one, where its parts stand, how many bytes it takes, and a list entry by entry.
+-- Laws of entries: the steps of reading one, and where its parts stand.
 use Prim.Native.Nat.{ℕ, zero, suc, _+_, _-_, _≤_, _<_}
 use native.Mathlib.Omega.{arith}
 use mathlib.Core.Path.{_≡_, refl, ap, sym, _∙_}
 use mathlib.Core.Bool.{Bool, true, false, _&&_}
-use mathlib.Core.Option.{Option, none, some}
+use mathlib.Core.Option.{Option, none, some, Option·map}
 use mathlib.Core.List.{List, [], _∷_}
 use lib.ListN.{length, getD, take, drop, length-drop}
 use lib.Seq.{drop-drop}
-use lib.Dec.{leb, eqb}
+use lib.Dec.{eqb}
 use borrow.Author.Tests.{le-leb, lt-leb, eq-eqb, ne-eqb}
 use Rattle.base.specs.Base.{pick, isSome}
-use Rattle.base.proofs.Bool.{and-left, and-right}
-use Rattle.base.proofs.Option.{picked, IfSome, pick-has, has, none-some}
+use Rattle.base.proofs.Bool.{and-left}
+use Rattle.base.proofs.Option.{picked, and-then}
 use Rattle.parts.specs.Bytes.{littleAt}
 use Rattle.map.specs.declared.Found.{Found}
 use Rattle.map.specs.Code.{foundOf}
 use Rattle.record.specs.Record.{fieldRow, fieldOk, recordEnd}
-use Rattle.record.proofs.Laws.{fitting, end-within}
+use Rattle.record.proofs.Laws.{fitting}
 use Rattle.point.specs.Point.{PointId, PointInfo, digestSafe, inDomain}
 use Rattle.point.specs.Reading.{pointIdAt, readPoint}
 use Rattle.point.specs.Code.{throughOf, linkOf, pointOf}
@@ -28,7 +28,7 @@ use Rattle.point.specs.declared.link.AnchorLink.the-variants as case-link
 use Rattle.point.specs.declared.info.PointInfo as code-info
 use Rattle.reasons.specs.Invalid.{dagRound}
 use Rattle.rules.specs.DagPoint.{DagPoint, Valid, TransInvalid, Invalid, IllFormed, NotFound, Dropped}
-use Rattle.rules.specs.List.{isNamed, isListable, Stated, RecordFront, frontWith, frontTo, recordFront, statedWith, recordAt, idAt17, isRoot, readState, Listed, listedWith, entryAt, roleOf, readEntry, isInOrder, listThen, listFrom, listWith}
+use Rattle.rules.specs.List.{isNamed, isListable, Stated, RecordFront, recordFront, recordAt, idAt17, isRoot, readState, Listed, entryAt, readEntry}
 use Rattle.judge_entries.specs.Code.{dagPointOf, partOf, readRecordOf, RecordPlaced, EntryPlaced, readStatedOf, StatedPlaced}
 use Rattle.judge_entries.specs.declared.Stated as code-stated
 use Rattle.judge_entries.specs.declared.ReadStated as code-read-stated
@@ -41,8 +41,8 @@ use Rattle.judge_entries.specs.declared.ReadRecord.the-variants as case-
 part-is : (s : List ℕ) (front n size : ℕ) → size ≡ front + n → partOf s front size ≡ take n (drop front s)
 part-is s front n size e = let h : size - front ≡ n = omega arith in rw h
 
-part-behind : (s : List ℕ) (front place size : ℕ) → partOf s (front + place) (front + size) ≡ partOf (drop front s) place size
-part-behind s front place size =
+part-after : (s : List ℕ) (front place size : ℕ) → partOf s (front + place) (front + size) ≡ partOf (drop front s) place size
+part-after s front place size =
     let h : front + size - (front + place) ≡ size - place = omega arith in
     rw (h, drop-drop place front s)
 
@@ -92,6 +92,19 @@ module _ (s part : List ℕ) (n : ℕ) (e : recordEnd s ≡ some n) (p : part �
     pub front-listed : isListable (pointOf part i) ≡ true → recordFront s ≡ some (record { point = pointOf (take n s) i; size = n })
     unfolding recordFront
     front-listed g = rw (e, ← p, h, g)
+
+-- the parts of a record that was read at the front of a slice
+pub record Fronted (s : List ℕ) (x : RecordFront) : Type 0 where
+  pub end : recordEnd s ≡ some (x .size)
+  pub reads : readPoint (take (x .size) s) ≡ some (x .point)
+
+pub fronted : (s : List ℕ) (x : RecordFront) → recordFront s ≡ some x → Fronted s x
+unfolding recordFront
+fronted s x h =
+    let n = and-then (recordEnd s) _ x h in
+    let q = and-then (readPoint (take (n .0) s)) _ x (n .2) in
+    let e : record { point = q .0; size = n .0 } ≡ x = let p = picked (isListable (q .0)) _ x (q .2) .1 in cc in
+    record { end = rw (← e) (n .1); reads = rw (← e) (q .1) }
 
 -- ---- a root cause
 
@@ -225,6 +238,15 @@ module _ (s part : List ℕ) (front : ℕ) (r : code-read-record.ReadRecord) (p 
 
 -- ---- the flags of an entry
 
+-- an entry by what stands after its flags
+abbrev pub listedAs : Option AnchorStageRole → ℕ → List ℕ → Stated → Listed
+listedAs aim front s x =
+    record {
+      aim = aim;
+      entry = record { state = x .point; certified = eqb (getD s 4 0) 1; firstValid = eqb (getD s 5 0) 1 };
+      size = front + 7 + x .size;
+    }
+
 module _ (aim : Option AnchorStageRole) (front : ℕ) (s : List ℕ) where
   pub entry-unfit : fieldOk (fieldRow 16 4 4) s 0 ≡ false → entryAt aim front s ≡ none
   unfolding entryAt
@@ -239,11 +261,11 @@ module _ (aim : Option AnchorStageRole) (front : ℕ) (s : List ℕ) where
     unfolding entryAt
     entry-first g h = rw (f, le-leb (getD s 4 0) 1 g, lt-leb (getD s 5 0) 1 h)
 
-    pub entry-flagged : getD s 4 0 ≤ 1 → getD s 5 0 ≤ 1 → entryAt aim front s ≡ listedWith aim front s (readState (getD s 3 0) (getD s 6 0) (drop 7 s))
+    pub entry-flagged : getD s 4 0 ≤ 1 → getD s 5 0 ≤ 1 → entryAt aim front s ≡ Option·map (listedAs aim front s) (readState (getD s 3 0) (getD s 6 0) (drop 7 s))
     unfolding entryAt
     entry-flagged g h = rw (f, le-leb (getD s 4 0) 1 g, le-leb (getD s 5 0) 1 h)
 
-  pub listed-none : (o : Option Stated) → o ≡ none → listedWith aim front s o ≡ none
+  pub listed-none : (o : Option Stated) → o ≡ none → Option·map (listedAs aim front s) o ≡ none
   listed-none o h = rw h
 
 pub placed-stated : (s : List ℕ) (x : code-stated.Stated) (r : code-read-stated.ReadStated) → r ≡ case-read-stated.Stated x → StatedPlaced s r →
@@ -255,10 +277,10 @@ module _ (front : ℕ) (t s part : List ℕ) (d : drop front t ≡ s) (p : part 
   part-same : partOf t (front + 7 + x .place) (front + 7 + x .size) ≡ partOf part (x .place) (x .size)
   part-same =
       let e : drop (front + 7) t ≡ part = sym (drop-drop 7 front t) ∙ (ap (drop 7) d ∙ sym p) in
-      part-behind t (front + 7) (x .place) (x .size) ∙ ap (λ (l : List ℕ). partOf l (x .place) (x .size)) e
+      part-after t (front + 7) (x .place) (x .size) ∙ ap (λ (l : List ℕ). partOf l (x .place) (x .size)) e
 
   pub listed-some : (aim : Option AnchorStageRole) (o : Option Stated) → o ≡ readStatedOf part (case-read-stated.Stated x) →
-      listedWith aim front s o
+      Option·map (listedAs aim front s) o
       ≡ some (record {
         aim = aim;
         entry = record {
@@ -318,113 +340,6 @@ module _ (s : List ℕ) where
       pub read-roleless : (getD s 3 0 ≡ 0 → ⊥) → (getD s 3 0 ≡ 1 → ⊥) → readEntry s ≡ none
       unfolding readEntry
       read-roleless g h = rw (f, eq-eqb (getD s 0 0) 19 e, lt-leb (getD s 3 0) 1 (over-one (getD s 3 0) g h))
-
--- ---- how many bytes an entry takes
-
-abbrev Inside : ℕ → Stated → Type 0
-Inside n x = x .size ≤ n
-
-front-with : (n : ℕ) (o : Option PointInfo) (x : RecordFront) → frontWith n o ≡ some x → x .size ≡ n
-front-with n none x h = none-some h
-front-with n (some q) x h = let e = picked (isListable q) (some (record { point = q; size = n })) x h .1 in cc
-
-front-to : (s : List ℕ) (o : Option ℕ) (x : RecordFront) → recordEnd s ≡ o → frontTo s o ≡ some x → x .size ≤ length s
-front-to s none x e h = none-some h
-front-to s (some n) x e h = omega (arith, front-with n (readPoint (take n s)) x h, end-within s n e)
-
-front-within : (s : List ℕ) (x : RecordFront) → recordFront s ≡ some x → x .size ≤ length s
-unfolding recordFront
-front-within s x h = front-to s (recordEnd s) x refl h
-
-module _ (state : PointInfo → DagPoint) (front : ℕ) (s : List ℕ) (h : front ≤ length s) where
-  stated-within : (o : Option RecordFront) → recordFront (drop front s) ≡ o → IfSome (Inside (length s)) (statedWith state front o)
-  stated-within none e = tt
-  stated-within (some x) e = omega (arith, front-within (drop front s) x e, length-drop front s)
-
-  record-within : IfSome (Inside (length s)) (recordAt state front s)
-  record-within = stated-within (recordFront (drop front s)) refl
-
-id-within : (state : PointId → DagPoint) (s : List ℕ) → IfSome (Inside (length s)) (idAt17 state s)
-id-within state s = pick-has (Inside (length s)) (fieldOk (fieldRow 17 68 68) s 0) _ none (λ h. fixed 17 68 s h) tt
-
-state-within : (state reason : ℕ) (s : List ℕ) → IfSome (Inside (length s)) (readState state reason s)
-unfolding readState
-state-within state reason s =
-    let P = Inside (length s) in
-    let z : 0 ≤ length s = omega arith in
-    pick-has P (eqb state 0) _ _ (λ _. pick-has P (eqb reason 0) _ none (λ _. record-within Valid 0 s z) tt)
-    (pick-has P (eqb state 1) _ _ (λ _. pick-has P (eqb reason 0 && isRoot s) _ none (λ h. record-within (λ q. TransInvalid q (pointIdAt s 3) (getD s 71 0)) 72 s (root-within s (and-right (eqb reason 0) (isRoot s) h))) tt)
-    (pick-has P (eqb state 2) _ _ (λ _. pick-has P (isSome (dagRound reason)) _ none (λ _. record-within (λ q. Invalid q reason) 0 s z) tt)
-    (pick-has P (eqb state 3) _ _ (λ _. pick-has P (leb 1 reason && leb reason 16) _ none (λ _. id-within (λ i. IllFormed i reason) s) tt)
-    (pick-has P (eqb state 4) _ _ (λ _. pick-has P (eqb reason 0) _ none (λ _. id-within NotFound s) tt)
-    (pick-has P (eqb state 5 && eqb reason 0) _ none (λ _. z) tt)))))
-
--- an entry takes at least one byte, and lies in what it was read from
-abbrev Taken : ℕ → Listed → Type 0
-Taken n x = (0 < x .size) × (x .size ≤ n)
-
-module _ (aim : Option AnchorStageRole) (front : ℕ) (s : List ℕ) where
-  listed-within : (n : ℕ) (o : Option Stated) → 7 ≤ length s → front + length s ≤ n → IfSome (Inside (length (drop 7 s))) o →
-      IfSome (Taken n) (listedWith aim front s o)
-  listed-within n none h e g = tt
-  listed-within n (some x) h e g = (omega arith, omega (arith, length-drop 7 s))
-
-  entry-within : (n : ℕ) → front + length s ≤ n → IfSome (Taken n) (entryAt aim front s)
-  unfolding entryAt
-  entry-within n e =
-      pick-has (Taken n) (fieldOk (fieldRow 16 4 4) s 0 && (leb (getD s 4 0) 1 && leb (getD s 5 0) 1)) _ none
-      (λ h. listed-within n (readState (getD s 3 0) (getD s 6 0) (drop 7 s)) (fixed 16 4 s (and-left (fieldOk (fieldRow 16 4 4) s 0) _ h)) e (state-within (getD s 3 0) (getD s 6 0) (drop 7 s)))
-      tt
-
-read-within : (s : List ℕ) → IfSome (Taken (length s)) (readEntry s)
-unfolding readEntry
-read-within s =
-    let P = Taken (length s) in
-    pick-has P (eqb (getD s 0 0) 19) _ _
-    (λ _. pick-has P (fieldOk (fieldRow 19 1 1) s 0 && leb (getD s 3 0) 1) _ none
-    (λ h. let f = fixed 19 1 s (and-left (fieldOk (fieldRow 19 1 1) s 0) _ h) in
-    entry-within (some (roleOf (getD s 3 0))) 4 (drop 4 s) (length s) (omega (arith, length-drop 4 s))) tt)
-    (entry-within none 0 s (length s) (omega arith))
-
-module _ (s : List ℕ) (x : Listed) (h : readEntry s ≡ some x) where
-  pub entry-some : 0 < x .size
-  entry-some = has (Taken (length s)) (readEntry s) x (read-within s) h .0
-
-  pub entry-inside : x .size ≤ length s
-  entry-inside = has (Taken (length s)) (readEntry s) x (read-within s) h .1
-
--- ---- a list entry by entry
-
-pub list-end : (n : ℕ) (behind : Bool) (s : List ℕ) → length s ≡ 0 → listFrom n behind s ≡ some []
-unfolding listFrom
-list-end zero behind s h = rw (eq-eqb (length s) 0 h)
-list-end (suc n) behind s h = rw (eq-eqb (length s) 0 h)
-
-module _ (behind : Bool) (s : List ℕ) (h : 0 < length s) where
-  -- more entries than a list may hold
-  pub list-full : listFrom 0 behind s ≡ none
-  unfolding listFrom
-  list-full = rw (ne-eqb (length s) 0 (λ e. omega arith))
-
-  list-next : (n : ℕ) → listFrom (suc n) behind s ≡ listWith (listFrom n) behind s (readEntry s)
-  unfolding listFrom
-  list-next n = rw (ne-eqb (length s) 0 (λ e. omega arith))
-
-  pub list-unread : (n : ℕ) → readEntry s ≡ none → listFrom n behind s ≡ none
-  list-unread zero e = list-full
-  list-unread (suc n) e = list-next n ∙ rw e
-
-  module _ (x : Listed) (e : readEntry s ≡ some x) where
-    -- a dependency after an indirect link's target
-    pub list-disordered : (n : ℕ) → isInOrder behind (x .aim) ≡ false → listFrom n behind s ≡ none
-    list-disordered zero g = list-full
-    list-disordered (suc n) g = list-next n ∙ rw (e, g)
-
-    pub list-step : (n m : ℕ) → n ≡ m + 1 → isInOrder behind (x .aim) ≡ true →
-        listFrom n behind s ≡ listThen x (listFrom m (isSome (x .aim)) (drop (x .size) s))
-    list-step n m f g =
-        let f : n ≡ suc m = omega arith in
-        rw f (list-next m ∙ rw (e, g))
 
 -- ---- for those who judge entries: tests of a round that a call gave
 

@@ -21,7 +21,8 @@ ghost use Rattle.rules.specs.DagPoint.{entryId, isDropped};
 ghost use Rattle.rules.specs.List.{isNamed, isListable, recordFront, isRoot, readState, entryAt, readEntry};
 ghost use Rattle.judge_entries.specs.Code.{aimOf, dagPointOf, readRecordOf, RecordPlaced, readStatedOf, StatedPlaced, readListedOf, ListedPlaced};
 
-// What a list says of a dependency. Its point's maps stay in its record.
+// What a list says of a dependency: its point or its id, the id of its root cause, the number of a reason, in this order. A point's
+// maps stay in its record.
 pub enum DagPoint {
     Valid(PointInfo),
     TransInvalid(PointInfo, PointId, u8),

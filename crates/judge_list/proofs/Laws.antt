@@ -2,18 +2,18 @@
 use Prim.Native.Nat.{ℕ, zero, suc, _-_, _≤_, _<_}
 use mathlib.Core.Path.{_≡_, refl, ap, _∙_}
 use mathlib.Core.Bool.{Bool, true, false, _||_, and-false, and-true}
-use mathlib.Core.Option.{Option, none, some}
-use mathlib.Core.List.{List}
+use mathlib.Core.Option.{Option, none, some, Option·map}
+use mathlib.Core.List.{List, _∷_}
 use lib.ListN.{length, drop}
 use lib.Dec.{eqb}
 use borrow.Author.Tests.{eq-eqb, ne-eqb}
-use Rattle.base.specs.Base.{pick, isSome}
+use Rattle.base.specs.Base.{pick, isSome, andThen}
 use native.Mathlib.Omega.{arith}
-use Rattle.point.specs.Point.{PointId, PointInfo, sameId, prevIdWith, Through, through}
+use Rattle.point.specs.Point.{PointId, PointInfo, sameId, Through, through}
 use Rattle.rules.specs.DagPoint.{pointView, Entry}
 use Rattle.rules.specs.Mismatch.{isId, uncovers}
 use Rattle.schedule.specs.Settings.{Settings}
-use Rattle.rules.specs.List.{Listed, readEntry, isInOrder, listThen, listWith, listFrom}
+use Rattle.rules.specs.List.{Listed, readEntry, isInOrder, listFrom}
 use Rattle.judge_step.specs.Code.{Judging, indirectStep}
 use Rattle.point.specs.Code.{linkIn, pointOf}
 use Rattle.point.specs.declared.info.PointInfo as code-info
@@ -21,6 +21,7 @@ use Rattle.point.specs.declared.data.AnchorStageRole.{AnchorStageRole}
 use Rattle.point.specs.declared.data.AnchorStageRole.the-variants.{Proof, Trigger}
 use Rattle.judge_valid.specs.Code.{pointViewOf}
 use Rattle.judge_valid.specs.declared.view.PointView as code-view
+use Rattle.judge_entries.proofs.Order.{listThen}
 use Rattle.judge_entries.specs.Code.{EntryPlaced, ListedPlaced}
 use Rattle.judge_entries.specs.declared.Listed as code-listed
 use Rattle.judge_entries.specs.declared.ReadListed as code-read
@@ -28,23 +29,23 @@ use Rattle.judge_entries.specs.declared.ReadListed.the-variants as case-read
 use Rattle.judge_list.specs.declared.Next as code-next
 use Rattle.judge_list.specs.declared.Next.the-variants as case-next
 use Rattle.judge_list.specs.declared.Walk as code-walk
-use Rattle.judge_list.specs.Code.{NextWithin, Walk, Viewed, viewed, stepAs, prevIn, walkStep, walkFold, Next, nextWith, walkWith, viewedOf}
+use Rattle.judge_list.specs.Code.{NextWithin, Walk, Viewed, viewed, stepAs, prevOf, prevIn, walkStep, walkFold, Next, nextWith, walkWith, viewedOf}
 
 -- ---- the previous point
 
-pub prev-other-round : (i j : PointId) (o : Option ℕ) → eqb (i .round - 1) (j .round) ≡ false → isId (prevIdWith i o) j ≡ false
+pub prev-other-round : (i j : PointId) (o : Option ℕ) → eqb (i .round - 1) (j .round) ≡ false → isId (prevOf i o) j ≡ false
 unfolding sameId
 prev-other-round i j none h = refl
 prev-other-round i j (some d) h = rw h
 
 pub prev-other-author : (i j : PointId) (o : Option ℕ) →
-    eqb (i .round - 1) (j .round) ≡ true → eqb (i .author) (j .author) ≡ false → isId (prevIdWith i o) j ≡ false
+    eqb (i .round - 1) (j .round) ≡ true → eqb (i .author) (j .author) ≡ false → isId (prevOf i o) j ≡ false
 unfolding sameId
 prev-other-author i j none h g = refl
 prev-other-author i j (some d) h g = rw (h, g, and-false (eqb d (j .digest)))
 
 pub prev-digest : (i j : PointId) (d : ℕ) →
-    eqb (i .round - 1) (j .round) ≡ true → eqb (i .author) (j .author) ≡ true → isId (prevIdWith i (some d)) j ≡ eqb d (j .digest)
+    eqb (i .round - 1) (j .round) ≡ true → eqb (i .author) (j .author) ≡ true → isId (prevOf i (some d)) j ≡ eqb d (j .digest)
 unfolding sameId
 prev-digest i j d h g = rw (h, g, and-true (eqb d (j .digest)))
 
@@ -63,64 +64,64 @@ module _ (c : Settings) (required : Bool) (p : Viewed) where
   -- the walk over what is left, once the next entry is read
   abbrev pub walkNext : ℕ → List ℕ → Option Next → Option Walk
   walkNext n s none = none
-  walkNext n s (some y) = walkWith c required p (y .walk) (listFrom n (y .behind) (drop (y .size) s))
+  walkNext n s (some y) = walkWith c required p (y .walk) (listFrom n (y .indirect) (drop (y .size) s))
 
   then-walked : (w : Walk) (x : Listed) (o : Option (List Listed)) →
-      walkWith c required p w (listThen x o) ≡ walkWith c required p (walkStep c required p w x) o
+      walkWith c required p w (Option·map (λ l. x ∷ l) o) ≡ walkWith c required p (walkStep c required p w x) o
   unfolding walkFold
   then-walked w x none = refl
   then-walked w x (some l) = refl
 
-  with-walked : (w : Walk) (n : ℕ) (behind : Bool) (s : List ℕ) (o : Option Listed) →
-      walkWith c required p w (listWith (λ b t. listFrom n b t) behind s o) ≡ walkNext n s (nextWith c required p behind w o)
-  with-walked w n behind s none = refl
-  with-walked w n behind s (some x) = ordered (isInOrder behind (x .aim))
+  with-walked : (w : Walk) (n : ℕ) (indirectSeen : Bool) (s : List ℕ) (o : Option Listed) →
+      walkWith c required p w (andThen o (listThen (listFrom n) indirectSeen s)) ≡ walkNext n s (nextWith c required p indirectSeen w o)
+  with-walked w n indirectSeen s none = refl
+  with-walked w n indirectSeen s (some x) = ordered (isInOrder indirectSeen (x .aim))
     where
       ordered : (b : Bool) →
-          walkWith c required p w (pick b (listThen x (listFrom n (isSome (x .aim)) (drop (x .size) s))) none)
-          ≡ walkNext n s (pick b (some (record { walk = walkStep c required p w x; behind = isSome (x .aim); size = x .size })) none)
+          walkWith c required p w (pick b (Option·map (λ l. x ∷ l) (listFrom n (isSome (x .aim)) (drop (x .size) s))) none)
+          ≡ walkNext n s (pick b (some (record { walk = walkStep c required p w x; indirect = isSome (x .aim); size = x .size })) none)
       ordered true = then-walked w x (listFrom n (isSome (x .aim)) (drop (x .size) s))
       ordered false = refl
 
   -- what the next entry makes of the walk, by what was read
-  pub next-unread : (behind : Bool) (w : Walk) (o : Option Listed) → o ≡ none → nextWith c required p behind w o ≡ none
-  next-unread behind w o e = rw e
+  pub next-unread : (indirectSeen : Bool) (w : Walk) (o : Option Listed) → o ≡ none → nextWith c required p indirectSeen w o ≡ none
+  next-unread indirectSeen w o e = rw e
 
-  pub next-disordered : (behind : Bool) (w : Walk) (o : Option Listed) (x : Listed) → o ≡ some x → isInOrder behind (x .aim) ≡ false →
-      nextWith c required p behind w o ≡ none
-  next-disordered behind w o x e h = rw (e, h)
+  pub next-disordered : (indirectSeen : Bool) (w : Walk) (o : Option Listed) (x : Listed) → o ≡ some x → isInOrder indirectSeen (x .aim) ≡ false →
+      nextWith c required p indirectSeen w o ≡ none
+  next-disordered indirectSeen w o x e h = rw (e, h)
 
-  pub next-ordered : (behind : Bool) (w : Walk) (o : Option Listed) (x : Listed) → o ≡ some x → isInOrder behind (x .aim) ≡ true →
+  pub next-ordered : (indirectSeen : Bool) (w : Walk) (o : Option Listed) (x : Listed) → o ≡ some x → isInOrder indirectSeen (x .aim) ≡ true →
       (v : Walk) (b : Bool) → v ≡ walkStep c required p w x → b ≡ isSome (x .aim) →
-      _≡_ {A = Option Next} (some (record { walk = v; behind = b; size = x .size })) (nextWith c required p behind w o)
-  next-ordered behind w o x e h v b f g = rw (e, h, f, g)
+      _≡_ {A = Option Next} (some (record { walk = v; indirect = b; size = x .size })) (nextWith c required p indirectSeen w o)
+  next-ordered indirectSeen w o x e h v b f g = rw (e, h, f, g)
 
   -- one turn
-  pub turn : (w : Walk) (n : ℕ) (behind : Bool) (s : List ℕ) → 0 < length s →
-      walkWith c required p w (listFrom (suc n) behind s) ≡ walkNext n s (nextWith c required p behind w (readEntry s))
+  pub turn : (w : Walk) (n : ℕ) (indirectSeen : Bool) (s : List ℕ) → 0 < length s →
+      walkWith c required p w (listFrom (suc n) indirectSeen s) ≡ walkNext n s (nextWith c required p indirectSeen w (readEntry s))
   unfolding listFrom
-  turn w n behind s h = rw (ne-eqb (length s) 0 (λ e. omega arith)) (with-walked w n behind s (readEntry s))
+  turn w n indirectSeen s h = rw (ne-eqb (length s) 0 (λ e. omega arith)) (with-walked w n indirectSeen s (readEntry s))
 
   -- no entry may follow, or none does
-  pub too-many : (w : Walk) (behind : Bool) (s : List ℕ) → 0 < length s → walkWith c required p w (listFrom 0 behind s) ≡ none
+  pub too-many : (w : Walk) (indirectSeen : Bool) (s : List ℕ) → 0 < length s → walkWith c required p w (listFrom 0 indirectSeen s) ≡ none
   unfolding listFrom
-  too-many w behind s h = rw (ne-eqb (length s) 0 (λ e. omega arith))
+  too-many w indirectSeen s h = rw (ne-eqb (length s) 0 (λ e. omega arith))
 
-  pub walk-end : (w : Walk) (n : ℕ) (behind : Bool) (s : List ℕ) → length s ≡ 0 → walkWith c required p w (listFrom n behind s) ≡ some w
+  pub walk-end : (w : Walk) (n : ℕ) (indirectSeen : Bool) (s : List ℕ) → length s ≡ 0 → walkWith c required p w (listFrom n indirectSeen s) ≡ some w
   unfolding listFrom walkFold
-  walk-end w zero behind s h = rw (eq-eqb (length s) 0 h)
-  walk-end w (suc n) behind s h = rw (eq-eqb (length s) 0 h)
+  walk-end w zero indirectSeen s h = rw (eq-eqb (length s) 0 h)
+  walk-end w (suc n) indirectSeen s h = rw (eq-eqb (length s) 0 h)
 
   -- a turn whose entry can't be read, and one that goes on
-  pub turn-unread : (w : Walk) (left : ℕ) (behind : Bool) (s : List ℕ) → 0 < length s → 0 < left →
-      nextWith c required p behind w (readEntry s) ≡ none → walkWith c required p w (listFrom left behind s) ≡ none
-  turn-unread w (suc n) behind s h g e = turn w n behind s h ∙ ap (walkNext n s) e
-  turn-unread w zero behind s h g e = absurd (omega arith)
+  pub turn-unread : (w : Walk) (left : ℕ) (indirectSeen : Bool) (s : List ℕ) → 0 < length s → 0 < left →
+      nextWith c required p indirectSeen w (readEntry s) ≡ none → walkWith c required p w (listFrom left indirectSeen s) ≡ none
+  turn-unread w (suc n) indirectSeen s h g e = turn w n indirectSeen s h ∙ ap (walkNext n s) e
+  turn-unread w zero indirectSeen s h g e = absurd (omega arith)
 
-  pub turn-read : (w : Walk) (left n : ℕ) (behind : Bool) (s : List ℕ) (y : Next) → 0 < length s → left ≡ suc n →
-      nextWith c required p behind w (readEntry s) ≡ some y →
-      walkWith c required p w (listFrom left behind s) ≡ walkWith c required p (y .walk) (listFrom n (y .behind) (drop (y .size) s))
-  turn-read w left n behind s y h g e = rw g (turn w n behind s h ∙ ap (walkNext n s) e)
+  pub turn-read : (w : Walk) (left n : ℕ) (indirectSeen : Bool) (s : List ℕ) (y : Next) → 0 < length s → left ≡ suc n →
+      nextWith c required p indirectSeen w (readEntry s) ≡ some y →
+      walkWith c required p w (listFrom left indirectSeen s) ≡ walkWith c required p (y .walk) (listFrom n (y .indirect) (drop (y .size) s))
+  turn-read w left n indirectSeen s y h g e = rw g (turn w n indirectSeen s h ∙ ap (walkNext n s) e)
 
 -- a view that was read is the point's
 pub viewed-by : (v : code-view.PointView) (i : code-info.PointInfo) (s : List ℕ) → pointViewOf v ≡ pointView (pointOf s i) →

@@ -2,8 +2,9 @@
 use Prim.Native.Nat.{ℕ}
 use mathlib.Core.Path.{_≡_, refl, ap, sym, _∙_}
 use mathlib.Core.Bool.{Bool, true, false, _||_, or-false}
-use mathlib.Core.Option.{Option, none, some}
+use mathlib.Core.Option.{Option, none, some, Option·map, Option·getD}
 use mathlib.Core.List.{List, [], _∷_}
+use Rattle.base.specs.Base.{pick, isSome}
 use Rattle.base.proofs.Option.{none-some}
 use Rattle.base.proofs.Impossible.{impossible}
 use Rattle.point.specs.Point.{PointInfo, prevId}
@@ -11,8 +12,8 @@ use Rattle.point.specs.declared.data.AnchorStageRole.{AnchorStageRole}
 use Rattle.point.specs.declared.data.AnchorStageRole.the-variants.{Proof, Trigger}
 use Rattle.schedule.specs.Settings.{Settings}
 use Rattle.rules.specs.DagPoint.{Entry, pointView}
-use Rattle.rules.specs.Validate.{ofResult, overLists}
-use Rattle.rules.specs.List.{Listed, readList, directThen, directs, indirectThen, indirects}
+use Rattle.rules.specs.Validate.{overLists}
+use Rattle.rules.specs.List.{Listed, readList, directs, indirects}
 use Rattle.judge_step.specs.Code.{Judging, resultOf}
 use Rattle.judge_step.proofs.Laws.{listedStep, listedFold, listed-over-lists}
 use Rattle.rules.specs.Mismatch.{uncovers, anyUncovers, entriesIn, uncovered}
@@ -46,7 +47,7 @@ module _ (c : Settings) (required : Bool) (v : Viewed) where
     where
       go : (aim : Option AnchorStageRole) →
           ((w .uncovered || uncovers (prevIn (v .view)) (x .entry)) || uncovered (prevIn (v .view)) (directs l) (indirects l))
-          ≡ (w .uncovered || uncovered (prevIn (v .view)) (directThen aim (x .entry) (directs l)) (indirectThen aim (x .entry) (indirects l)))
+          ≡ (w .uncovered || uncovered (prevIn (v .view)) (pick (isSome aim) (directs l) (x .entry ∷ directs l)) (Option·getD (Option·map (λ g. record { role = g; entry = x .entry } ∷ indirects l) aim) (indirects l)))
       go none =
           or-direct
           (w .uncovered)
@@ -95,7 +96,7 @@ module _ (c : Settings) (required : Bool) (p : PointInfo) where
   judged-unread (some l) h = none-some h
 
   pub judged-walked : (s : List ℕ) (o : Option (List Listed)) (w : Walk) (v : Verdict) → readList s ≡ o → some w ≡ walkWith c required (viewed p) walkStart o →
-      v ≡ ofResult (resultOf (w .judging)) → _≡_ {A = Option ListJudged} (some (record { verdict = v; uncovered = w .uncovered })) (judgedWith c required p o)
+      v ≡ resultOf (w .judging) → _≡_ {A = Option ListJudged} (some (record { verdict = v; uncovered = w .uncovered })) (judgedWith c required p o)
   judged-walked s none w v r h e = impossible (cc)
   judged-walked s (some l) w v r h e =
       let k : w ≡ walkFold c required (viewed p) walkStart l = cc in

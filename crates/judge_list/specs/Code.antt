@@ -1,17 +1,17 @@
 -- What the code's values stand for, and what its functions promise each other.
 use mathlib.Core.Bool.{Bool, false, _||_}
-use mathlib.Core.Option.{Option, none, some}
+use mathlib.Core.Option.{Option, none, some, Option·map}
 use mathlib.Core.List.{List, [], _∷_}
-use Rattle.point.specs.Point.{PointInfo, prevId, PointId, Through, through, prevIdWith}
+use Rattle.point.specs.Point.{PointInfo, prevId, PointId, Through, through}
 use Rattle.schedule.specs.Settings.{Settings}
 use Rattle.reasons.specs.Verdict.{Verdict}
 use Rattle.reasons.specs.Code.{verdictOf}
-use Rattle.rules.specs.Validate.{ofResult, overLists}
+use Rattle.rules.specs.Validate.{overLists}
 use Rattle.rules.specs.List.{Listed, directs, indirects, isInOrder}
 use Rattle.rules.specs.Mismatch.{uncovered, uncovers}
 use Rattle.judge_list.specs.declared.JudgedList as code
 use Rattle.judge_list.specs.declared.JudgedList.the-variants as case
-use Prim.Native.Nat.{ℕ, _≤_, _<_}
+use Prim.Native.Nat.{ℕ, _-_, _≤_, _<_}
 use Rattle.point.specs.Code.{linkOf}
 use Rattle.point.specs.declared.data.AnchorStageRole.{AnchorStageRole}
 use Rattle.point.specs.declared.data.AnchorStageRole.the-variants.{Proof, Trigger}
@@ -35,7 +35,7 @@ abbrev pub judgedWith : Settings → Bool → PointInfo → Option (List Listed)
 judgedWith c required p none = none
 judgedWith c required p (some l) =
     some (record {
-      verdict = ofResult (overLists c required p (directs l) (indirects l));
+      verdict = overLists c required p (directs l) (indirects l);
       uncovered = uncovered (prevId p) (directs l) (indirects l);
     })
 
@@ -64,9 +64,12 @@ stepAs none c required p j e = directStep c required (p .view) j e
 stepAs (some Proof) c required p j e = indirectStep c (p .view) Proof (p .proof) j e
 stepAs (some Trigger) c required p j e = indirectStep c (p .view) Trigger (p .trigger) j e
 
--- PointInfo::prev_id
+-- PointInfo::prev_id, of a digest that may lack
+abbrev pub prevOf : PointId → Option ℕ → Option PointId
+prevOf i o = Option·map (λ d. record { round = i .round - 1; digest = d; author = i .author }) o
+
 abbrev pub prevIn : PointView → Option PointId
-prevIn p = prevIdWith (p .id) (p .prevDigest)
+prevIn p = prevOf (p .id) (p .prevDigest)
 
 unfoldable pub walkStep : Settings → Bool → Viewed → Walk → Listed → Walk
 unfolding directStep indirectStep uncovers
@@ -84,14 +87,14 @@ walkFold c required p w (x ∷ l) = walkFold c required p (walkStep c required p
 -- the walk after one entry more, whether that one is of an indirect target, and how many bytes it takes
 pub record Next : Type 0 where
   pub walk : Walk
-  pub behind : Bool
+  pub indirect : Bool
   pub size : ℕ
 
 abbrev pub nextWith : Settings → Bool → Viewed → Bool → Walk → Option Listed → Option Next
-nextWith c required p behind w none = none
-nextWith c required p behind w (some x) =
-    pick (isInOrder behind (x .aim))
-    (some (record { walk = walkStep c required p w x; behind = isSome (x .aim); size = x .size }))
+nextWith c required p indirectSeen w none = none
+nextWith c required p indirectSeen w (some x) =
+    pick (isInOrder indirectSeen (x .aim))
+    (some (record { walk = walkStep c required p w x; indirect = isSome (x .aim); size = x .size }))
     none
 
 -- over a list, if it could be read
@@ -118,7 +121,7 @@ walkedListOf (case-list.Walked w) = some (walkOf w)
 walkedListOf case-list.Unreadable = none
 
 abbrev pub nextOf : code-next.Next → Option Next
-nextOf (case-next.Judged w b n) = some (record { walk = walkOf w; behind = b; size = n })
+nextOf (case-next.Judged w b n) = some (record { walk = walkOf w; indirect = b; size = n })
 nextOf case-next.Unreadable = none
 
 -- the next entry takes up bytes of what is left

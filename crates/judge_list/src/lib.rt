@@ -22,14 +22,15 @@ ghost use Rattle.point.specs.Code.{pointIdOf, pointOf};
 ghost use Rattle.point.specs.Reading.{readPoint};
 ghost use Rattle.schedule.specs.Code.{settingsOf};
 ghost use Rattle.reasons.specs.Code.{verdictOf};
-ghost use Rattle.rules.specs.Validate.{resultWith, ofResult};
+ghost use Rattle.rules.specs.Validate.{resultWith};
 ghost use Rattle.rules.specs.List.{isInOrder, readEntry, readList};
 ghost use Rattle.judge_entries.specs.Code.{entryOf, ReadFrom, aimOf, partOf, listedOf};
 ghost use Rattle.judge_valid.specs.Code.{pointViewOf};
 ghost use Rattle.judge_dependency.specs.Code.{recordedOf};
 ghost use Rattle.judge_step.specs.Code.{judgingOf, resultOf};
 ghost use Rattle.rules.specs.Mismatch.{isId, uncovers};
-ghost use Rattle.judge_list.specs.Code.{viewed, stepAs, prevIn, walkStep, nextWith, walkWith, walkStart, viewedOf, walkOf, nextOf, NextWithin, walkedListOf, judgedWith, judgedListOf};
+ghost use Rattle.judge_list.specs.Code.{viewed, stepAs, prevIn, walkStep, nextWith, walkWith, walkStart, viewedOf, walkOf, nextOf, NextWithin};
+ghost use Rattle.judge_list.specs.Code.{walkedListOf, judgedWith, judgedListOf};
 
 // What a walk over a list has found so far; uncovered says that the previous point stood there without a certificate.
 struct Walk {
@@ -66,10 +67,10 @@ fn is_target(aim: Aim) -> bool
 }
 
 // Whether an entry may stand after an indirect one, or after none.
-fn is_in_order(behind: bool, aim: Aim) -> bool
-    ensures { λ r. ⌜ r ≡ isInOrder behind (aimOf aim) ⌝ }
+fn is_in_order(indirect_seen: bool, aim: Aim) -> bool
+    ensures { λ r. ⌜ r ≡ isInOrder «indirect_seen» (aimOf aim) ⌝ }
 {
-    if behind {
+    if indirect_seen {
         return is_target(aim);
     }
     true
@@ -127,7 +128,8 @@ fn judge_listed(
     judging: Judging,
 ) -> Judging
     requires { ⌜ ReadFrom (now rec) (x .state) ⌝ }
-    ensures { λ r. ⌜ judgingOf r ≡ stepAs (aimOf (x .aim)) (settingsOf conf) required (viewedOf p info) (judgingOf judging) (entryOf (now (rec .entry)) (x .state) (x .certified) (x .«first_valid»)) ⌝ }
+    ensures { λ r. ⌜ judgingOf r ≡ stepAs (aimOf (x .aim)) (settingsOf conf) required (viewedOf p info) (judgingOf judging)
+        (entryOf (now (rec .entry)) (x .state) (x .certified) (x .«first_valid»)) ⌝ }
 {
     let aim = x.aim;
     let state = x.state;
@@ -165,7 +167,8 @@ fn step(
     walk: Walk,
 ) -> Walk
     requires { ⌜ ReadFrom (now rec) (x .state) ⌝ }
-    ensures { λ r. ⌜ ((t : List ℕ) → partOf t (x .place) (x .size) ≡ now (rec .entry) → walkOf r ≡ walkStep (settingsOf conf) required (viewedOf p info) (walkOf walk) (listedOf t x)) ⌝ }
+    ensures { λ r. ⌜ ((t : List ℕ) → partOf t (x .place) (x .size) ≡ now (rec .entry) →
+        walkOf r ≡ walkStep (settingsOf conf) required (viewedOf p info) (walkOf walk) (listedOf t x)) ⌝ }
 {
     let judging = walk.judging;
     Walk {
@@ -181,17 +184,17 @@ fn judge_next(
     info: PointInfo,
     p: PointView,
     rest: &[u8],
-    behind: bool,
+    indirect_seen: bool,
     walk: Walk,
 ) -> Next
-    ensures { λ r. ⌜ nextOf r ≡ nextWith (settingsOf conf) required (viewedOf p info) behind (walkOf walk) (readEntry (now (rest .entry))) ⌝ }
+    ensures { λ r. ⌜ nextOf r ≡ nextWith (settingsOf conf) required (viewedOf p info) «indirect_seen» (walkOf walk) (readEntry (now (rest .entry))) ⌝ }
     ensures { λ r. ⌜ NextWithin (length (now (rest .entry))) r ⌝ }
 {
     let ReadListed::Listed(x) = judge_entries::read_entry(rest) else {
         return Next::Unreadable;
     };
     let aim = x.aim;
-    if !is_in_order(behind, aim) {
+    if !is_in_order(indirect_seen, aim) {
         return Next::Unreadable;
     }
     let place = x.place;
@@ -203,25 +206,26 @@ fn judge_next(
 // Reads and judges a list, entry by entry.
 fn walk_list(conf: Settings, required: bool, rec: &[u8], info: PointInfo, list: &[u8]) -> WalkedList
     requires { ⌜ readPoint (now rec) ≡ some (pointOf (now rec) info) ⌝ }
-    ensures { λ r. ⌜ walkedListOf r ≡ walkWith (settingsOf conf) required (viewed (pointOf (now (rec .entry)) info)) walkStart (readList (now (list .entry))) ⌝ }
+    ensures { λ r. ⌜ walkedListOf r ≡ walkWith (settingsOf conf) required (viewed (pointOf (now (rec .entry)) info)) walkStart
+        (readList (now (list .entry))) ⌝ }
 {
     let p = judge_valid::point_view(rec, info);
     let mut walk = Walk {
         judging: judge_step::START,
         uncovered: false,
     };
-    let mut behind = false;
+    let mut indirect_seen = false;
     let mut left = MOST_ENTRIES;
     let mut at = 0;
     while at < list.len() {
         if left == 0 {
             return WalkedList::Unreadable;
         }
-        let next = judge_next(conf, required, info, p, &list[at..], behind, walk);
+        let next = judge_next(conf, required, info, p, &list[at..], indirect_seen, walk);
         match next {
             Next::Judged(judged, is_target, size) => {
                 walk = judged;
-                behind = is_target;
+                indirect_seen = is_target;
                 at += size;
                 left -= 1;
             }
@@ -232,7 +236,7 @@ fn walk_list(conf: Settings, required: bool, rec: &[u8], info: PointInfo, list: 
 }
 
 fn of_record(recorded: Recorded) -> Verdict
-    ensures { λ r. ⌜ verdictOf r ≡ ofResult (resultWith none (recordedOf recorded)) ⌝ }
+    ensures { λ r. ⌜ verdictOf r ≡ resultWith none (recordedOf recorded) ⌝ }
 {
     match recorded {
         Recorded::Recorded(d) => Verdict::TransInvalid(d),
@@ -243,7 +247,7 @@ fn of_record(recorded: Recorded) -> Verdict
 // The verdict over a list that was walked: the indirect entries are asked where the direct ones gave no reason, and Invalid
 // wins over a record.
 pub fn verdict(judging: Judging) -> Verdict
-    ensures { λ r. ⌜ verdictOf r ≡ ofResult (resultOf (judgingOf judging)) ⌝ }
+    ensures { λ r. ⌜ verdictOf r ≡ resultOf (judgingOf judging) ⌝ }
 {
     let direct = judging.direct;
     let indirect = judging.indirect;

@@ -3,13 +3,13 @@ use Prim.Native.Nat.{ℕ, zero, suc, _+_, _-_, _≤_, _<_}
 use native.Mathlib.Omega.{arith}
 use mathlib.Core.Path.{_≡_, refl, ap, sym, _∙_}
 use mathlib.Core.Bool.{Bool, true, false, _&&_}
-use mathlib.Core.Option.{Option, none, some}
+use mathlib.Core.Option.{Option, none, some, map-eq-some-iff}
 use mathlib.Core.List.{List, [], _∷_}
 use lib.ListN.{length, getD, take, drop, length-drop}
 use lib.Seq.{getD-drop, drop-drop}
 use lib.Dec.{leb, eqb}
 use borrow.Author.Tests.{eq-eqb, ne-eqb}
-use Rattle.base.specs.Base.{pick, isSome}
+use Rattle.base.specs.Base.{pick, isSome, andThen}
 use Rattle.base.proofs.Bool.{and-left}
 use Rattle.base.proofs.Option.{picked, some-of, none-some}
 use Rattle.base.proofs.Lists.{rest}
@@ -17,16 +17,17 @@ use Rattle.base.proofs.Impossible.{impossible}
 use Rattle.record.specs.Record.{fieldRow, fieldOk, rows, rowOf, nextAt, contentAt, startOf, contentOf, recordEnd}
 use Rattle.record.proofs.Laws.{fitting, front-field, end-within, front-content}
 use Rattle.point.specs.Point.{PointId, PointInfo}
-use Rattle.point.specs.Reading.{pointIdAt, readPoint}
+use Rattle.point.specs.Reading.{pointIdAt}
 use Rattle.point.specs.declared.data.AnchorStageRole.{AnchorStageRole}
 use Rattle.point.specs.declared.data.AnchorStageRole.the-variants.{Trigger}
 use Rattle.point.proofs.Ids.{id-front, id-shift}
 use Rattle.point.proofs.Laws.{parts-of}
-use Rattle.rules.specs.DagPoint.{DagPoint, Valid, TransInvalid, Invalid, IllFormed, NotFound, Dropped, Entry, entryId, isDropped}
-use Rattle.rules.specs.List.{RecordFront, Stated, Listed, isListable, frontWith, frontTo, recordFront, statedWith, recordAt, idAt17, isRoot, readState, listedWith, entryAt, roleOf, readEntry, isInOrder, listThen, listFrom, listWith, readList, directs, indirects}
+use Rattle.rules.specs.DagPoint.{DagPoint, Valid, TransInvalid, Invalid, IllFormed, NotFound, Dropped, entryId, isDropped}
+use Rattle.rules.specs.List.{RecordFront, Stated, Listed, recordFront, recordAt, idAt17, isRoot, readState, entryAt, roleOf, readEntry, listFrom, readList, directs, indirects}
 use Rattle.reasons.specs.Invalid.{dagRound}
-use Rattle.judge_entries.proofs.Order.{in-order, behind-target}
-use Rattle.judge_mismatch.specs.Code.{Head, headOf, headFrom, flagsAt, aimAt, idPlace, idBehind, placedAt, endIn, endBehind, listed}
+use Rattle.judge_entries.proofs.Order.{listThen, Parted, parted, in-order, after-target}
+use Rattle.judge_entries.proofs.Laws.{listedAs, fronted}
+use Rattle.judge_mismatch.specs.Code.{Head, headOf, headFrom, flagsAt, aimAt, idPlace, idAfter, placedAt, endIn, entryEnd, listed}
 
 -- ---- the record at the front
 
@@ -48,34 +49,23 @@ module _ (s : List ℕ) (n : ℕ) (h : recordEnd s ≡ some n) where
       let e : nextAt s 0 - 3 ≡ 68 = omega (arith, first-field .1) in
       rw (front-content s n h 0 (omega arith), e, id-front 68 0 (drop 3 s) (omega arith)) (id-shift 3 0 s)
 
-  front-at : (o : Option PointInfo) (x : RecordFront) → o ≡ readPoint (take n s) → frontWith n o ≡ some x → FrontIs s x
-  front-at none x e g = none-some g
-  front-at (some q) x e g =
-      let p = picked (isListable q) (some (record { point = q; size = n })) x g .1 in
-      let size : x .size ≡ n = cc in
-      let point : x .point ≡ q = cc in
-      record {
-        end = rw size h;
-        room = first-field .0;
-        small = rw size (end-within s n h);
-        id = rw point (parts-of (take n s) q (sym e) .id ∙ first-id);
-      }
-
-front-to : (s : List ℕ) (o : Option ℕ) (x : RecordFront) → o ≡ recordEnd s → frontTo s o ≡ some x → FrontIs s x
-front-to s none x e g = none-some g
-front-to s (some n) x e g = front-at s n (sym e) (readPoint (take n s)) x refl g
-
 front-is : (s : List ℕ) (x : RecordFront) → recordFront s ≡ some x → FrontIs s x
-unfolding recordFront
-front-is s x h = front-to s (recordEnd s) x refl h
+front-is s x h =
+    let f = fronted s x h in
+    record {
+      end = f .end;
+      room = first-field s (x .size) (f .end) .0;
+      small = end-within s (x .size) (f .end);
+      id = parts-of (take (x .size) s) (x .point) (f .reads) .id ∙ first-id s (x .size) (f .end);
+    }
 
 -- ---- what stands after the flags, which end at k
 
 record StateIs (s : List ℕ) (k state : ℕ) (y : Stated) : Type 0 where
   dropped : isDropped (y .point) ≡ eqb state 5
   id-room : (state ≡ 5 → ⊥) → k + idPlace state + 68 ≤ length s
-  id : entryId (y .point) ≡ idBehind state k s
-  end : endBehind state k s ≡ some (k + y .size)
+  id : entryId (y .point) ≡ idAfter state k s
+  end : entryEnd state k s ≡ some (k + y .size)
   small : k + y .size ≤ length s
 
 -- a record's parts
@@ -97,10 +87,11 @@ recorded s k x h =
       id = f .id ∙ id-shift k 3 s;
     }
 
-stated : (state : PointInfo → DagPoint) (front : ℕ) (o : Option RecordFront) (y : Stated) → statedWith state front o ≡ some y →
-    (x : RecordFront) × (o ≡ some x) × (y .point ≡ state (x .point)) × (y .size ≡ front + x .size)
-stated state front none y h = none-some h
-stated state front (some x) y h = (x, refl, cc, cc)
+stated : (state : PointInfo → DagPoint) (front : ℕ) (s : List ℕ) (y : Stated) → recordAt state front s ≡ some y →
+    (x : RecordFront) × (recordFront (drop front s) ≡ some x) × (y .point ≡ state (x .point)) × (y .size ≡ front + x .size)
+stated state front s y h =
+    let x = map-eq-some-iff _ (recordFront (drop front s)) .0 h in
+    (x .0, x .1, ap (λ (z : Stated). z .point) (sym (x .2)), ap (λ (z : Stated). z .size) (sym (x .2)))
 
 id-17 : (state : PointId → DagPoint) (s : List ℕ) (k : ℕ) (y : Stated) → idAt17 state (drop k s) ≡ some y →
     (k + 71 ≤ length s) × (y .point ≡ state (pointIdAt s (k + 3))) × (y .size ≡ 71)
@@ -113,10 +104,10 @@ id-17 state s k y h =
 -- states 0 and 2: a record
 record-state : (state : ℕ) (of : PointInfo → DagPoint) (s : List ℕ) (k : ℕ) (y : Stated) →
     ((q : PointInfo) → (isDropped (of q) ≡ eqb state 5) × (entryId (of q) ≡ q .id)) → eqb state 5 ≡ false → eqb state 1 ≡ false →
-    endBehind state k s ≡ endIn k s → recordAt of 0 (drop k s) ≡ some y → StateIs s k state y
-unfolding idBehind
+    entryEnd state k s ≡ endIn k s → recordAt of 0 (drop k s) ≡ some y → StateIs s k state y
+unfolding idAfter
 record-state state of s k y told d one e h =
-    let p = stated of 0 (recordFront (drop k s)) y h in
+    let p = stated of 0 (drop k s) y h in
     let r = recorded s k (p .0) (p .1) in
     record {
       dropped = ap isDropped (p .2) ∙ told (p .0 .point) .0;
@@ -129,9 +120,9 @@ record-state state of s k y told d one e h =
 -- state 1: a record after a root cause
 root-state : (of : PointInfo → DagPoint) (s : List ℕ) (k : ℕ) (y : Stated) →
     ((q : PointInfo) → (isDropped (of q) ≡ false) × (entryId (of q) ≡ q .id)) → recordAt of 72 (drop k s) ≡ some y → StateIs s k 1 y
-unfolding idBehind endBehind
+unfolding idAfter entryEnd
 root-state of s k y told h =
-    let p = stated of 72 (recordFront (drop 72 (drop k s))) y h in
+    let p = stated of 72 (drop k s) y h in
     let r = recorded s (k + 72) (p .0) (ap recordFront (sym (drop-drop 72 k s)) ∙ p .1) in
     record {
       dropped = ap isDropped (p .2) ∙ told (p .0 .point) .0;
@@ -144,8 +135,8 @@ root-state of s k y told h =
 -- states 3 and 4: an id
 id-state : (state : ℕ) (of : PointId → DagPoint) (s : List ℕ) (k : ℕ) (y : Stated) →
     ((i : PointId) → (isDropped (of i) ≡ eqb state 5) × (entryId (of i) ≡ i)) → eqb state 5 ≡ false → eqb state 1 ≡ false →
-    endBehind state k s ≡ some (k + 71) → idAt17 of (drop k s) ≡ some y → StateIs s k state y
-unfolding idBehind
+    entryEnd state k s ≡ some (k + 71) → idAt17 of (drop k s) ≡ some y → StateIs s k state y
+unfolding idAfter
 id-state state of s k y told d one e h =
     let p = id-17 of s k y h in
     record {
@@ -157,7 +148,7 @@ id-state state of s k y told d one e h =
     }
 
 state-is : (state reason : ℕ) (s : List ℕ) (k : ℕ) (y : Stated) → k ≤ length s → readState state reason (drop k s) ≡ some y → StateIs s k state y
-unfolding readState idBehind endBehind
+unfolding readState idAfter entryEnd
 state-is zero reason s k y g h = record-state 0 Valid s k y (λ q. (refl, refl)) refl refl refl (picked (eqb reason 0) _ y h .1)
 state-is (suc zero) reason s k y g h =
     root-state (λ q. TransInvalid q (pointIdAt (drop k s) 3) (getD (drop k s) 71 0)) s k y (λ q. (refl, refl)) (picked (eqb reason 0 && isRoot (drop k s)) _ y h .1)
@@ -189,17 +180,10 @@ pub record EntryIs (aim : Option AnchorStageRole) (f : ℕ) (s : List ℕ) (x : 
   pub for : x .aim ≡ aim
   pub dropped : isDropped (x .entry .state) ≡ eqb (getD s (f + 3) 0) 5
   pub id-room : (getD s (f + 3) 0 ≡ 5 → ⊥) → f + 7 + idPlace (getD s (f + 3) 0) + 68 ≤ length s
-  pub id : entryId (x .entry .state) ≡ idBehind (getD s (f + 3) 0) (f + 7) s
-  pub end : endBehind (getD s (f + 3) 0) (f + 7) s ≡ some (x .size)
+  pub id : entryId (x .entry .state) ≡ idAfter (getD s (f + 3) 0) (f + 7) s
+  pub end : entryEnd (getD s (f + 3) 0) (f + 7) s ≡ some (x .size)
   pub least : 7 ≤ x .size
   pub small : x .size ≤ length s
-
-listed-with : (aim : Option AnchorStageRole) (f : ℕ) (t : List ℕ) (o : Option Stated) (x : Listed) → listedWith aim f t o ≡ some x →
-    (y : Stated) × (o ≡ some y) × (x .aim ≡ aim) × (x .entry .state ≡ y .point) × (x .size ≡ f + 7 + y .size)
-listed-with aim f t none x h = none-some h
-listed-with aim f t (some y) x h =
-    let e : x .entry ≡ record { state = y .point; certified = eqb (getD t 4 0) 1; firstValid = eqb (getD t 5 0) 1 } = cc in
-    (y, refl, cc, ap (λ (z : Entry). z .state) e, cc)
 
 entry-is : (aim : Option AnchorStageRole) (f : ℕ) (s : List ℕ) (x : Listed) → entryAt aim f (drop f s) ≡ some x → EntryIs aim f s x
 unfolding entryAt
@@ -208,18 +192,20 @@ entry-is aim f s x h =
     let p = picked (fieldOk (fieldRow 16 4 4) t 0 && (leb (getD t 4 0) 1 && leb (getD t 5 0) 1)) _ x h in
     let fit = fitting (fieldRow 16 4 4) t 0 (and-left (fieldOk (fieldRow 16 4 4) t 0) _ (p .0)) in
     let room : f + 7 ≤ length s = omega (arith, length-drop f s, fit .least, fit .end) in
-    let q = listed-with aim f t (readState (getD t 3 0) (getD t 6 0) (drop 7 t)) x (p .1) in
+    let q = map-eq-some-iff (listedAs aim f t) (readState (getD t 3 0) (getD t 6 0) (drop 7 t)) .0 (p .1) in
+    let state = ap (λ (z : Listed). z .entry .state) (sym (q .2)) in
+    let size = ap (λ (z : Listed). z .size) (sym (q .2)) in
     let read : readState (getD s (f + 3) 0) (getD t 6 0) (drop (f + 7) s) ≡ some (q .0) = rw (← getD-drop f s 3 0, ← drop-drop 7 f s) (q .1) in
     let st = state-is (getD s (f + 3) 0) (getD t 6 0) s (f + 7) (q .0) room read in
     record {
       room = room;
-      for = q .2;
-      dropped = ap isDropped (q .3) ∙ st .dropped;
+      for = ap (λ (z : Listed). z .aim) (sym (q .2));
+      dropped = ap isDropped state ∙ st .dropped;
       id-room = st .id-room;
-      id = ap entryId (q .3) ∙ st .id;
-      end = st .end ∙ ap some (omega (arith, q .4));
-      least = omega (arith, q .4);
-      small = omega (arith, q .4, st .small);
+      id = ap entryId state ∙ st .id;
+      end = st .end ∙ ap some (omega (arith, size));
+      least = omega (arith, size);
+      small = omega (arith, size, st .small);
     }
 
 entry-from : (b ok : Bool) (g : AnchorStageRole) (s : List ℕ) (x : Listed) →
@@ -255,24 +241,24 @@ end-unknown at s h = ap (placedAt at) h
 
 -- where an entry ends, by its state
 module _ (state at : ℕ) (s : List ℕ) where
-  pub end-dropped : state ≡ 5 → endBehind state at s ≡ some at
-  unfolding endBehind
+  pub end-dropped : state ≡ 5 → entryEnd state at s ≡ some at
+  unfolding entryEnd
   end-dropped e = rw e
 
-  pub end-ill-formed : state ≡ 3 → endBehind state at s ≡ some (at + 71)
-  unfolding endBehind
+  pub end-ill-formed : state ≡ 3 → entryEnd state at s ≡ some (at + 71)
+  unfolding entryEnd
   end-ill-formed e = rw e
 
-  pub end-not-found : state ≡ 4 → endBehind state at s ≡ some (at + 71)
-  unfolding endBehind
+  pub end-not-found : state ≡ 4 → entryEnd state at s ≡ some (at + 71)
+  unfolding entryEnd
   end-not-found e = rw e
 
-  pub end-root : state ≡ 1 → endBehind state at s ≡ endIn (at + 72) s
-  unfolding endBehind
+  pub end-root : state ≡ 1 → entryEnd state at s ≡ endIn (at + 72) s
+  unfolding entryEnd
   end-root e = rw e
 
-  pub end-record : (state ≡ 5 → ⊥) → (state ≡ 3 → ⊥) → (state ≡ 4 → ⊥) → (state ≡ 1 → ⊥) → endBehind state at s ≡ endIn at s
-  unfolding endBehind
+  pub end-record : (state ≡ 5 → ⊥) → (state ≡ 3 → ⊥) → (state ≡ 4 → ⊥) → (state ≡ 1 → ⊥) → entryEnd state at s ≡ endIn at s
+  unfolding entryEnd
   end-record a b c d = rw (ne-eqb state 5 a, ne-eqb state 3 b, ne-eqb state 4 c, ne-eqb state 1 d)
 
 pub head-made : (s : List ℕ) (x : Listed) (aim : Option AnchorStageRole) (dropped : Bool) (id : PointId) (size : ℕ) → readEntry s ≡ some x →
@@ -291,27 +277,23 @@ pub directs-here : (x : Listed) (l : List Listed) → x .aim ≡ none → direct
 unfolding directs
 directs-here x l e = rw e
 
-pub directs-behind : (x : Listed) (l : List Listed) (g : AnchorStageRole) → x .aim ≡ some g → directs (x ∷ l) ≡ directs l
+pub directs-after : (x : Listed) (l : List Listed) (g : AnchorStageRole) → x .aim ≡ some g → directs (x ∷ l) ≡ directs l
 unfolding directs
-directs-behind x l g e = rw e
+directs-after x l g e = rw e
 
 pub indirects-here : (x : Listed) (l : List Listed) (g : AnchorStageRole) → x .aim ≡ some g → indirects (x ∷ l) ≡ record { role = g; entry = x .entry } ∷ indirects l
 unfolding indirects
 indirects-here x l g e = rw e
 
-indirects-behind : (x : Listed) (l : List Listed) → x .aim ≡ none → indirects (x ∷ l) ≡ indirects l
+indirects-after : (x : Listed) (l : List Listed) → x .aim ≡ none → indirects (x ∷ l) ≡ indirects l
 unfolding indirects
-indirects-behind x l e = rw e
-
-then-of : (x : Listed) (o : Option (List Listed)) (l : List Listed) → listThen x o ≡ some l → (r : List Listed) × (o ≡ some r) × (l ≡ x ∷ r)
-then-of x none l h = none-some h
-then-of x (some r) l h = (r, refl, cc)
+indirects-after x l e = rw e
 
 list-zero : (c : Bool) (s : List ℕ) → listFrom zero c s ≡ pick (eqb (length s) 0) (some []) none
 unfolding listFrom
 list-zero c s = refl
 
-list-suc : (n : ℕ) (c : Bool) (s : List ℕ) → listFrom (suc n) c s ≡ pick (eqb (length s) 0) (some []) (listWith (listFrom n) c s (readEntry s))
+list-suc : (n : ℕ) (c : Bool) (s : List ℕ) → listFrom (suc n) c s ≡ pick (eqb (length s) 0) (some []) (andThen (readEntry s) (listThen (listFrom n) c s))
 unfolding listFrom
 list-suc n c s = refl
 
@@ -322,12 +304,11 @@ turn false m k l f h = f h
 
 -- with one entry more allowed
 more-with : (f g : Bool → List ℕ → Option (List Listed)) (c : Bool) (s : List ℕ) (o : Option Listed) (l : List Listed) →
-    ((c : Bool) (s : List ℕ) (l : List Listed) → f c s ≡ some l → g c s ≡ some l) → listWith f c s o ≡ some l → listWith g c s o ≡ some l
-more-with f g c s none l more h = none-some h
-more-with f g c s (some x) l more h =
-    let p = picked (isInOrder c (x .aim)) (listThen x (f (isSome (x .aim)) (drop (x .size) s))) l h in
-    let q = then-of x (f (isSome (x .aim)) (drop (x .size) s)) l (p .1) in
-    rw (p .0, more (isSome (x .aim)) (drop (x .size) s) (q .0) (q .1)) (ap some (sym (q .2)))
+    ((c : Bool) (s : List ℕ) (l : List Listed) → f c s ≡ some l → g c s ≡ some l) →
+    andThen o (listThen f c s) ≡ some l → andThen o (listThen g c s) ≡ some l
+more-with f g c s o l more h =
+    let p = parted f c s o l h in
+    rw (p .read, p .ordered, more _ _ (p .left) (p .follows)) (ap some (p .are))
 
 list-more : (n : ℕ) (c : Bool) (s : List ℕ) (l : List Listed) → listFrom n c s ≡ some l → listFrom (suc n) c s ≡ some l
 list-more zero c s l h =
@@ -338,24 +319,17 @@ list-more (suc n) c s l h =
 
 -- what may stand after an indirect entry may stand anywhere
 any-with : (f : Bool → List ℕ → Option (List Listed)) (c : Bool) (s : List ℕ) (o : Option Listed) (l : List Listed) →
-    listWith f c s o ≡ some l → listWith f false s o ≡ some l
-any-with f c s none l h = none-some h
-any-with f c s (some x) l h = picked (isInOrder c (x .aim)) (listThen x (f (isSome (x .aim)) (drop (x .size) s))) l h .1
+    andThen o (listThen f c s) ≡ some l → andThen o (listThen f false s) ≡ some l
+any-with f c s o l h = let p = parted f c s o l h in rw (p .read, p .follows) (ap some (p .are))
 
 any-order : (n : ℕ) (c : Bool) (s : List ℕ) (l : List Listed) → listFrom (suc n) c s ≡ some l → listFrom (suc n) false s ≡ some l
 any-order n c s l h =
     list-suc n false s ∙ turn (eqb (length s) 0) _ _ l (any-with (listFrom n) c s (readEntry s) l) (sym (list-suc n c s) ∙ h)
 
 -- the first entry of a list that reads
-first-with : (f : Bool → List ℕ → Option (List Listed)) (s : List ℕ) (o : Option Listed) (l : List Listed) → listWith f false s o ≡ some l →
-    (x : Listed) × (r : List Listed) × (o ≡ some x) × (l ≡ x ∷ r) × (f (isSome (x .aim)) (drop (x .size) s) ≡ some r)
-first-with f s none l h = none-some h
-first-with f s (some x) l h = let q = then-of x (f (isSome (x .aim)) (drop (x .size) s)) l h in (x, q .0, refl, q .2, q .1)
-
-first-from : (n : ℕ) (s : List ℕ) (l : List Listed) → 0 < length s → listFrom (suc n) false s ≡ some l →
-    (x : Listed) × (r : List Listed) × (readEntry s ≡ some x) × (l ≡ x ∷ r) × (listFrom n (isSome (x .aim)) (drop (x .size) s) ≡ some r)
+first-from : (n : ℕ) (s : List ℕ) (l : List Listed) → 0 < length s → listFrom (suc n) false s ≡ some l → Parted (listFrom n) false s (readEntry s) l
 first-from n s l g h =
-    first-with (listFrom n) s (readEntry s) l
+    parted (listFrom n) false s (readEntry s) l
     (rw (ne-eqb (length s) 0 (λ e. omega arith)) at (sym (list-suc n false s) ∙ h))
 
 pub listed-is : (s : List ℕ) (l : List Listed) → readList s ≡ some l → listed s ≡ l
@@ -378,9 +352,10 @@ left-from : (n : ℕ) (s : List ℕ) (l : List Listed) → 0 < length s → list
     × (isSome (x .aim) ≡ true → directs r ≡ [])
 left-from n s l g h =
     let f = first-from n s l g h in
-    let b = isSome (f .0 .aim) in
-    let t = drop (f .0 .size) s in
-    (f .0, f .1, f .2, f .3, any-order n b t (f .1) (list-more n b t (f .1) (f .4)), λ e. behind-target (f .1) (in-order n true t (f .1) (ap (λ (c : Bool). listFrom n c t) (sym e) ∙ f .4)))
+    let b = isSome (f .first .aim) in
+    let t = drop (f .first .size) s in
+    let r = f .left in
+    (f .first, r, f .read, sym (f .are), any-order n b t r (list-more n b t r (f .follows)), λ e. after-target r (in-order n true t r (ap (λ (c : Bool). listFrom n c t) (sym e) ∙ f .follows)))
 
 next-with : (s t : List ℕ) (l r : List Listed) (x : Listed) → t ≡ drop (x .size) s → readList s ≡ some l → readList t ≡ some r → readEntry s ≡ some x → l ≡ x ∷ r →
     (isSome (x .aim) ≡ true → directs r ≡ []) → Next s x
@@ -402,7 +377,7 @@ next-of s h g =
 
 listed-end : (s : List ℕ) → length s ≡ 0 → listed s ≡ []
 listed-end s h =
-    let more = listWith (listFrom 65534) false s (readEntry s) in
+    let more = andThen (readEntry s) (listThen (listFrom 65534) false s) in
     listed-is s [] (read-list s ∙ (list-suc 65534 false s ∙ ap (λ (b : Bool). pick b (some []) more) (eq-eqb (length s) 0 h)))
 
 -- ---- an entry of the code at the front of a list that reads
@@ -458,23 +433,23 @@ module _ (s : List ℕ) (at : ℕ) where
   reads-end h = listed-end (drop at s) (omega (arith, length-drop at s))
 
   module _ (h : Head) (f : Front (drop at s) h) where
-    behind-first : drop (f .first .size) (drop at s) ≡ drop (at + h .size) s
-    behind-first = drop-drop (f .first .size) at s ∙ ap (λ (n : ℕ). drop (at + n) s) (sym (f .size))
+    after-first : drop (f .first .size) (drop at s) ≡ drop (at + h .size) s
+    after-first = drop-drop (f .first .size) at s ∙ ap (λ (n : ℕ). drop (at + n) s) (sym (f .size))
 
     pub reads-next : Reads s at → Reads s (at + h .size)
     reads-next r = record {
       within = omega (arith, r .within, f .small, length-drop at s);
-      left = ap (λ (t : List ℕ). isSome (readList t)) (sym behind-first) ∙ f .next .left;
+      left = ap (λ (t : List ℕ). isSome (readList t)) (sym after-first) ∙ f .next .left;
     }
 
     pub listed-next : listed (drop at s) ≡ f .first ∷ listed (drop (at + h .size) s)
-    listed-next = f .next .all ∙ ap (λ (t : List ℕ). f .first ∷ listed t) behind-first
+    listed-next = f .next .all ∙ ap (λ (t : List ℕ). f .first ∷ listed t) after-first
 
     pub directs-next : h .aim ≡ none → directs (listed (drop at s)) ≡ f .first .entry ∷ directs (listed (drop (at + h .size) s))
     directs-next e = ap directs listed-next ∙ directs-here (f .first) _ (sym (f .for) ∙ e)
 
     pub indirects-same : h .aim ≡ none → indirects (listed (drop at s)) ≡ indirects (listed (drop (at + h .size) s))
-    indirects-same e = ap indirects listed-next ∙ indirects-behind (f .first) _ (sym (f .for) ∙ e)
+    indirects-same e = ap indirects listed-next ∙ indirects-after (f .first) _ (sym (f .for) ∙ e)
 
     pub indirects-next : (g : AnchorStageRole) → h .aim ≡ some g →
         indirects (listed (drop at s)) ≡ record { role = g; entry = f .first .entry } ∷ indirects (listed (drop (at + h .size) s))
@@ -483,9 +458,9 @@ module _ (s : List ℕ) (at : ℕ) where
     -- from an indirect entry on there is no direct one
     pub directs-last : isSome (h .aim) ≡ true → (directs (listed (drop at s)) ≡ []) × (directs (listed (drop (at + h .size) s)) ≡ [])
     directs-last e =
-        let rest = ap (λ (t : List ℕ). directs (listed t)) (sym behind-first) ∙ f .next .last (ap isSome (sym (f .for)) ∙ e) in
+        let rest = ap (λ (t : List ℕ). directs (listed t)) (sym after-first) ∙ f .next .last (ap isSome (sym (f .for)) ∙ e) in
         let g = some-of (h .aim) e in
-        (ap directs listed-next ∙ (directs-behind (f .first) _ (g .0) (sym (f .for) ∙ g .1) ∙ rest), rest)
+        (ap directs listed-next ∙ (directs-after (f .first) _ (g .0) (sym (f .for) ∙ g .1) ∙ rest), rest)
 
 pub reads-start : (s : List ℕ) → isSome (readList s) ≡ true → Reads s 0
 reads-start s h = record { within = omega arith; left = h }

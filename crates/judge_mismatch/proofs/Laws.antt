@@ -24,7 +24,7 @@ use Rattle.point.proofs.Ids.{same-sym, same-refl}
 use Rattle.rules.specs.DagPoint.{DagPoint, Entry, IndirectEntry, entryId, isDropped}
 use Rattle.rules.specs.List.{Listed, readList, directs, indirects}
 use Rattle.judge_mismatch.specs.Code.{Head, listed, roundIn, pairsIn, mapsIn, noPair, standsFor, isNewVersion, isTargetWith, AllPlaced, DirectsFound, Marked, zerosIn, zeros}
-use Rattle.judge_mismatch.proofs.Heads.{Front, Reads, next-of, listed-is, directs-here, indirects-here, reads-start, reads-next, reads-end, directs-behind, directs-next, directs-last, indirects-same, indirects-next, listed-next}
+use Rattle.judge_mismatch.proofs.Heads.{Front, Reads, next-of, listed-is, directs-here, indirects-here, reads-start, reads-next, reads-end, directs-after, directs-next, directs-last, indirects-same, indirects-next, listed-next}
 use Rattle.rules.specs.Mismatch.{isTargetOf, sameRole, stoodBefore, allTargets, mismatch, hasId, pairId, isAmong, isVersion, hasPlace, allPlaced, idsOf, droppedIn, lackingIn, lacking}
 use Rattle.judge_mismatch.proofs.Rows.{amongTo, Maps, among-at, among-not, among-to-same, has-same, row-once, stood}
 use Rattle.rules.proofs.Mismatch.{has-first, has-next, has-none}
@@ -240,8 +240,8 @@ module _ {presence : ℕ} {p : PointInfo} {all rest : List Entry} {seen₀ : Lis
       room = w .room;
     }
 
-    here-or-behind : (i : PointId) → hasId (idsOf (e ∷ es)) i ≡ (sameId x i || hasId (idsOf es) i)
-    here-or-behind i = ap (λ (l : List PointId). hasId l i) (ids-here e es x d same) ∙ has-next x i (idsOf es)
+    here-or-rest : (i : PointId) → hasId (idsOf (e ∷ es)) i ≡ (sameId x i || hasId (idsOf es) i)
+    here-or-rest i = ap (λ (l : List PointId). hasId l i) (ids-here e es x d same) ∙ has-next x i (idsOf es)
 
     not-placed : ((hasPlace presence p x && not (hasId (w .before) x)) && allPlaced presence p (x ∷ w .before) es) ≡ false → allPlaced presence p [] all ≡ false
     not-placed h = sym (all-placed) ∙ (placed-here e es x d same presence p (w .before) ∙ h)
@@ -289,7 +289,7 @@ module _ {presence : ℕ} {p : PointInfo} {all rest : List Entry} {seen₀ : Lis
             place = has-place presence p x ∙ (ap (λ (b : Bool). amongTo (mapsIn presence) p x || b) version ∙ or-true (amongTo (mapsIn presence) p x));
             new = ⊎-elim
                 (λ a. k .new (k .among ∙ a))
-                (λ a. never _ (λ b. clash (hasId (idsOf (e ∷ es)) x) (here-or-behind x ∙ rw (same-refl x)) (all-fresh x a b)))
+                (λ a. never _ (λ b. clash (hasId (idsOf (e ∷ es)) x) (here-or-rest x ∙ rw (same-refl x)) (all-fresh x a b)))
                 (cases (amongTo (mapsIn presence) p x));
             once = λ a. once;
           })
@@ -302,7 +302,7 @@ module _ {presence : ℕ} {p : PointInfo} {all rest : List Entry} {seen₀ : Lis
             before = x ∷ w .before;
             placed = sym (placed-here e es x d same presence p (w .before) ∙ rw (f .place, f .new)) ∙ all-placed;
             count = omega (arith, count-here e es x d same, all-count);
-            ids = λ i. rw (has-next x i (w .before)) (or-swap (sameId x i) (hasId (w .before) i) (hasId (idsOf es) i) ∙ (rw (← here-or-behind i) (all-ids i)));
+            ids = λ i. rw (has-next x i (w .before)) (or-swap (sameId x i) (hasId (w .before) i) (hasId (idsOf es) i) ∙ (rw (← here-or-rest i) (all-ids i)));
             fresh = λ i a b. fresh i a (or-cases (sameId x i) (hasId (w .before) i) (sym (has-next x i (w .before)) ∙ b)) f;
             marks = λ m g. k .done m g;
             room = k .room;
@@ -312,7 +312,7 @@ module _ {presence : ℕ} {p : PointInfo} {all rest : List Entry} {seen₀ : Lis
           fresh i a c f =
               ⊎-elim
               (λ t. sym (has-same x i t (idsOf es)) ∙ f .once (among-to-same x i t (mapsIn presence) p ∙ a))
-              (λ b. or-right (sameId x i) (hasId (idsOf es) i) (sym (here-or-behind i) ∙ all-fresh i a b))
+              (λ b. or-right (sameId x i) (hasId (idsOf es) i) (sym (here-or-rest i) ∙ all-fresh i a b))
               c
 
 none-left : (presence : ℕ) (p : PointInfo) (before : List PointId) → allPlaced presence p before [] ≡ true
@@ -466,7 +466,7 @@ stands-next s at h f i =
     ∙ (has-next (h .id) i (idsOf (directs rest)) ∙ sym (ap (λ (b : Bool). b || hasId (idsOf (directs rest)) i) (stands-here h i a d))))
     (cases (h .dropped)))
     (λ a. ap (λ (l : List Listed). hasId (idsOf (directs l)) i) (listed-next s at h f)
-    ∙ (ap (λ (l : List Entry). hasId (idsOf l) i) (directs-behind (f .first) rest (a .0) (sym (f .for) ∙ a .1))
+    ∙ (ap (λ (l : List Entry). hasId (idsOf l) i) (directs-after (f .first) rest (a .0) (sym (f .for) ∙ a .1))
     ∙ sym (ap (λ (b : Bool). b || hasId (idsOf (directs rest)) i) (stands-not h i (a .0) (a .1)))))
     (aim-cases (h .aim))
 
@@ -609,7 +609,7 @@ ended-with {presence} {p} {s} {seen} {dropped = dropped} g e =
       marks = walk-end-marks w;
       within = g .reads .within;
       left = g .reads .left;
-      behind = e;
+      after = e;
       targets = g .targets;
     }
 
@@ -721,7 +721,7 @@ module _ (presence : ℕ) (p : PointInfo) (s : List ℕ) (l : List Listed) (e : 
           ← w .count,
           ← zeros-lack presence p (idsOf (directs (listed s))) seen (w .marks),
           ← w .targets,
-          none-left-at s end (w .left) (w .behind),
+          none-left-at s end (w .left) (w .after),
         ))
 
     whole-list : mismatch presence p (directs l) (indirects l) ≡ mismatch presence p (directs (listed s)) (indirects (listed s))

@@ -35,19 +35,19 @@ stood false b c h = refl
 
 -- the same id in another's place
 module _ (a b : PointId) (h : sameId a b ≡ true) where
-  same-behind : (c : PointId) → sameId c a ≡ sameId c b
+  same-right : (c : PointId) → sameId c a ≡ sameId c b
   unfolding sameId
-  same-behind c = let f = same-fields a b h in rw (f .0, f .1, f .2)
+  same-right c = let f = same-fields a b h in rw (f .0, f .1, f .2)
 
   pub has-same : (l : List PointId) → hasId l a ≡ hasId l b
   unfolding hasId
   has-same [] = refl
-  has-same (j ∷ l) = rw (same-behind j, has-same l)
+  has-same (j ∷ l) = rw (same-right j, has-same l)
 
   among-same : (round : ℕ) (l : List Pair) → isAmong round l a ≡ isAmong round l b
   unfolding isAmong
   among-same round [] = refl
-  among-same round (q ∷ l) = rw (same-behind (pairId round q), among-same round l)
+  among-same round (q ∷ l) = rw (same-right (pairId round q), among-same round l)
 
   pub among-to-same : (m : ℕ) (p : PointInfo) → amongTo m p a ≡ amongTo m p b
   unfolding amongTo

@@ -49,8 +49,8 @@ abbrev pub idPlace : ℕ → ℕ
 idPlace state = pick (eqb state 1) 75 3
 
 -- the id that stands after the flags, which end at a place
-unfoldable pub idBehind : ℕ → ℕ → List ℕ → PointId
-idBehind state at s = pick (eqb state 5) noPoint (pointIdAt s (at + idPlace state))
+unfoldable pub idAfter : ℕ → ℕ → List ℕ → PointId
+idAfter state at s = pick (eqb state 5) noPoint (pointIdAt s (at + idPlace state))
 
 abbrev pub placedAt : ℕ → Option ℕ → Option ℕ
 placedAt at none = none
@@ -61,8 +61,8 @@ unfoldable pub endIn : ℕ → List ℕ → Option ℕ
 endIn at s = placedAt at (recordEnd (drop at s))
 
 -- where an entry ends, whose flags end at a place
-unfoldable pub endBehind : ℕ → ℕ → List ℕ → Option ℕ
-endBehind state at s =
+unfoldable pub entryEnd : ℕ → ℕ → List ℕ → Option ℕ
+entryEnd state at s =
     pick (eqb state 5) (some at)
     (pick (eqb state 3) (some (at + 71))
     (pick (eqb state 4) (some (at + 71))
@@ -138,7 +138,7 @@ pub record AllPlaced (presence : ℕ) (p : PointInfo) (s seen : List ℕ) (dropp
   pub marks : (m : ℕ) → m < mapsIn presence → Marked p m (idsOf (directs (listed s))) seen
   pub within : end ≤ length s
   pub left : isSome (readList (drop end s)) ≡ true
-  pub behind : directs (listed (drop end s)) ≡ []
+  pub after : directs (listed (drop end s)) ≡ []
   pub targets : indirects (listed (drop end s)) ≡ indirects (listed s)
 
 abbrev pub DirectsFound : ℕ → PointInfo → List ℕ → List ℕ → Bool → ℕ → ℕ → Type 0

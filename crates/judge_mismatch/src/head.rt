@@ -12,7 +12,7 @@ ghost use Rattle.base.specs.Base.{isSome};
 ghost use Rattle.point.specs.Code.{pointIdOf};
 ghost use Rattle.rules.specs.List.{readEntry};
 ghost use Rattle.judge_entries.specs.Code.{aimOf};
-ghost use Rattle.judge_mismatch.specs.Code.{headFrom, codeHeadOf, flagsAt, aimAt, idPlace, idBehind, endIn, endBehind};
+ghost use Rattle.judge_mismatch.specs.Code.{headFrom, codeHeadOf, flagsAt, aimAt, idPlace, idAfter, endIn, entryEnd};
 
 // An entry without its point.
 pub struct Head {
@@ -45,9 +45,9 @@ fn aim(s: &[u8]) -> Aim
 }
 
 // The id that stands after an entry's flags, which end at a place.
-fn id_behind(s: &[u8], state: u8, at: usize) -> PointId
+fn id_after(s: &[u8], state: u8, at: usize) -> PointId
     requires { ⌜ ((state ≡ 5 → ⊥) → at + idPlace state + 68 ≤ length (now s)) ⌝ }
-    ensures { λ r. ⌜ pointIdOf r ≡ idBehind state at (now (s .entry)) ⌝ }
+    ensures { λ r. ⌜ pointIdOf r ≡ idAfter state at (now (s .entry)) ⌝ }
 {
     if state == 5 {
         return point::NO_POINT;
@@ -71,10 +71,10 @@ fn end_of_record(s: &[u8], at: usize) -> usize
 }
 
 // Where an entry ends, whose flags end at a place.
-fn end_behind(s: &[u8], state: u8, at: usize) -> usize
+fn entry_end(s: &[u8], state: u8, at: usize) -> usize
     requires { ⌜ at ≤ length (now s) ⌝ }
-    requires { ⌜ isSome (endBehind state at (now s)) ≡ true ⌝ }
-    ensures { λ r. ⌜ endBehind state at (now (s .entry)) ≡ some r ⌝ }
+    requires { ⌜ isSome (entryEnd state at (now s)) ≡ true ⌝ }
+    ensures { λ r. ⌜ entryEnd state at (now (s .entry)) ≡ some r ⌝ }
 {
     match state {
         5 => at,
@@ -96,8 +96,8 @@ pub fn head_of(s: &[u8]) -> Head
     Head {
         aim: aim(s),
         is_dropped: state == 5,
-        id: id_behind(s, state, at),
-        size: end_behind(s, state, at),
+        id: id_after(s, state, at),
+        size: entry_end(s, state, at),
     }
 }
 

@@ -146,7 +146,8 @@ fn has_absent_targets(presence: u8, list: &[u8], end: usize) -> bool
 pub fn is_mismatch(presence: u8, rec: &[u8], info: PointInfo, list: &[u8]) -> bool
     requires { ⌜ readPoint (now rec) ≡ some (pointOf (now rec) info) ⌝ }
     requires { ⌜ isSome (readList (now list)) ≡ true ⌝ }
-    ensures { λ r. ⌜ ((l : List Listed) → readList (now (list .entry)) ≡ some l → r ≡ mismatch presence (pointOf (now (rec .entry)) info) (directs l) (indirects l)) ⌝ }
+    ensures { λ r. ⌜ ((l : List Listed) → readList (now (list .entry)) ≡ some l →
+        r ≡ mismatch presence (pointOf (now (rec .entry)) info) (directs l) (indirects l)) ⌝ }
 {
     let mut seen = [0u8; 510];
     let walked = walk(presence, rec, info, list, &mut seen);

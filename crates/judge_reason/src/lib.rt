@@ -13,7 +13,7 @@ ghost use Prim.Native.Nat.{ℕ};
 ghost use Rattle.base.specs.Base.{lastOf};
 ghost use Rattle.point.specs.Code.{pointIdOf};
 ghost use Rattle.schedule.specs.Code.{settingsOf};
-ghost use Rattle.rules.specs.Validate.{taken, dependencyTrail, versionTrail, entryTrailAs, indirectEntryTrail};
+ghost use Rattle.rules.specs.Validate.{pointRows, taken, dependencyTrail, versionTrail, foundAs, indirectPointRows};
 ghost use Rattle.judge_entries.specs.Code.{dagPointOf, entryOf, ReadFrom};
 ghost use Rattle.judge_valid.specs.Code.{pointViewOf, optionOf};
 ghost use Rattle.judge_reason.specs.Code.{takenOf};
@@ -58,7 +58,8 @@ fn dependency_reason(
     point: DagPoint,
 ) -> Reason
     requires { ⌜ ReadFrom (now rec) point ⌝ }
-    ensures { λ r. ⌜ optionOf r ≡ lastOf (dependencyTrail (settingsOf conf) required «is_prev_point» (pointViewOf p) (dagPointOf (now (rec .entry)) point)) ⌝ }
+    ensures { λ r. ⌜ optionOf r
+        ≡ lastOf (dependencyTrail (pointRows (settingsOf conf) required «is_prev_point» (pointViewOf p)) (dagPointOf (now (rec .entry)) point)) ⌝ }
 {
     match point {
         DagPoint::Valid(info) => {
@@ -137,7 +138,9 @@ pub fn entry_reason(
     first_valid: bool,
 ) -> Reason
     requires { ⌜ ReadFrom (now rec) point ⌝ }
-    ensures { λ r. ⌜ optionOf r ≡ lastOf (entryTrailAs (settingsOf conf) required (pointViewOf p) (takenOf how) (entryOf (now (rec .entry)) point certified «first_valid»)) ⌝ }
+    ensures { λ r. ⌜ optionOf r
+        ≡ lastOf (foundAs (settingsOf conf) required (pointViewOf p) (takenOf how)
+        (entryOf (now (rec .entry)) point certified «first_valid») .trail) ⌝ }
 {
     match how {
         Taken::AsDependency => dependency_reason(conf, required, false, p, rec, point),
@@ -156,7 +159,8 @@ pub fn indirect_reason(
     point: DagPoint,
 ) -> Reason
     requires { ⌜ ReadFrom (now rec) point ⌝ }
-    ensures { λ r. ⌜ optionOf r ≡ lastOf (indirectEntryTrail (settingsOf conf) role (pointViewOf p) (dagPointOf (now (rec .entry)) point)) ⌝ }
+    ensures { λ r. ⌜ optionOf r
+        ≡ lastOf (dependencyTrail (indirectPointRows (settingsOf conf) role (pointViewOf p)) (dagPointOf (now (rec .entry)) point)) ⌝ }
 {
     match point {
         DagPoint::Valid(info) => {

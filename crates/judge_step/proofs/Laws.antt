@@ -3,7 +3,7 @@
 use Prim.Native.Nat.{ℕ}
 use mathlib.Core.Path.{_≡_, refl, sym, ap, _∙_}
 use mathlib.Core.Bool.{Bool, true, false, not, _&&_, _||_}
-use mathlib.Core.Option.{Option, none, some}
+use mathlib.Core.Option.{Option, none, some, Option·map, Option·getD}
 use mathlib.Core.List.{List, [], _∷_, _++_}
 use Rattle.base.specs.Base.{pick, when, lastOf, isSome, isEmpty}
 use Rattle.base.proofs.Bool.{and-right}
@@ -12,9 +12,10 @@ use Rattle.point.specs.declared.data.AnchorStageRole.{AnchorStageRole}
 use Rattle.schedule.specs.Settings.{Settings}
 use Rattle.reasons.specs.Invalid.{InvalidReason, DependencyRoundDropped, InvalidDependency}
 use Rattle.rules.specs.DagPoint.{Entry, IndirectEntry, isDropped, PointView, pointView}
-use Rattle.rules.specs.Validate.{entryTrail, directTrail, indirectEntryTrail, indirectTrail, entryRecord, join, directRecord, indirectRecord, resultWith, overLists}
-use Rattle.rules.specs.List.{Listed, isInOrder, listFrom, directThen, directs, indirectThen, indirects}
-use Rattle.judge_entries.proofs.Order.{inOrder, in-order, behind-target}
+use Rattle.rules.specs.Validate.{join, entryFound, indirectFound, resultWith, overLists}
+use Rattle.rules.proofs.Folds.{directTrail, directRecord, indirectTrail, indirectRecord, lists-apart}
+use Rattle.rules.specs.List.{Listed, isInOrder, listFrom, directs, indirects}
+use Rattle.judge_entries.proofs.Order.{inOrder, in-order, after-target}
 use Rattle.judge_step.specs.Code.{Judging, laterOf, orDropped, start, directStep, indirectStep, directFold, targetStep, indirectFold, resultOf}
 
 -- ---- the last reason
@@ -71,12 +72,12 @@ dropped-last none = refl
 dropped-last (some r) = refl
 
 -- the reasons of an entry before those after it, which go by whether one is set
-later-behind : (t : List InvalidReason) (d : Option InvalidReason) (behind : Bool → List InvalidReason) →
-    laterOf (laterOf d (lastOf t)) (lastOf (behind (isSome (laterOf d (lastOf t))))) ≡ laterOf d (lastOf (t ++ behind (isSome d || not (isEmpty t))))
-later-behind t d behind =
-    ap (λ (b : Bool). laterOf (laterOf d (lastOf t)) (lastOf (behind b))) (set-later t d)
-    ∙ later-assoc d (lastOf t) (lastOf (behind (isSome d || not (isEmpty t))))
-    ∙ ap (laterOf d) (sym (last-append t (behind (isSome d || not (isEmpty t)))))
+later-after : (t : List InvalidReason) (d : Option InvalidReason) (after : Bool → List InvalidReason) →
+    laterOf (laterOf d (lastOf t)) (lastOf (after (isSome (laterOf d (lastOf t))))) ≡ laterOf d (lastOf (t ++ after (isSome d || not (isEmpty t))))
+later-after t d after =
+    ap (λ (b : Bool). laterOf (laterOf d (lastOf t)) (lastOf (after b))) (set-later t d)
+    ∙ later-assoc d (lastOf t) (lastOf (after (isSome d || not (isEmpty t))))
+    ∙ ap (laterOf d) (sym (last-append t (after (isSome d || not (isEmpty t)))))
 
 module _ (c : Settings) (required : Bool) (p : PointView) where
   -- after a dropped entry nothing is found, nor recorded
@@ -87,54 +88,54 @@ module _ (c : Settings) (required : Bool) (p : PointView) where
   ended-stays (e ∷ l) d i w = ended-stays l d i w
 
   -- one more entry, dropped or not, that gives the reasons t
-  one-more : (b : Bool) (l : List Entry) (t : List InvalidReason) (behind : Bool → List InvalidReason) (d i : Option InvalidReason) (w joined all : Option InvalidDependency) →
-      Found (laterOf (laterOf d (lastOf t)) (lastOf (behind (isSome (laterOf d (lastOf t)))))) i all (directFold c required p (judging (laterOf d (lastOf t)) i joined false) l) →
+  one-more : (b : Bool) (l : List Entry) (t : List InvalidReason) (after : Bool → List InvalidReason) (d i : Option InvalidReason) (w joined all : Option InvalidDependency) →
+      Found (laterOf (laterOf d (lastOf t)) (lastOf (after (isSome (laterOf d (lastOf t)))))) i all (directFold c required p (judging (laterOf d (lastOf t)) i joined false) l) →
       Found
-      (laterOf d (lastOf (pick b (when (not (isSome d)) DependencyRoundDropped) (t ++ behind (isSome d || not (isEmpty t))))))
+      (laterOf d (lastOf (pick b (when (not (isSome d)) DependencyRoundDropped) (t ++ after (isSome d || not (isEmpty t))))))
       i
       (pick b w all)
       (directFold c required p (pick b (judging (orDropped d) i w true) (judging (laterOf d (lastOf t)) i joined false)) l)
-  one-more true l t behind d i w joined all f =
+  one-more true l t after d i w joined all f =
       let e = ended-stays l (orDropped d) i w in
       record {
         direct = ap (λ (j : Judging). j .direct) e ∙ dropped-last d;
         indirect = ap (λ (j : Judging). j .indirect) e;
         recorded = ap (λ (j : Judging). j .recorded) e;
       }
-  one-more false l t behind d i w joined all f =
-      record { direct = f .direct ∙ later-behind t d behind; indirect = f .indirect; recorded = f .recorded }
+  one-more false l t after d i w joined all f =
+      record { direct = f .direct ∙ later-after t d after; indirect = f .indirect; recorded = f .recorded }
 
   directs-judged : (es : List Entry) (d i : Option InvalidReason) (w : Option InvalidDependency) →
-      Found (laterOf d (lastOf (directTrail c required p (isSome d) es))) i (directRecord c p w es) (directFold c required p (judging d i w false) es)
+      Found (laterOf d (lastOf (directTrail c required p (isSome d) es))) i (directRecord c required p w es) (directFold c required p (judging d i w false) es)
   unfolding directFold directStep directTrail directRecord lastOf
   directs-judged [] d i w = record { direct = refl; indirect = refl; recorded = refl }
   directs-judged (e ∷ l) d i w =
       one-more
       (isDropped (e .state))
       l
-      (entryTrail c required p e)
+      (entryFound c required p e .trail)
       (λ (set : Bool). directTrail c required p set l)
       d
       i
       w
-      (join w (entryRecord c p e))
-      (directRecord c p (join w (entryRecord c p e)) l)
-      (directs-judged l (laterOf d (lastOf (entryTrail c required p e))) i (join w (entryRecord c p e)))
+      (join w (entryFound c required p e .root))
+      (directRecord c required p (join w (entryFound c required p e .root)) l)
+      (directs-judged l (laterOf d (lastOf (entryFound c required p e .trail))) i (join w (entryFound c required p e .root)))
 
 module _ (c : Settings) (p : PointInfo) where
   indirects-judged : (ts : List IndirectEntry) (j : Judging) →
-      Found (j .direct) (laterOf (j .indirect) (lastOf (indirectTrail c (pointView p) ts))) (indirectRecord c p (j .recorded) ts) (indirectFold c p j ts)
-  unfolding indirectFold indirectStep indirectTrail indirectRecord pointView lastOf
+      Found (j .direct) (laterOf (j .indirect) (lastOf (indirectTrail c p ts))) (indirectRecord c p (j .recorded) ts) (indirectFold c p j ts)
+  unfolding indirectFold indirectStep indirectTrail indirectRecord indirectFound pointView lastOf
   indirects-judged [] j = record { direct = refl; indirect = refl; recorded = refl }
   indirects-judged (a ∷ l) j =
-      let t = indirectEntryTrail c (a .role) (pointView p) (a .entry .state) in
+      let t = indirectFound c p a .trail in
       let f = indirects-judged l (targetStep c p (a .role) j (a .entry)) in
       record {
         direct = f .direct;
         indirect =
             f .indirect
-            ∙ later-assoc (j .indirect) (lastOf t) (lastOf (indirectTrail c (pointView p) l))
-            ∙ ap (laterOf (j .indirect)) (sym (last-append t (indirectTrail c (pointView p) l)));
+            ∙ later-assoc (j .indirect) (lastOf t) (lastOf (indirectTrail c p l))
+            ∙ ap (laterOf (j .indirect)) (sym (last-append t (indirectTrail c p l)));
         recorded = f .recorded;
       }
 
@@ -150,11 +151,10 @@ module _ (c : Settings) (required : Bool) (p : PointInfo) where
   -- the direct entries one by one, then the indirect ones
   pub fold-over-lists : (es : List Entry) (ts : List IndirectEntry) →
       resultOf (indirectFold c p (directFold c required (pointView p) start es) ts) ≡ overLists c required p es ts
-  unfolding overLists
   fold-over-lists es ts =
       let dt = directTrail c required (pointView p) false es in
-      let it = indirectTrail c (pointView p) ts in
-      let w = indirectRecord c p (directRecord c (pointView p) none es) ts in
+      let it = indirectTrail c p ts in
+      let w = indirectRecord c p (directRecord c required (pointView p) none es) ts in
       let j = directFold c required (pointView p) start es in
       let f = directs-judged c required (pointView p) es none none none in
       let g = indirects-judged c p ts j in
@@ -169,6 +169,7 @@ module _ (c : Settings) (required : Bool) (p : PointInfo) where
         recorded = g .recorded ∙ ap (λ (o : Option InvalidDependency). indirectRecord c p o ts) (f .recorded);
       })
       ∙ ap (λ (o : Option InvalidReason). resultWith o w) (first-of-both dt it)
+      ∙ sym (lists-apart c p ts required es)
 
 -- ---- a list as it stands
 
@@ -184,29 +185,29 @@ listedFold c required p j [] = j
 listedFold c required p j (x ∷ l) = listedFold c required p (listedStep (x .aim) c required p j (x .entry)) l
 
 module _ (c : Settings) (required : Bool) (p : PointInfo) where
-  parted : (l : List Listed) (behind : Bool) (j : Judging) → inOrder behind l ≡ true →
+  parted : (l : List Listed) (indirectSeen : Bool) (j : Judging) → inOrder indirectSeen l ≡ true →
       listedFold c required p j l ≡ indirectFold c p (directFold c required (pointView p) j (directs l)) (indirects l)
   unfolding listedFold inOrder directs indirects directFold indirectFold
-  parted [] behind j h = refl
-  parted (x ∷ l) behind j h = go (x .aim) (parted l) h
+  parted [] indirectSeen j h = refl
+  parted (x ∷ l) indirectSeen j h = go (x .aim) (parted l) h
     where
       go : (aim : Option AnchorStageRole) →
           ((next : Bool) (k : Judging) → inOrder next l ≡ true → listedFold c required p k l ≡ indirectFold c p (directFold c required (pointView p) k (directs l)) (indirects l)) →
-          (isInOrder behind aim && inOrder (isSome aim) l) ≡ true →
+          (isInOrder indirectSeen aim && inOrder (isSome aim) l) ≡ true →
           listedFold c required p (listedStep aim c required p j (x .entry)) l
-          ≡ indirectFold c p (directFold c required (pointView p) j (directThen aim (x .entry) (directs l))) (indirectThen aim (x .entry) (indirects l))
-      go none f k = f false (directStep c required (pointView p) j (x .entry)) (and-right (isInOrder behind none) (inOrder false l) k)
+          ≡ indirectFold c p (directFold c required (pointView p) j (pick (isSome aim) (directs l) (x .entry ∷ directs l))) (Option·getD (Option·map (λ g. record { role = g; entry = x .entry } ∷ indirects l) aim) (indirects l))
+      go none f k = f false (directStep c required (pointView p) j (x .entry)) (and-right (isInOrder indirectSeen none) (inOrder false l) k)
       go (some g) f k =
-          let ordered : inOrder true l ≡ true = and-right (isInOrder behind (some g)) (inOrder true l) k in
-          let e : directs l ≡ [] = behind-target l ordered in
+          let ordered : inOrder true l ≡ true = and-right (isInOrder indirectSeen (some g)) (inOrder true l) k in
+          let e : directs l ≡ [] = after-target l ordered in
           rw e (rw e at (f true (targetStep c p g j (x .entry)) ordered))
 
   -- entries one by one as they stand in a list that was read
-  pub listed-parted : (n : ℕ) (behind : Bool) (s : List ℕ) (l : List Listed) (j : Judging) → listFrom n behind s ≡ some l →
+  pub listed-parted : (n : ℕ) (indirectSeen : Bool) (s : List ℕ) (l : List Listed) (j : Judging) → listFrom n indirectSeen s ≡ some l →
       listedFold c required p j l ≡ indirectFold c p (directFold c required (pointView p) j (directs l)) (indirects l)
-  listed-parted n behind s l j h = parted l behind j (in-order n behind s l h)
+  listed-parted n indirectSeen s l j h = parted l indirectSeen j (in-order n indirectSeen s l h)
 
-  pub listed-over-lists : (n : ℕ) (behind : Bool) (s : List ℕ) (l : List Listed) → listFrom n behind s ≡ some l →
+  pub listed-over-lists : (n : ℕ) (indirectSeen : Bool) (s : List ℕ) (l : List Listed) → listFrom n indirectSeen s ≡ some l →
       resultOf (listedFold c required p start l) ≡ overLists c required p (directs l) (indirects l)
-  listed-over-lists n behind s l h =
-      ap (λ (j : Judging). resultOf j) (listed-parted n behind s l start h) ∙ fold-over-lists c required p (directs l) (indirects l)
+  listed-over-lists n indirectSeen s l h =
+      ap (λ (j : Judging). resultOf j) (listed-parted n indirectSeen s l start h) ∙ fold-over-lists c required p (directs l) (indirects l)

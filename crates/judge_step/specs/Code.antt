@@ -1,5 +1,6 @@
 -- What the code's values stand for, and judging as a step from entry to entry. This serves contracts below the public call's and
 -- follows the code; proofs/Laws.antt leads from it to `overLists`.
+use Prim.Native.Nat.{ℕ}
 use mathlib.Core.Bool.{Bool, true, false}
 use mathlib.Core.Option.{Option, none, some}
 use mathlib.Core.List.{List, [], _∷_}
@@ -8,8 +9,10 @@ use Rattle.point.specs.Point.{Through, PointInfo, through, anchorLink}
 use Rattle.point.specs.declared.data.AnchorStageRole.{AnchorStageRole}
 use Rattle.schedule.specs.Settings.{Settings}
 use Rattle.reasons.specs.Invalid.{InvalidReason, DependencyRoundDropped, InvalidDependency}
-use Rattle.rules.specs.DagPoint.{Entry, IndirectEntry, isDropped, PointView, pointView}
-use Rattle.rules.specs.Validate.{entryTrail, indirectEntryTrail, entryRecord, recordOf, join, ValidateResult, resultWith}
+use Rattle.reasons.specs.Verdict.{Verdict}
+use Rattle.rules.specs.DagPoint.{Entry, IndirectEntry, entryId, isDropped, PointView, pointView}
+use Rattle.rules.specs.Validate.{Taken, asDependency, asPrevPoint, asVersion, aside, recordOf, directThrough, join, dependency, entryFound, indirectPointRows}
+use Rattle.rules.specs.Validate.{resultWith}
 use Rattle.judge_valid.specs.Code.{optionOf}
 use Rattle.judge_dependency.specs.Code.{recordedOf}
 use Rattle.judge_step.specs.declared.step.Judging as code-judging
@@ -34,28 +37,35 @@ orDropped (some reason) = some reason
 abbrev pub start : Judging
 start = record { direct = none; indirect = none; recorded = none; ended = false }
 
--- the step of a direct entry: one step of directTrail and of directRecord
+-- what a direct entry would have recorded, by how it is taken
+abbrev pub recordAs : Settings → ℕ → Taken → Entry → Option InvalidDependency
+recordAs c round asDependency e = recordOf c round (e .certified) (directThrough round (entryId (e .state))) (e .state)
+recordAs c round asPrevPoint e = recordOf c round (e .certified) (directThrough round (entryId (e .state))) (e .state)
+recordAs c round asVersion e = none
+recordAs c round aside e = none
+
+-- the step of a direct entry: one step of checkValid
 unfoldable pub directStep : Settings → Bool → PointView → Judging → Entry → Judging
-unfolding lastOf entryTrail join entryRecord
+unfolding lastOf join entryFound
 directStep c required p j e =
     pick (j .ended) j
     (pick (isDropped (e .state))
     (record { direct = orDropped (j .direct); indirect = j .indirect; recorded = j .recorded; ended = true })
     (record {
-      direct = laterOf (j .direct) (lastOf (entryTrail c required p e));
+      direct = laterOf (j .direct) (lastOf (entryFound c required p e .trail));
       indirect = j .indirect;
-      recorded = join (j .recorded) (entryRecord c p e);
+      recorded = join (j .recorded) (entryFound c required p e .root);
       ended = false;
     }))
 
--- the step of the entry of an indirect link's target, which goes through t: one step of indirectTrail and of indirectRecord
+-- the step of the entry of an indirect link's target, which goes through t: one step of checkIndirectLinks
 unfoldable pub indirectStep : Settings → PointView → AnchorStageRole → Through → Judging → Entry → Judging
-unfolding lastOf indirectEntryTrail join recordOf
+unfolding lastOf join dependency indirectPointRows
 indirectStep c p g t j e =
     record {
       direct = j .direct;
-      indirect = laterOf (j .indirect) (lastOf (indirectEntryTrail c g p (e .state)));
-      recorded = join (j .recorded) (recordOf c (p .id .round) (e .certified) t (e .state));
+      indirect = laterOf (j .indirect) (lastOf (dependency c (p .id .round) t (indirectPointRows c g p) e .trail));
+      recorded = join (j .recorded) (dependency c (p .id .round) t (indirectPointRows c g p) e .root);
       ended = j .ended;
     }
 
@@ -85,5 +95,5 @@ indirectFold c p j [] = j
 indirectFold c p j (a ∷ l) = indirectFold c p (targetStep c p (a .role) j (a .entry)) l
 
 -- what judging has found, once both lists are done: "Indirect entries are judged only if the direct ones gave no reason"
-abbrev pub resultOf : Judging → ValidateResult
+abbrev pub resultOf : Judging → Verdict
 resultOf j = resultWith (laterOf (j .indirect) (j .direct)) (j .recorded)

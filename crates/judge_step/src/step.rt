@@ -14,12 +14,11 @@ ghost use mathlib.Core.List.{List};
 ghost use Prim.Native.Nat.{ℕ};
 ghost use Rattle.point.specs.Code.{throughOf};
 ghost use Rattle.schedule.specs.Code.{settingsOf};
-ghost use Rattle.rules.specs.Validate.{recordAs};
 ghost use Rattle.judge_entries.specs.Code.{entryOf, ReadFrom};
 ghost use Rattle.judge_valid.specs.Code.{pointViewOf, optionOf};
 ghost use Rattle.judge_dependency.specs.Code.{recordedOf};
 ghost use Rattle.judge_reason.specs.Code.{takenOf};
-ghost use Rattle.judge_step.specs.Code.{laterOf, orDropped, directStep, indirectStep, judgingOf};
+ghost use Rattle.judge_step.specs.Code.{laterOf, orDropped, recordAs, directStep, indirectStep, judgingOf};
 
 // What judging has found so far.
 pub struct Judging {
@@ -87,7 +86,8 @@ pub fn judge_direct(
     so_far: Judging,
 ) -> Judging
     requires { ⌜ ReadFrom (now rec) point ⌝ }
-    ensures { λ r. ⌜ judgingOf r ≡ directStep (settingsOf conf) required (pointViewOf p) (judgingOf «so_far») (entryOf (now (rec .entry)) point certified «first_valid») ⌝ }
+    ensures { λ r. ⌜ judgingOf r ≡ directStep (settingsOf conf) required (pointViewOf p) (judgingOf «so_far»)
+        (entryOf (now (rec .entry)) point certified «first_valid») ⌝ }
 {
     if so_far.ended {
         return so_far;
@@ -136,7 +136,9 @@ pub fn judge_indirect(
     so_far: Judging,
 ) -> Judging
     requires { ⌜ ReadFrom (now rec) point ⌝ }
-    ensures { λ r. ⌜ ((first : Bool) → judgingOf r ≡ indirectStep (settingsOf conf) (pointViewOf p) role (throughOf through) (judgingOf «so_far») (entryOf (now (rec .entry)) point certified first)) ⌝ }
+    ensures { λ r. ⌜ ((first : Bool) →
+        judgingOf r ≡ indirectStep (settingsOf conf) (pointViewOf p) role (throughOf through) (judgingOf «so_far»)
+        (entryOf (now (rec .entry)) point certified first)) ⌝ }
 {
     let id = p.id;
     let direct = so_far.direct;

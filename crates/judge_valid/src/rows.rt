@@ -14,7 +14,8 @@ ghost use Rattle.point.specs.Point.{stickyAnchors};
 ghost use Rattle.point.specs.declared.data.PointRole.the-variants.{AnchorProof};
 ghost use Rattle.schedule.specs.Code.{settingsOf};
 ghost use Rattle.reasons.specs.Code.{prevSeqNoOf};
-ghost use Rattle.rules.specs.Validate.{isOpen, notTrigger, endsTooSoon, proofRow, triggerProofRow, timeRow, newerRow, seqNo, follows, stickyRow, reachedRow, targetRow, anchorTimeRow, carriedRow, sourceRow, anchorRows, pointRows, indirectRow, indirectPointRows};
+ghost use Rattle.rules.specs.Validate.{isOpen, notTrigger, endsTooSoon, proofRow, triggerProofRow, timeRow, newerRow, seqNo, follows, stickyRow, reachedRow};
+ghost use Rattle.rules.specs.Validate.{targetRow, anchorTimeRow, carriedRow, sourceRow, anchorRows, pointRows, indirectRow, indirectPointRows};
 ghost use Rattle.judge_valid.specs.Code.{pointViewOf, depViewOf, optionOf};
 
 // Option<InvalidReason>

@@ -3,17 +3,17 @@ use Prim.Native.Nat.{ℕ, zero, suc, _*_, _≤_}
 use native.Mathlib.Omega.{arith}
 use mathlib.Core.Path.{_≡_, refl, sym}
 use mathlib.Core.Bool.{Bool, true, false, _&&_, and-eq-true-iff}
-use mathlib.Core.Option.{Option, none, some}
+use mathlib.Core.Option.{Option, none, some, Option·map, Option·getD}
 use mathlib.Core.List.{List}
 use lib.ListN.{length}
-use Rattle.base.specs.Base.{pick}
+use Rattle.base.specs.Base.{pick, andThen}
 use Rattle.base.proofs.Option.{picked, none-some}
 use Rattle.map.specs.Rows.{Pair, peersOf, pairsOf, peers, rising, wellRowed}
 use Rattle.map.proofs.Laws.{peersOf-length, pairsOf-length, peers-pairsOf, wellRowed-rising, wellRowed-whole}
 use Rattle.record.specs.Record.{rows, rowOf, contentOf, wellShaped}
 use Rattle.record.proofs.Laws.{content-greatest}
-use Rattle.point.specs.Point.{PointId, Through, AnchorLink, PointInfo, throughRound, throughPeer, digestSafe, isAnchorStage, through, anchorLink, orZero, source, target, top, anchor, isWaveLinkOk}
-use Rattle.point.specs.Reading.{pointIdAt, readLink, readRole, mapsOk, pointWith, readPoint}
+use Rattle.point.specs.Point.{PointId, Through, AnchorLink, PointInfo, throughRound, throughPeer, digestSafe, isAnchorStage, through, anchorLink, source, target, top, anchor, isWaveLinkOk}
+use Rattle.point.specs.Reading.{pointIdAt, readLink, readRole, mapsOk, pointIn, readPoint}
 use Rattle.point.specs.Code.{pointOf, linkIn}
 use Rattle.point.specs.declared.data.PointRole.{PointRole}
 use Rattle.point.specs.declared.data.PointRole.the-variants.{AnchorProof}
@@ -63,7 +63,11 @@ pub record PartsOf (s : List ℕ) (a b : Option AnchorLink) (p : PointInfo) : Ty
   pub proof : a ≡ some (p .anchorProof)
   pub trigger : b ≡ some (p .anchorTrigger)
 
-parts-with : (s : List ℕ) (a b : Option AnchorLink) (r : Option PointRole) (p : PointInfo) → pointWith s a b r ≡ some p → PartsOf s a b p
+-- what is read of a record past its tests: up to its links and its role
+abbrev pub reads : List ℕ → Option AnchorLink → Option AnchorLink → Option PointRole → Option PointInfo
+reads s a b r = andThen a (λ p. andThen b (λ t. Option·map (pointIn s p t) r))
+
+parts-with : (s : List ℕ) (a b : Option AnchorLink) (r : Option PointRole) (p : PointInfo) → reads s a b r ≡ some p → PartsOf s a b p
 parts-with s none b r p e = none-some e
 parts-with s (some x) none r p e = none-some e
 parts-with s (some x) (some y) none p e = none-some e
@@ -99,9 +103,8 @@ module _ (s : List ℕ) where
   unfolding readPoint
   unrowed h g = rw (h, g)
 
-  -- past the tests: what is read is up to the links and the role
   pub shaped-reads : wellShaped s ≡ true → mapsOk s ≡ true →
-      readPoint s ≡ pointWith s (readLink (contentOf s 5)) (readLink (contentOf s 6)) (readRole (contentOf s 7))
+      readPoint s ≡ reads s (readLink (contentOf s 5)) (readLink (contentOf s 6)) (readRole (contentOf s 7))
   unfolding readPoint
   shaped-reads h g = rw (h, g)
 
@@ -112,7 +115,7 @@ link-in Trigger s i = refl
 
 -- the source of a link, by its parts
 pub source-is : (g : AnchorStageRole) (p : PointInfo) (t : Through) (r d a : ℕ) → t ≡ through (anchorLink g p) →
-    r ≡ throughRound t (p .id .round) → d ≡ orZero (digestSafe p t) → a ≡ throughPeer t → record { round = r; digest = d; author = a } ≡ source g p
+    r ≡ throughRound t (p .id .round) → d ≡ Option·getD (digestSafe p t) 0 → a ≡ throughPeer t → record { round = r; digest = d; author = a } ≡ source g p
 unfolding source
 source-is g p t r d a e f h k = rw (f, h, k, e)
 

@@ -28,6 +28,7 @@ use Rattle.point.specs.declared.info.ThroughId as code-through-id
 use Rattle.point.specs.declared.info.ThroughId.the-variants as case-through-id
 use Rattle.point.specs.declared.info.StickyAnchors as code-sticky
 use Rattle.point.specs.declared.info.StickyAnchors.the-variants as case-sticky
+use mathlib.Core.Path.{_≡_}
 
 abbrev pub pointIdOf : code-id.PointId → PointId
 pointIdOf i = record { round = i .round; digest = number (i .digest); author = number (i .author) }
@@ -88,3 +89,7 @@ throughIdOf case-through-id.Absent = none
 abbrev pub stickyOf : code-sticky.StickyAnchors → Option Sticky
 stickyOf (case-sticky.Sticky n l) = some (record { seqNo = n; isLast = l })
 stickyOf case-sticky.NoSticky = none
+
+-- three slices hold the rows of a point's maps
+abbrev pub MapsOf : PointInfo → List ℕ → List ℕ → List ℕ → Type 0
+MapsOf p includes witness evidence = (pairsOf includes ≡ p .includes) × (pairsOf witness ≡ p .witness) × (peersOf 32 evidence ≡ p .evidence)

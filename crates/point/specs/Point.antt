@@ -2,7 +2,7 @@
 -- Peers and digests are numbers: the 32 bytes read with the first byte highest, so that < is the order of byte strings.
 use Prim.Native.Nat.{ℕ, zero, suc, _-_}
 use mathlib.Core.Bool.{Bool, true, false, not, _&&_}
-use mathlib.Core.Option.{Option, none, some}
+use mathlib.Core.Option.{Option, none, some, Option·map, Option·getD}
 use mathlib.Core.List.{List}
 use lib.Dec.{leb, ltb, eqb}
 use Rattle.base.specs.Base.{pick}
@@ -35,7 +35,7 @@ pub data Through : Type 0 where
 -- link.rs, AnchorLink; an indirect one has its target and what it goes through (IndirectLink)
 pub data AnchorLink : Type 0 where
   Direct : Through → AnchorLink
-  Indirect : PointId → Through → AnchorLink
+  Indirect : (to : PointId) (through : Through) → AnchorLink
 
 -- info.rs, PointInfo, with the fields of PointData (data.rs); no signatures
 pub record PointInfo : Type 0 where
@@ -122,14 +122,10 @@ unfoldable pub digestSafe : PointInfo → Through → Option ℕ
 unfolding get
 digestSafe p t = get (throughMap t p) (throughPeer t)
 
-abbrev pub throughIdWith : PointInfo → Through → Option ℕ → Option PointId
-throughIdWith p t none = none
-throughIdWith p t (some d) = some (record { round = throughRound t (p .id .round); digest = d; author = throughPeer t })
-
 -- PointData::through_id
 unfoldable pub throughId : PointInfo → Through → Option PointId
 unfolding digestSafe
-throughId p t = throughIdWith p t (digestSafe p t)
+throughId p t = Option·map (λ d. record { round = throughRound t (p .id .round); digest = d; author = throughPeer t }) (digestSafe p t)
 
 -- ---- info.rs
 
@@ -138,14 +134,10 @@ unfoldable pub prevDigest : PointInfo → Option ℕ
 unfolding get
 prevDigest p = get (p .includes) (p .id .author)
 
-abbrev pub prevIdWith : PointId → Option ℕ → Option PointId
-prevIdWith i none = none
-prevIdWith i (some d) = some (record { round = i .round - 1; digest = d; author = i .author })
-
 -- PointInfo::prev_id
 unfoldable pub prevId : PointInfo → Option PointId
 unfolding prevDigest
-prevId p = prevIdWith (p .id) (prevDigest p)
+prevId p = Option·map (λ d. record { round = p .id .round - 1; digest = d; author = p .id .author }) (prevDigest p)
 
 -- the number of a proof in its sequence, and whether it is the last
 pub record Sticky : Type 0 where
@@ -168,10 +160,6 @@ abbrev pub anchorLink : AnchorStageRole → PointInfo → AnchorLink
 anchorLink Proof p = p .anchorProof
 anchorLink Trigger p = p .anchorTrigger
 
-abbrev pub orZero : Option ℕ → ℕ
-orZero none = 0
-orZero (some d) = d
-
 -- AnchorViewSource::id. Where the peer is not in its map the Rust panics ("usage of ill-formed point") and the digest here is 0.
 -- No verdict depends on it: verification refuses such a point, and of a dependency only a direct link's target is asked for, which
 -- the domain of lists and books covers.
@@ -180,7 +168,7 @@ unfolding digestSafe
 source g p =
     record {
       round = throughRound (through (anchorLink g p)) (p .id .round);
-      digest = orZero (digestSafe p (through (anchorLink g p)));
+      digest = Option·getD (digestSafe p (through (anchorLink g p))) 0;
       author = throughPeer (through (anchorLink g p));
     }
 

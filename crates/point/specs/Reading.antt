@@ -1,11 +1,11 @@
 -- What the bytes of a point record mean, and what the code's values stand for.
 use Prim.Native.Nat.{ℕ, _+_}
 use mathlib.Core.Bool.{Bool, _&&_}
-use mathlib.Core.Option.{Option, none, some}
+use mathlib.Core.Option.{Option, none, some, Option·map}
 use mathlib.Core.List.{List}
 use lib.ListN.{length, getD}
 use lib.Dec.{leb, eqb}
-use Rattle.base.specs.Base.{pick}
+use Rattle.base.specs.Base.{pick, andThen}
 use Rattle.parts.specs.Bytes.{idAt, littleAt}
 use Rattle.map.specs.Rows.{peersOf, pairsOf, wellRowed}
 use Rattle.record.specs.Record.{contentOf, wellShaped}
@@ -26,15 +26,11 @@ readThrough s =
     (pick (eqb (getD s 1 0) 1) (some (Witness (idAt s 2))) none)
 
 -- "kind (0 direct, 1 indirect)"; "indirect adds a target id (68)"
-abbrev pub linkWith : List ℕ → Option Through → Option AnchorLink
-linkWith s none = none
-linkWith s (some t) =
-    pick (eqb (length s) 34 && eqb (getD s 0 0) 0) (some (Direct t))
-    (pick (eqb (length s) 102 && eqb (getD s 0 0) 1) (some (Indirect (pointIdAt s 34) t)) none)
-
 unfoldable pub readLink : List ℕ → Option AnchorLink
 unfolding readThrough pointIdAt
-readLink s = linkWith s (readThrough s)
+readLink s = andThen (readThrough s) (λ t.
+    pick (eqb (length s) 34 && eqb (getD s 0 0) 0) (some (Direct t))
+    (pick (eqb (length s) 102 && eqb (getD s 0 0) 1) (some (Indirect (pointIdAt s 34) t)) none))
 
 -- tag 8: "0 regular, 1 proof then seq_no (1) and is_last (0 or 1), 2 trigger, 3 genesis"
 unfoldable pub readRole : List ℕ → Option PointRole
@@ -52,12 +48,9 @@ unfolding wellRowed contentOf
 mapsOk s = wellRowed 64 (contentOf s 2) && (wellRowed 64 (contentOf s 3) && wellRowed 32 (contentOf s 4))
 
 -- the point, once its links and its role are read; tag 2: payload length and bytes; tag 9: time and anchor_time
-abbrev pub pointWith : List ℕ → Option AnchorLink → Option AnchorLink → Option PointRole → Option PointInfo
-pointWith s none t r = none
-pointWith s (some p) none r = none
-pointWith s (some p) (some t) none = none
-pointWith s (some p) (some t) (some r) =
-    some (record {
+abbrev pub pointIn : List ℕ → AnchorLink → AnchorLink → PointRole → PointInfo
+pointIn s p t r =
+    record {
       id = pointIdAt (contentOf s 0) 0;
       payloadLen = littleAt 4 (contentOf s 1) 0;
       payloadBytes = littleAt 4 (contentOf s 1) 4;
@@ -69,12 +62,12 @@ pointWith s (some p) (some t) (some r) =
       role = r;
       time = littleAt 8 (contentOf s 8) 0;
       anchorTime = littleAt 8 (contentOf s 8) 8;
-    })
+    }
 
 -- a slice that holds one point record, or none
 unfoldable pub readPoint : List ℕ → Option PointInfo
 unfolding wellShaped mapsOk contentOf readLink readRole pointIdAt
 readPoint s =
     pick (wellShaped s && mapsOk s)
-    (pointWith s (readLink (contentOf s 5)) (readLink (contentOf s 6)) (readRole (contentOf s 7)))
+    (andThen (readLink (contentOf s 5)) (λ p. andThen (readLink (contentOf s 6)) (λ t. Option·map (pointIn s p t) (readRole (contentOf s 7)))))
     none

@@ -6,11 +6,11 @@ use crate::link::Through;
 use map::Found;
 use parts::Id;
 ghost use mathlib.Core.Path.{_≡_};
-ghost use mathlib.Core.Option.{some};
+ghost use mathlib.Core.Option.{some, Option·getD};
 ghost use Rattle.map.specs.Code.{foundOf};
 ghost use Rattle.record.specs.Record.{contentOf};
 ghost use Rattle.parts.specs.Code.{number};
-ghost use Rattle.point.specs.Point.{sameId, inDomain, isWaveLinkOk, digestSafe, throughId, prevDigest, stickyAnchors, orZero, source, targetOf, anchor};
+ghost use Rattle.point.specs.Point.{sameId, inDomain, isWaveLinkOk, digestSafe, throughId, prevDigest, stickyAnchors, source, targetOf, anchor};
 ghost use Rattle.point.specs.Code.{pointIdOf, throughOf, linkOf, linkIn, pointOf, viewOf, throughIdOf, stickyOf};
 ghost use Rattle.point.specs.Reading.{readPoint};
 
@@ -184,7 +184,7 @@ pub fn through_id(rec: &[u8], info: PointInfo, through: Through) -> ThroughId
 
 // The digest that was found, or zeros.
 fn digest_or_zero(found: Found) -> Id
-    ensures { λ r. ⌜ number r ≡ orZero (foundOf found) ⌝ }
+    ensures { λ r. ⌜ number r ≡ Option·getD (foundOf found) 0 ⌝ }
 {
     match found {
         Found::Digest(digest) => digest,

@@ -3,7 +3,11 @@ use Prim.Native.Nat.{ℕ}
 use mathlib.Core.Bool.{Bool, true, false}
 use mathlib.Core.Option.{Option, none, some}
 use Rattle.point.specs.Code.{pointIdOf, throughOf}
-use Rattle.reasons.specs.Invalid.{InvalidReason, NoRoundInDag, DependencyRoundDropped, NotTrigger, TerminalTriggerBeforeLastProof, TimeNotGreaterThanInPrevPoint, AnchorProofDoesntInheritAnchorTime, AnchorTimeNotInheritedFromProof, MustHaveReferencedPrevPoint, MustHaveSkippedRound, DependencyTimeTooFarInFuture, NewerAnchorInDependency, AnchorLink, AnchorLinkRole, AnchorLinkBadPath, BadStickySequence, TriggerProofMismatch, DepIllFormed, DepNotFound, InvalidDependency}
+use Rattle.reasons.specs.Invalid.{InvalidReason, NoRoundInDag, DependencyRoundDropped, NotTrigger, TerminalTriggerBeforeLastProof}
+use Rattle.reasons.specs.Invalid.{TimeNotGreaterThanInPrevPoint, AnchorProofDoesntInheritAnchorTime, AnchorTimeNotInheritedFromProof}
+use Rattle.reasons.specs.Invalid.{MustHaveReferencedPrevPoint, MustHaveSkippedRound, DependencyTimeTooFarInFuture, NewerAnchorInDependency, AnchorLink}
+use Rattle.reasons.specs.Invalid.{AnchorLinkRole, AnchorLinkBadPath, BadStickySequence, TriggerProofMismatch, DepIllFormed, DepNotFound}
+use Rattle.reasons.specs.Invalid.{InvalidDependency}
 use Rattle.reasons.specs.declared.invalid.PrevSeqNo as code-seq
 use Rattle.reasons.specs.declared.invalid.PrevSeqNo.the-variants as case-seq
 use Rattle.reasons.specs.declared.invalid.InvalidReason as code

@@ -1,3 +1,4 @@
+pub mod Answer
 pub mod IllFormed
 pub mod Invalid
 pub mod Verdict

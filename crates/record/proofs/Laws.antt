@@ -10,14 +10,14 @@ use lib.ListN.{length, getD, take, drop, length-take, length-drop, length-append
 use lib.Seq.{drop-cons, take-take, getD-take, length-take-le, take-length, take-append-seam}
 use lib.Dec.{leb, eqb}
 use borrow.Author.Tests.{leb-true, eqb-true, le-leb, lt-leb, eq-eqb}
-use Rattle.base.specs.Base.{pick}
+use Rattle.base.specs.Base.{pick, isSomeAnd}
 use Rattle.base.proofs.Bool.{and-left, and-right}
 use Rattle.base.proofs.Option.{picked}
 use Rattle.base.proofs.Impossible.{impossible}
 use Rattle.parts.specs.Bytes.{bytesAt, littleAt}
 use Rattle.parts.proofs.Laws.{part-front}
 use Rattle.record.specs.declared.Row.{Row}
-use Rattle.record.specs.Record.{lengthAt, nextAt, contentAt, fieldOk, endFrom, startOf, contentOf, fieldRow, rows, rowOf, recordEnd, endsAt, wellShaped}
+use Rattle.record.specs.Record.{lengthAt, nextAt, contentAt, fieldOk, endFrom, startOf, contentOf, fieldRow, rows, rowOf, recordEnd, wellShaped}
 
 -- ---- one field
 
@@ -26,9 +26,9 @@ module _ (s : List ℕ) (at : ℕ) where
   unfolding nextAt
   next-within = omega arith
 
-  pub next-behind : at ≤ length s → at ≤ nextAt s at
+  pub next-after : at ≤ length s → at ≤ nextAt s at
   unfolding nextAt
-  next-behind h = omega arith
+  next-after h = omega arith
 
   pub next-whole : at + 3 + lengthAt s at ≤ length s → nextAt s at ≡ at + 3 + lengthAt s at
   unfolding nextAt
@@ -84,12 +84,12 @@ room n l at h = elim (decLt l (at + n)) [
 
 -- where the second choice is nothing and something was chosen, the test holds
 -- the fields of some rows end after where they start
-pub end-behind : (rs : List Row) (s : List ℕ) (at n : ℕ) → endFrom rs s at ≡ some n → at ≤ n
+pub end-after : (rs : List Row) (s : List ℕ) (at n : ℕ) → endFrom rs s at ≡ some n → at ≤ n
 unfolding endFrom
-end-behind [] s at n h = let e : at ≡ n = cc in omega arith
-end-behind (r ∷ rs) s at n h =
+end-after [] s at n h = let e : at ≡ n = cc in omega arith
+end-after (r ∷ rs) s at n h =
     let p = picked (fieldOk r s at) (endFrom rs s (nextAt s at)) n h in
-    omega (arith, fitting r s at (p .0) .next, end-behind rs s (nextAt s at) n (p .1))
+    omega (arith, fitting r s at (p .0) .next, end-after rs s (nextAt s at) n (p .1))
 
 pub start-within : (s : List ℕ) (k : ℕ) → startOf s k ≤ length s
 unfolding startOf
@@ -132,7 +132,7 @@ module _ (s : List ℕ) (e : ℕ) (h : recordEnd s ≡ some e) where
       fitting (rowOf k) s at (picked _ rest e (sym (end-step s at k g) ∙ end-left k (omega arith)) .0)
 
   pub start-before : (k : ℕ) → k ≤ 9 → startOf s k ≤ e
-  start-before k g = end-behind (drop k rows) s (startOf s k) e (end-left k g)
+  start-before k g = end-after (drop k rows) s (startOf s k) e (end-left k g)
 
   pub end-is : startOf s 9 ≡ e
   end-is = let l = end-left 9 (omega arith) in cc (end-last s (startOf s 9))
@@ -140,7 +140,7 @@ module _ (s : List ℕ) (e : ℕ) (h : recordEnd s ≡ some e) where
   pub end-within : e ≤ length s
   end-within = omega (arith, end-is, start-within s 9)
 
-ends-at : (o : Option ℕ) (n : ℕ) → endsAt o n ≡ true → o ≡ some n
+ends-at : (o : Option ℕ) (n : ℕ) → isSomeAnd o (λ e. eqb e n) ≡ true → o ≡ some n
 ends-at none n h = impossible (cc)
 ends-at (some e) n h = ap some (eqb-true e n h)
 
@@ -210,7 +210,7 @@ module _ (e : ℕ) (s t : List ℕ) (a : Agree e s t) where
   ends-same (r ∷ rs) at n h g =
       let p = picked (fieldOk r s at) (endFrom rs s (nextAt s at)) n h in
       let f = fitting r s at (p .0) in
-      let b : at + 3 + lengthAt s at ≤ e = omega (arith, f .next, end-behind rs s (nextAt s at) n (p .1)) in
+      let b : at + 3 + lengthAt s at ≤ e = omega (arith, f .next, end-after rs s (nextAt s at) n (p .1)) in
       rw (field-same at b r f, next-same at b) (ends-same rs (nextAt s at) n (p .1) g)
 
   module _ (n : ℕ) (h : recordEnd s ≡ some n) (g : n ≤ e) where

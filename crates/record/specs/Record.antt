@@ -2,10 +2,10 @@
 use Prim.Native.Nat.{ℕ, zero, suc, _+_, _-_, min}
 use mathlib.Core.List.{List, [], _∷_}
 use mathlib.Core.Option.{Option, none, some}
-use mathlib.Core.Bool.{Bool, false, _&&_}
+use mathlib.Core.Bool.{Bool, _&&_}
 use lib.ListN.{length, getD}
 use lib.Dec.{leb, eqb}
-use Rattle.base.specs.Base.{pick}
+use Rattle.base.specs.Base.{pick, isSomeAnd}
 use Rattle.parts.specs.Bytes.{bytesAt, littleAt}
 use Rattle.record.specs.declared.Row.{Row}
 
@@ -77,11 +77,7 @@ unfoldable pub recordEnd : List ℕ → Option ℕ
 unfolding endFrom rows
 recordEnd s = endFrom rows s 0
 
-abbrev pub endsAt : Option ℕ → ℕ → Bool
-endsAt none n = false
-endsAt (some e) n = eqb e n
-
 -- the nine fields and nothing after them
 unfoldable pub wellShaped : List ℕ → Bool
 unfolding recordEnd
-wellShaped s = endsAt (recordEnd s) (length s)
+wellShaped s = isSomeAnd (recordEnd s) (λ e. eqb e (length s))

@@ -4,7 +4,7 @@ ghost use mathlib.Core.Bool.{true};
 ghost use Prim.Native.Nat.{_+_, _<_, _≤_};
 ghost use lib.ListN.{length};
 ghost use Rattle.record.specs.Record.{lengthAt, fieldOk, nextAt, contentAt, startOf, contentOf, recordEnd, wellShaped};
-ghost use Rattle.record.specs.Code.{endOf};
+ghost use Rattle.record.specs.Code.{endOf, PlacesOf};
 
 // A row of the table of fields: the tag, and the least and the greatest length of the content.
 pub struct Row {
@@ -95,8 +95,8 @@ pub fn next(s: &[u8], at: usize) -> usize
     start + n
 }
 
-// The same, of a field that lies whole in the slice: nothing is left to test.
-fn behind(s: &[u8], at: usize) -> usize
+// Where a field that lies whole in the slice ends: the same, with nothing left to test.
+fn field_end(s: &[u8], at: usize) -> usize
     requires { ⌜ at + 3 + lengthAt (now s) at ≤ length (now s) ⌝ }
     ensures { λ r. ⌜ r ≡ nextAt (now (s .entry)) at ⌝ }
 {
@@ -150,7 +150,7 @@ pub fn record_end(s: &[u8]) -> End
         if !field_ok(s, at, row) {
             return End::Unreadable;
         }
-        at = behind(s, at);
+        at = field_end(s, at);
         k += 1;
     }
     End::At(at)
@@ -199,19 +199,16 @@ pub fn content_from(rec: &[u8], at: usize, end: usize, k: usize) -> &[u8]
 // Where the fields of a whole record start, found in one walk.
 pub fn find_places(rec: &[u8]) -> Places
     requires { ⌜ wellShaped (now rec) ≡ true ⌝ }
-    ensures { λ r. ⌜ (r .payload ≡ startOf (now (rec .entry)) 1) × (r .includes ≡ startOf (now (rec .entry)) 2) ⌝ }
-    ensures { λ r. ⌜ (r .witness ≡ startOf (now (rec .entry)) 3) × (r .evidence ≡ startOf (now (rec .entry)) 4) ⌝ }
-    ensures { λ r. ⌜ (r .«anchor_proof» ≡ startOf (now (rec .entry)) 5) × (r .«anchor_trigger» ≡ startOf (now (rec .entry)) 6) ⌝ }
-    ensures { λ r. ⌜ (r .role ≡ startOf (now (rec .entry)) 7) × (r .times ≡ startOf (now (rec .entry)) 8) ⌝ }
+    ensures { λ r. ⌜ PlacesOf (now (rec .entry)) r ⌝ }
 {
-    let payload = behind(rec, 0);
-    let includes = behind(rec, payload);
-    let witness = behind(rec, includes);
-    let evidence = behind(rec, witness);
-    let anchor_proof = behind(rec, evidence);
-    let anchor_trigger = behind(rec, anchor_proof);
-    let role = behind(rec, anchor_trigger);
-    let times = behind(rec, role);
+    let payload = field_end(rec, 0);
+    let includes = field_end(rec, payload);
+    let witness = field_end(rec, includes);
+    let evidence = field_end(rec, witness);
+    let anchor_proof = field_end(rec, evidence);
+    let anchor_trigger = field_end(rec, anchor_proof);
+    let role = field_end(rec, anchor_trigger);
+    let times = field_end(rec, role);
     Places {
         payload,
         includes,

@@ -1,8 +1,9 @@
 -- A point that is not invalid passed every check of every entry.
 use Prim.Native.Nat.{ℕ}
-use mathlib.Core.Path.{_≡_, refl, ap, _∙_, subst}
+use lib.Dec.{eqb}
+use mathlib.Core.Path.{_≡_, refl, sym, ap, _∙_, subst}
 use mathlib.Core.Logic.{_⊎_, inl, inr}
-use mathlib.Core.Bool.{Bool, true, false, not}
+use mathlib.Core.Bool.{Bool, true, false, not, _&&_}
 use mathlib.Core.Option.{Option, none, some}
 use mathlib.Core.List.{List, [], _∷_, _++_, List·Memᴰ, List·Memᴰ·head, List·Memᴰ·tail, List·Memᴰ·not-nil, List·Memᴰ·cases-cons}
 use Rattle.base.specs.Base.{pick, when, concat, isEmpty}
@@ -11,10 +12,13 @@ use Rattle.base.proofs.Tables.{last-none, AllNone}
 use Rattle.base.proofs.Impossible.{impossible}
 use Rattle.point.specs.Point.{PointInfo}
 use Rattle.point.specs.declared.data.AnchorStageRole.{AnchorStageRole}
+use Rattle.point.specs.declared.data.PointMap.the-variants as map
 use Rattle.schedule.specs.Settings.{Settings}
-use Rattle.reasons.specs.Invalid.{InvalidReason, DependencyRoundDropped, InvalidDependency}
+use Rattle.reasons.specs.Invalid.{InvalidReason, NoRoundInDag, DependencyRoundDropped, InvalidDependency}
+use Rattle.reasons.specs.Verdict as verdict
 use Rattle.rules.specs.DagPoint.{DagPoint, Valid, TransInvalid, Invalid, IllFormed, NotFound, Dropped, depView, Entry, IndirectEntry, entryId, isDropped, PointView, pointView}
-use Rattle.rules.specs.Validate.{pointRows, Taken, asDependency, asPrevPoint, asVersion, aside, taken, dependencyTrail, entryTrailAs, entryTrail, directTrail, indirectPointRows, indirectEntryTrail, indirectTrail, resultWith, overLists, presenceReason, validateWith, validate}
+use Rattle.rules.specs.Validate.{pointRows, Taken, asDependency, asPrevPoint, asVersion, aside, taken, dependencyTrail, dependency, foundAs, entryFound, indirectPointRows, indirectFound, resultWith, overLists, validate}
+use Rattle.rules.proofs.Folds.{directTrail, indirectTrail, lists-apart}
 use Rattle.rules.specs.Passed.{hasReason, AllEmpty, RowsNone, EntryRowsNone, TargetRowsNone, Passed}
 
 -- ---- a point that is not invalid: no check of any entry gave a reason
@@ -37,40 +41,39 @@ by-position (r ∷ l) f = (f r (List·Memᴰ·head refl), by-position l (λ row 
 module _ (c : Settings) (required : Bool) (p : PointView) where
   -- each direct entry
   entry-all : (es : List Entry) → directTrail c required p false es ≡ [] → (e : Entry) → List·Memᴰ e es →
-      (isDropped (e .state) ≡ false) × (entryTrail c required p e ≡ [])
+      (isDropped (e .state) ≡ false) × (entryFound c required p e .trail ≡ [])
   unfolding directTrail
   entry-all [] h e m = absurd (List·Memᴰ·not-nil m)
   entry-all (x ∷ l) h e m = go (isDropped (x .state)) refl h (entry-all l) (List·Memᴰ·cases-cons m)
     where
       go : (b : Bool) → isDropped (x .state) ≡ b →
-          pick b (when true DependencyRoundDropped) (entryTrail c required p x ++ directTrail c required p (not (isEmpty (entryTrail c required p x))) l) ≡ [] →
-          (directTrail c required p false l ≡ [] → (e : Entry) → List·Memᴰ e l → (isDropped (e .state) ≡ false) × (entryTrail c required p e ≡ [])) →
+          pick b (when true DependencyRoundDropped) (entryFound c required p x .trail ++ directTrail c required p (not (isEmpty (entryFound c required p x .trail))) l) ≡ [] →
+          (directTrail c required p false l ≡ [] → (e : Entry) → List·Memᴰ e l → (isDropped (e .state) ≡ false) × (entryFound c required p e .trail ≡ [])) →
           (e ≡ x) ⊎ List·Memᴰ e l →
-          (isDropped (e .state) ≡ false) × (entryTrail c required p e ≡ [])
+          (isDropped (e .state) ≡ false) × (entryFound c required p e .trail ≡ [])
       go true b k f o = impossible (cc)
       go false b k f (inl q) =
-          let n = append-none (entryTrail c required p x) _ k in
-          (ap (λ (y : Entry). isDropped (y .state)) q ∙ b, ap (entryTrail c required p) q ∙ n .0)
+          let n = append-none (entryFound c required p x .trail) _ k in
+          (ap (λ (y : Entry). isDropped (y .state)) q ∙ b, ap (λ (y : Entry). entryFound c required p y .trail) q ∙ n .0)
       go false b k f (inr m′) =
-          let n = append-none (entryTrail c required p x) _ k in
+          let n = append-none (entryFound c required p x .trail) _ k in
           f (subst (λ (t : List InvalidReason). directTrail c required p (not (isEmpty t)) l ≡ []) (n .0) (n .1)) e m′
 
-module _ (c : Settings) (p : PointView) where
+module _ (c : Settings) (p : PointInfo) where
   -- each indirect entry
-  target-all : (ts : List IndirectEntry) → indirectTrail c p ts ≡ [] → (a : IndirectEntry) → List·Memᴰ a ts →
-      indirectEntryTrail c (a .role) p (a .entry .state) ≡ []
+  target-all : (ts : List IndirectEntry) → indirectTrail c p ts ≡ [] → (a : IndirectEntry) → List·Memᴰ a ts → indirectFound c p a .trail ≡ []
   unfolding indirectTrail
   target-all [] h a m = absurd (List·Memᴰ·not-nil m)
-  target-all (x ∷ l) h a m = go (append-none (indirectEntryTrail c (x .role) p (x .entry .state)) (indirectTrail c p l) h) (target-all l) (List·Memᴰ·cases-cons m)
+  target-all (x ∷ l) h a m = go (append-none (indirectFound c p x .trail) (indirectTrail c p l) h) (target-all l) (List·Memᴰ·cases-cons m)
     where
-      go : (indirectEntryTrail c (x .role) p (x .entry .state) ≡ []) × (indirectTrail c p l ≡ []) →
-          (indirectTrail c p l ≡ [] → (a : IndirectEntry) → List·Memᴰ a l → indirectEntryTrail c (a .role) p (a .entry .state) ≡ []) →
+      go : (indirectFound c p x .trail ≡ []) × (indirectTrail c p l ≡ []) →
+          (indirectTrail c p l ≡ [] → (a : IndirectEntry) → List·Memᴰ a l → indirectFound c p a .trail ≡ []) →
           (a ≡ x) ⊎ List·Memᴰ a l →
-          indirectEntryTrail c (a .role) p (a .entry .state) ≡ []
-      go n f (inl q) = ap (λ (y : IndirectEntry). indirectEntryTrail c (y .role) p (y .entry .state)) q ∙ n .0
+          indirectFound c p a .trail ≡ []
+      go n f (inl q) = ap (λ (y : IndirectEntry). indirectFound c p y .trail) q ∙ n .0
       go n f (inr m′) = f (n .1) a m′
 
-rows-none : (c : Settings) (required isPrevPoint : Bool) (p : PointView) (d : DagPoint) → dependencyTrail c required isPrevPoint p d ≡ [] → RowsNone c required isPrevPoint p d
+rows-none : (c : Settings) (required isPrevPoint : Bool) (p : PointView) (d : DagPoint) → dependencyTrail (pointRows c required isPrevPoint p) d ≡ [] → RowsNone c required isPrevPoint p d
 unfolding dependencyTrail
 rows-none c required isPrevPoint p (Valid q) h = all-empty (pointRows c required isPrevPoint p (depView q)) h
 rows-none c required isPrevPoint p (TransInvalid q root n) h = all-empty (pointRows c required isPrevPoint p (depView q)) h
@@ -79,8 +82,8 @@ rows-none c required isPrevPoint p (IllFormed i n) h = impossible (cc)
 rows-none c required isPrevPoint p (NotFound i) h = impossible (cc)
 rows-none c required isPrevPoint p Dropped h = tt
 
-target-rows-none : (c : Settings) (g : AnchorStageRole) (p : PointView) (d : DagPoint) → indirectEntryTrail c g p d ≡ [] → TargetRowsNone c g p d
-unfolding indirectEntryTrail
+target-rows-none : (c : Settings) (g : AnchorStageRole) (p : PointView) (d : DagPoint) → dependencyTrail (indirectPointRows c g p) d ≡ [] → TargetRowsNone c g p d
+unfolding dependencyTrail
 target-rows-none c g p (Valid q) h = all-empty (indirectPointRows c g p (depView q)) h
 target-rows-none c g p (TransInvalid q root n) h = all-empty (indirectPointRows c g p (depView q)) h
 target-rows-none c g p (Invalid q n) h = all-empty (indirectPointRows c g p (depView q)) h
@@ -88,7 +91,8 @@ target-rows-none c g p (IllFormed i n) h = impossible (cc)
 target-rows-none c g p (NotFound i) h = impossible (cc)
 target-rows-none c g p Dropped h = tt
 
-entry-rows-none : (c : Settings) (required : Bool) (p : PointView) (how : Taken) (e : Entry) → entryTrailAs c required p how e ≡ [] → EntryRowsNone c required p how e
+entry-rows-none : (c : Settings) (required : Bool) (p : PointView) (how : Taken) (e : Entry) → foundAs c required p how e .trail ≡ [] → EntryRowsNone c required p how e
+unfolding dependency
 entry-rows-none c required p asDependency e h = rows-none c required false p (e .state) h
 entry-rows-none c required p asPrevPoint e h = rows-none c required true p (e .state) h
 entry-rows-none c required p asVersion e h = h
@@ -105,22 +109,29 @@ both-none (x ∷ a) b h = impossible (cc)
 module _ (c : Settings) (required : Bool) (p : PointInfo) (es : List Entry) (ts : List IndirectEntry) where
   -- Valid or TransInvalid: every check passed for every entry
   pub trail-all : hasReason (overLists c required p es ts) ≡ false → Passed c required (pointView p) es ts
-  unfolding overLists entryTrail
+  unfolding entryFound indirectFound dependency
   trail-all h =
-      let n = both-none (directTrail c required (pointView p) false es) (indirectTrail c (pointView p) ts) (last-none _ (no-reason _ _ h)) in
+      let direct = directTrail c required (pointView p) false es in
+      let n = both-none direct (indirectTrail c p ts) (last-none _ (no-reason _ _ (ap hasReason (sym (lists-apart c p ts required es)) ∙ h))) in
       record {
         entries =
             λ e m.
             (let k = entry-all c required (pointView p) es (n .0) e m in
             (k .0, entry-rows-none c required (pointView p) (taken (pointView p) (entryId (e .state))) e (k .1)));
-        targets = λ a m. target-rows-none c (a .role) (pointView p) (a .entry .state) (target-all c (pointView p) ts (n .1) a m);
+        targets = λ a m. target-rows-none c (a .role) (pointView p) (a .entry .state) (target-all c p ts (n .1) a m);
       }
 
-  pub validate-all : (presence : ℕ) → hasReason (validate c required presence p es ts) ≡ false →
-      (presenceReason presence p ≡ none) × Passed c required (pointView p) es ts
+  pub validate-all : (presence : ℕ) → hasReason (validate c required presence p es ts) ≡ false → Passed c required (pointView p) es ts
   unfolding validate
-  validate-all presence h = go (presenceReason presence p) h
+  validate-all presence h = go (eqb presence 0) (eqb presence 1) (eqb presence 2 && not (isEmpty (p .witness))) h
     where
-      go : (o : Option InvalidReason) → hasReason (validateWith o (overLists c required p es ts)) ≡ false → (o ≡ none) × Passed c required (pointView p) es ts
-      go none k = (refl, trail-all k)
-      go (some r) k = impossible (cc)
+      go : (x y z : Bool) →
+          hasReason
+          (pick x (verdict.Invalid (NoRoundInDag map.Evidence))
+          (pick y (verdict.Invalid (NoRoundInDag map.Includes)) (pick z (verdict.Invalid (NoRoundInDag map.Witness)) (overLists c required p es ts))))
+          ≡ false →
+          Passed c required (pointView p) es ts
+      go true y z k = impossible (cc)
+      go false true z k = impossible (cc)
+      go false false true k = impossible (cc)
+      go false false false k = trail-all k

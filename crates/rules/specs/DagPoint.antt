@@ -1,8 +1,9 @@
 -- What is known of a point's dependencies (dag_point.rs; document 01, "A dependency entry"), and what judging asks of the
 -- point and of a dependency.
 use Prim.Native.Nat.{ℕ}
-use mathlib.Core.Bool.{Bool, true, false}
+use mathlib.Core.Bool.{Bool, true, false, _&&_}
 use mathlib.Core.Option.{Option}
+use lib.Dec.{eqb}
 use Rattle.point.specs.Point.{PointId, PointInfo, prevDigest, source, target, top, noPoint}
 use Rattle.point.specs.declared.data.AnchorStageRole.{AnchorStageRole}
 use Rattle.point.specs.declared.data.AnchorStageRole.the-variants.{Proof, Trigger}
@@ -11,9 +12,9 @@ use Rattle.point.specs.declared.data.PointRole.{PointRole}
 -- DagPoint, or that it was dropped with its round. A trans-invalid one has its root cause and that one's reason.
 pub data DagPoint : Type 0 where
   Valid : PointInfo → DagPoint
-  TransInvalid : PointInfo → PointId → ℕ → DagPoint
-  Invalid : PointInfo → ℕ → DagPoint
-  IllFormed : PointId → ℕ → DagPoint
+  TransInvalid : (point : PointInfo) (root : PointId) (rootReason : ℕ) → DagPoint
+  Invalid : (point : PointInfo) (reason : ℕ) → DagPoint
+  IllFormed : (id : PointId) (reason : ℕ) → DagPoint
   NotFound : PointId → DagPoint
   Dropped : DagPoint
 
@@ -43,6 +44,10 @@ isDropped (Invalid q n) = false
 isDropped (IllFormed i n) = false
 isDropped (NotFound i) = false
 isDropped Dropped = true
+
+-- a point of a round by an author
+abbrev pub isBy : ℕ → ℕ → PointId → Bool
+isBy round author i = eqb (i .round) round && eqb (i .author) author
 
 -- ---- of the judged point
 

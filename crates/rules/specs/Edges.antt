@@ -15,9 +15,11 @@ use Rattle.reasons.specs.declared.ill_formed.StructureIssue.the-variants.{Autho
 use Rattle.reasons.specs.declared.ill_formed.IllFormedReason.the-variants.{TooManyStickyAnchors, BadLastStickyFlag}
 use Rattle.reasons.specs.declared.ill_formed.VerifyError.the-variants.{IllFormed}
 use Rattle.rules.specs.Verify.{structureRows, genesisStructureRows, stickyFault}
-use Rattle.reasons.specs.Invalid.{invalidNumber, InvalidDependency}
+use Rattle.reasons.specs.Invalid.{InvalidDependency}
+use Rattle.reasons.specs.Verdict as verdict
+use Rattle.rules.specs.Answer.{verdictAnswer}
 use Rattle.rules.specs.DagPoint.{DagPoint, Valid, TransInvalid, NotFound, Dropped, Entry}
-use Rattle.rules.specs.Validate.{ValidateResult, isInvalid, isTransInvalid, isValid, overLists}
+use Rattle.rules.specs.Validate.{overLists}
 
 -- settings with sticky_anchors 3, a clock skew of 500 and a history of 21
 unfoldable pub conf : Settings
@@ -104,13 +106,11 @@ abbrev pub rootOf : ℕ → ℕ → InvalidDependency
 rootOf author n = record { to = targetAt 90; reason = n; through = Includes author }
 
 -- the verdict over direct entries alone, and the number of its reason, 0 if none
-abbrev pub over : ℕ → List Entry → ValidateResult
+abbrev pub over : ℕ → List Entry → verdict.Verdict
 over round es = overLists conf false (judgedAt round) es []
 
-abbrev pub numberOf : ValidateResult → ℕ
-numberOf (isInvalid reason) = invalidNumber reason
-numberOf (isTransInvalid root) = 0
-numberOf isValid = 0
+abbrev pub numberOf : verdict.Verdict → ℕ
+numberOf v = verdictAnswer v .reason
 
 pub record Edges : Type 0 where
   -- P1 Indirect link 3 rounds back: near; 4: far; direct: near
@@ -135,11 +135,11 @@ pub record Edges : Type 0 where
   pub lastTooSoon : firstOf (stickyFault conf (stickyAnchors (AnchorProof 2 true))) ≡ some (IllFormed BadLastStickyFlag)
   pub lastInTime : firstOf (stickyFault conf (stickyAnchors (AnchorProof 3 true))) ≡ none
   -- P6 Root 90, history 21: recorded at r−1 = 110, not at 111
-  pub inWindow : over 111 (rooted 2 110 6 ∷ []) ≡ isTransInvalid (rootOf 2 6)
-  pub pastWindow : over 112 (rooted 2 111 6 ∷ []) ≡ isValid
+  pub inWindow : over 111 (rooted 2 110 6 ∷ []) ≡ verdict.TransInvalid (rootOf 2 6)
+  pub pastWindow : over 112 (rooted 2 111 6 ∷ []) ≡ verdict.Valid
   -- P7 Equal rounds: reason 2 then 6 records 6; 6 then 2 keeps 6
-  pub dagRoundLater : over 111 (rooted 2 110 2 ∷ rooted 3 110 6 ∷ []) ≡ isTransInvalid (rootOf 3 6)
-  pub dagRoundFirst : over 111 (rooted 2 110 6 ∷ rooted 3 110 2 ∷ []) ≡ isTransInvalid (rootOf 2 6)
+  pub dagRoundLater : over 111 (rooted 2 110 2 ∷ rooted 3 110 6 ∷ []) ≡ verdict.TransInvalid (rootOf 3 6)
+  pub dagRoundFirst : over 111 (rooted 2 110 6 ∷ rooted 3 110 2 ∷ []) ≡ verdict.TransInvalid (rootOf 2 6)
   -- P8 Entries giving 11 then 19: 19
   pub lastReason : numberOf (over 111 (ofTwo 1501 ∷ notFound ∷ [])) ≡ 19
   pub lastReasonReversed : numberOf (over 111 (notFound ∷ ofTwo 1501 ∷ [])) ≡ 11
@@ -147,5 +147,5 @@ pub record Edges : Type 0 where
   pub droppedLater : numberOf (over 111 (ofTwo 1501 ∷ dropped ∷ [])) ≡ 11
   pub droppedFirst : numberOf (over 111 (dropped ∷ ofTwo 1501 ∷ [])) ≡ 3
   -- P10 Time 1,000, skew 500, an entry that isn't the previous point: 1,500 passes, 1,501 gives 11
-  pub inSkew : over 111 (ofTwo 1500 ∷ ofThree ∷ []) ≡ isValid
+  pub inSkew : over 111 (ofTwo 1500 ∷ ofThree ∷ []) ≡ verdict.Valid
   pub pastSkew : numberOf (over 111 (ofTwo 1501 ∷ ofThree ∷ [])) ≡ 11

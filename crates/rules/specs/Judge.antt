@@ -19,7 +19,7 @@ use Rattle.reasons.specs.declared.ill_formed.VerifyAnswer.{VerifyAnswer}
 use Rattle.reasons.specs.declared.ill_formed.VerifyAnswer.the-variants as case-verify
 use Rattle.reasons.specs.Verdict.{Verdict, Fail, IllFormed, Valid}
 use Rattle.rules.specs.DagPoint.{Entry, IndirectEntry}
-use Rattle.rules.specs.Validate.{ofResult, validate}
+use Rattle.rules.specs.Validate.{validate}
 use Rattle.rules.specs.CheckIllFormed.{waveChecked}
 use Rattle.reasons.specs.declared.ill_formed.WaveChecked.{WaveChecked}
 use Rattle.rules.specs.List.{Listed, readList, directs, indirects}
@@ -87,16 +87,13 @@ pub data Before : Type 0 where
   answered : JudgeAnswer → Before
   needed : Bool → Before
 
-abbrev pub beforeWave : WaveChecked → Before
-beforeWave case-wave.Horizon = answered (Number 6)
-beforeWave (case-wave.IllFormed r) = answered (Given (IllFormed r))
-beforeWave (case-wave.Sound required) = needed required
-
 -- "A verification that didn't pass ends the judgement there. Genesis is then Valid. Else `check_ill_formed`"
 abbrev pub beforeWith : Option VerifyError → Bool → WaveChecked → Before
 beforeWith (some e) genesis wave = answered (Given (ofError e))
 beforeWith none true wave = answered (Given Valid)
-beforeWith none false wave = beforeWave wave
+beforeWith none false case-wave.Horizon = answered (Number 6)
+beforeWith none false (case-wave.IllFormed r) = answered (Given (IllFormed r))
+beforeWith none false (case-wave.Sound required) = needed required
 
 unfoldable pub before : Settings → Schedule → Bool → PointInfo → Before
 unfolding verify waveChecked
@@ -109,7 +106,7 @@ abbrev pub overEntries : Settings → Bool → ℕ → PointInfo → List Entry 
 overEntries c required presence p es ts =
     pick (mismatch presence p es ts) (Number 8)
     (pick (uncovered (prevId p) es ts) (Number 9)
-    (Given (ofResult (validate c required presence p es ts))))
+    (Given (validate c required presence p es ts)))
 
 abbrev pub overList : Settings → Bool → ℕ → PointInfo → Option (List Listed) → JudgeAnswer
 overList c required presence p none = Number 7
@@ -120,7 +117,7 @@ abbrev pub judgeFrom : Settings → ℕ → PointInfo → List ℕ → Before �
 judgeFrom c presence p list (answered a) = a
 judgeFrom c presence p list (needed required) =
     pick (leb 2 presence) (overList c required presence p (readList list))
-    (Given (ofResult (validate c required presence p [] [])))
+    (Given (validate c required presence p [] []))
 
 -- what is tested of the call's own numbers for 4
 abbrev pub flagsOk : ℕ → ℕ → Bool

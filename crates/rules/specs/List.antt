@@ -1,12 +1,12 @@
 -- The list of a point's dependencies (document 01, "A dependency entry"): what its bytes mean, and its domain. A list that has no
 -- meaning here is number 7, "unreadable or outside the domain".
 use Prim.Native.Nat.{ℕ, zero, suc, _+_}
-use mathlib.Core.Bool.{Bool, true, false, _&&_}
-use mathlib.Core.Option.{Option, none, some}
+use mathlib.Core.Bool.{Bool, true, false, not, _&&_, _||_}
+use mathlib.Core.Option.{Option, none, some, Option·map, Option·getD}
 use mathlib.Core.List.{List, [], _∷_}
 use lib.ListN.{length, getD, take, drop}
 use lib.Dec.{leb, eqb}
-use Rattle.base.specs.Base.{pick, isSome}
+use Rattle.base.specs.Base.{pick, isSome, andThen}
 use Rattle.parts.specs.Bytes.{littleAt}
 use Rattle.parts.specs.Limits.{firstRound, lastRound}
 use Rattle.record.specs.Record.{fieldRow, fieldOk, recordEnd}
@@ -40,25 +40,14 @@ pub record RecordFront : Type 0 where
   pub point : PointInfo
   pub size : ℕ
 
-abbrev pub frontWith : ℕ → Option PointInfo → Option RecordFront
-frontWith n none = none
-frontWith n (some q) = pick (isListable q) (some (record { point = q; size = n })) none
-
-abbrev pub frontTo : List ℕ → Option ℕ → Option RecordFront
-frontTo s none = none
-frontTo s (some n) = frontWith n (readPoint (take n s))
-
 unfoldable pub recordFront : List ℕ → Option RecordFront
 unfolding recordEnd readPoint isListable
-recordFront s = frontTo s (recordEnd s)
-
-abbrev pub statedWith : (PointInfo → DagPoint) → ℕ → Option RecordFront → Option Stated
-statedWith state front none = none
-statedWith state front (some x) = some (record { point = state (x .point); size = front + x .size })
+recordFront s =
+    andThen (recordEnd s) (λ n. andThen (readPoint (take n s)) (λ q. pick (isListable q) (some (record { point = q; size = n })) none))
 
 -- a point record, `front` bytes after tag 16
 abbrev pub recordAt : (PointInfo → DagPoint) → ℕ → List ℕ → Option Stated
-recordAt state front s = statedWith state front (recordFront (drop front s))
+recordAt state front s = Option·map (λ x. record { point = state (x .point); size = front + x .size }) (recordFront (drop front s))
 
 -- tag 17: the id
 abbrev pub idAt17 : (PointId → DagPoint) → List ℕ → Option Stated
@@ -92,21 +81,16 @@ pub record Listed : Type 0 where
   pub entry : Entry
   pub size : ℕ
 
-abbrev pub listedWith : Option AnchorStageRole → ℕ → List ℕ → Option Stated → Option Listed
-listedWith aim front s none = none
-listedWith aim front s (some x) =
-    some (record {
-      aim = aim;
-      entry = record { state = x .point; certified = eqb (getD s 4 0) 1; firstValid = eqb (getD s 5 0) 1 };
-      size = front + 7 + x .size;
-    })
-
 -- tag 16: "state .., certified (0 or 1), first valid (0 or 1), reason number"; `front` bytes stand before it
 unfoldable pub entryAt : Option AnchorStageRole → ℕ → List ℕ → Option Listed
 unfolding fieldOk readState
 entryAt aim front s =
     pick (fieldOk (fieldRow 16 4 4) s 0 && (leb (getD s 4 0) 1 && leb (getD s 5 0) 1))
-    (listedWith aim front s (readState (getD s 3 0) (getD s 6 0) (drop 7 s)))
+    (Option·map (λ x. record {
+      aim = aim;
+      entry = record { state = x .point; certified = eqb (getD s 4 0) 1; firstValid = eqb (getD s 5 0) 1 };
+      size = front + 7 + x .size;
+    }) (readState (getD s 3 0) (getD s 6 0) (drop 7 s)))
     none
 
 abbrev pub roleOf : ℕ → AnchorStageRole
@@ -123,46 +107,27 @@ readEntry s =
 
 -- ---- the list
 
--- "they stand behind all direct ones": whether an entry may stand after an indirect one, or after none
+-- "they stand behind all direct ones"; `indirectSeen` says that an indirect one stood before
 abbrev pub isInOrder : Bool → Option AnchorStageRole → Bool
-isInOrder true none = false
-isInOrder true (some g) = true
-isInOrder false aim = true
+isInOrder indirectSeen aim = not indirectSeen || isSome aim
 
-abbrev pub listThen : Listed → Option (List Listed) → Option (List Listed)
-listThen x none = none
-listThen x (some l) = some (x ∷ l)
-
--- an entry that was read, and then the list after it
-abbrev pub listWith : (Bool → List ℕ → Option (List Listed)) → Bool → List ℕ → Option Listed → Option (List Listed)
-listWith next behind s none = none
-listWith next behind s (some x) =
-    pick (isInOrder behind (x .aim)) (listThen x (next (isSome (x .aim)) (drop (x .size) s))) none
-
--- at most n entries; `behind` says that an indirect one stood before
+-- at most n entries
 unfoldable pub listFrom : ℕ → Bool → List ℕ → Option (List Listed)
 unfolding readEntry
-listFrom zero behind s = pick (eqb (length s) 0) (some []) none
-listFrom (suc n) behind s =
-    pick (eqb (length s) 0) (some []) (listWith (λ b t. listFrom n b t) behind s (readEntry s))
+listFrom zero indirectSeen s = pick (eqb (length s) 0) (some []) none
+listFrom (suc n) indirectSeen s =
+    pick (eqb (length s) 0) (some []) (andThen (readEntry s) (λ x.
+    pick (isInOrder indirectSeen (x .aim)) (Option·map (λ l. x ∷ l) (listFrom n (isSome (x .aim)) (drop (x .size) s))) none))
 
 -- "A list holds at most 65,535 entries"
 unfoldable pub readList : List ℕ → Option (List Listed)
 unfolding listFrom
 readList s = listFrom 65535 false s
 
-abbrev pub directThen : Option AnchorStageRole → Entry → List Entry → List Entry
-directThen none e l = e ∷ l
-directThen (some g) e l = l
-
 unfoldable pub directs : List Listed → List Entry
 directs [] = []
-directs (x ∷ l) = directThen (x .aim) (x .entry) (directs l)
-
-abbrev pub indirectThen : Option AnchorStageRole → Entry → List IndirectEntry → List IndirectEntry
-indirectThen none e l = l
-indirectThen (some g) e l = record { role = g; entry = e } ∷ l
+directs (x ∷ l) = pick (isSome (x .aim)) (directs l) (x .entry ∷ directs l)
 
 unfoldable pub indirects : List Listed → List IndirectEntry
 indirects [] = []
-indirects (x ∷ l) = indirectThen (x .aim) (x .entry) (indirects l)
+indirects (x ∷ l) = Option·getD (Option·map (λ g. record { role = g; entry = x .entry } ∷ indirects l) (x .aim)) (indirects l)

@@ -11,7 +11,7 @@ use Rattle.map.specs.Rows.{Pair}
 use Rattle.point.specs.Point.{PointId, AnchorLink, Direct, Indirect, PointInfo, prevDigest, anchorLink, sameId}
 use Rattle.point.specs.declared.data.AnchorStageRole.{AnchorStageRole}
 use Rattle.point.specs.declared.data.AnchorStageRole.the-variants.{Proof, Trigger}
-use Rattle.rules.specs.DagPoint.{DagPoint, Entry, IndirectEntry, entryId, isDropped}
+use Rattle.rules.specs.DagPoint.{DagPoint, Entry, IndirectEntry, entryId, isDropped, isBy}
 
 -- ---- the direct entries
 
@@ -32,7 +32,7 @@ isAmong round (q ∷ l) i = sameId (pairId round q) i || isAmong round l i
 -- "without previous digest, a version of the author at r−1"
 unfoldable pub isVersion : PointInfo → PointId → Bool
 unfolding prevDigest
-isVersion p i = not (isSome (prevDigest p)) && (eqb (i .round) (p .id .round - 1) && eqb (i .author) (p .id .author))
+isVersion p i = not (isSome (prevDigest p)) && isBy (p .id .round - 1) (p .id .author) i
 
 -- "With presence 2, witness and indirect entries are absent (one that stands there gives 8 ..)"
 unfoldable pub hasPlace : ℕ → PointInfo → PointId → Bool

@@ -6,14 +6,18 @@ use mathlib.Core.List.{List, [], List·Memᴰ}
 use Rattle.point.specs.declared.data.AnchorStageRole.{AnchorStageRole}
 use Rattle.schedule.specs.Settings.{Settings}
 use Rattle.reasons.specs.Invalid.{InvalidReason}
-use Rattle.rules.specs.DagPoint.{DagPoint, Valid, TransInvalid, Invalid, IllFormed, NotFound, Dropped, depView, Entry, IndirectEntry, entryId, isDropped, PointView}
-use Rattle.rules.specs.Validate.{pointRows, Taken, asDependency, asPrevPoint, asVersion, aside, taken, versionTrail, indirectPointRows, ValidateResult, isInvalid, isTransInvalid, isValid}
+use Rattle.reasons.specs.Verdict as verdict
+use Rattle.rules.specs.DagPoint.{DagPoint, Valid, TransInvalid, Invalid, IllFormed, NotFound, Dropped, depView, Entry, IndirectEntry, entryId, isDropped}
+use Rattle.rules.specs.DagPoint.{PointView}
+use Rattle.rules.specs.Validate.{pointRows, Taken, asDependency, asPrevPoint, asVersion, aside, taken, versionTrail, indirectPointRows}
 
--- Invalid, and not Valid or TransInvalid
-abbrev pub hasReason : ValidateResult → Bool
-hasReason (isInvalid r) = true
-hasReason (isTransInvalid d) = false
-hasReason isValid = false
+-- neither Valid nor TransInvalid
+abbrev pub hasReason : verdict.Verdict → Bool
+hasReason (verdict.Fail u) = true
+hasReason (verdict.IllFormed r) = true
+hasReason (verdict.Invalid r) = true
+hasReason (verdict.TransInvalid d) = false
+hasReason verdict.Valid = false
 
 -- every row of a table is empty
 abbrev pub AllEmpty : List (List InvalidReason) → Type 0

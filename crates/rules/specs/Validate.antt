@@ -1,20 +1,26 @@
 -- Judging: check_valid, check_indirect_links, dependency, is_proof_ok and check_trigger_proof of verifier.rs. What an entry says
 -- against a point is the list of reasons that it sets, in the order of the source: the trail. A later reason replaces an
--- earlier one, so the verdict's reason is the trail's last. Root causes are recorded apart from it.
+-- earlier one, so the verdict's reason is the trail's last.
 use Prim.Native.Nat.{ℕ, _+_, _-_}
 use mathlib.Core.Bool.{Bool, true, false, not, _&&_, _||_}
 use mathlib.Core.Option.{Option, none, some}
 use mathlib.Core.List.{List, [], _∷_, _++_}
 use lib.Dec.{leb, ltb, eqb}
 use Rattle.base.specs.Base.{pick, when, concat, lastOf, isEmpty}
-use Rattle.point.specs.Point.{PointId, Through, Includes, Witness, PointInfo, isAnchorProof, isAnchorTrigger, isAnchorStage, Sticky, stickyAnchors, through, anchorLink, sameId}
+use Rattle.point.specs.Point.{PointId, Through, Includes, Witness, PointInfo, isAnchorProof, isAnchorTrigger, isAnchorStage, Sticky, stickyAnchors, through}
+use Rattle.point.specs.Point.{anchorLink, sameId}
 use Rattle.point.specs.declared.data.AnchorStageRole.{AnchorStageRole}
 use Rattle.point.specs.declared.data.AnchorStageRole.the-variants.{Proof, Trigger}
 use Rattle.point.specs.declared.data.PointMap.the-variants as map
 use Rattle.point.specs.declared.data.PointRole.{PointRole}
 use Rattle.schedule.specs.Settings.{Settings}
-use Rattle.rules.specs.DagPoint.{DagPoint, Valid, TransInvalid, Invalid, IllFormed, NotFound, Dropped, Entry, IndirectEntry, entryId, isDropped, PointView, pointView, linksIn, DepView, depView, topIn}
-use Rattle.reasons.specs.Invalid.{InvalidReason, NoRoundInDag, DependencyRoundDropped, NotTrigger, TerminalTriggerBeforeLastProof, TimeNotGreaterThanInPrevPoint, AnchorProofDoesntInheritAnchorTime, AnchorTimeNotInheritedFromProof, MustHaveReferencedPrevPoint, MustHaveSkippedRound, DependencyTimeTooFarInFuture, NewerAnchorInDependency, AnchorLink, AnchorLinkRole, AnchorLinkBadPath, BadStickySequence, TriggerProofMismatch, DepIllFormed, DepNotFound, hasDagRound, InvalidDependency}
+use Rattle.rules.specs.DagPoint.{DagPoint, Valid, TransInvalid, Invalid, IllFormed, NotFound, Dropped, Entry, IndirectEntry, entryId, isDropped, isBy}
+use Rattle.rules.specs.DagPoint.{PointView, pointView, linksIn, DepView, depView, topIn}
+use Rattle.reasons.specs.Invalid.{InvalidReason, NoRoundInDag, DependencyRoundDropped, NotTrigger, TerminalTriggerBeforeLastProof}
+use Rattle.reasons.specs.Invalid.{TimeNotGreaterThanInPrevPoint, AnchorProofDoesntInheritAnchorTime, AnchorTimeNotInheritedFromProof}
+use Rattle.reasons.specs.Invalid.{MustHaveReferencedPrevPoint, MustHaveSkippedRound, DependencyTimeTooFarInFuture, NewerAnchorInDependency, AnchorLink}
+use Rattle.reasons.specs.Invalid.{AnchorLinkRole, AnchorLinkBadPath, BadStickySequence, TriggerProofMismatch, DepIllFormed, DepNotFound, hasDagRound}
+use Rattle.reasons.specs.Invalid.{InvalidDependency}
 use Rattle.reasons.specs.Verdict as verdict
 
 -- ---- is_proof_ok: of the previous point q, the first reason alone
@@ -136,92 +142,22 @@ pointRows c required isPrevPoint p q =
     ∷ concat (anchorRows c p q)
     ∷ []
 
--- ---- check_valid, of one direct entry
+-- ---- dependency
 
--- how an entry is taken: a dependency, the previous point, a version of the author's point at r-1 where none is referenced,
--- or not at all
-pub data Taken : Type 0 where
-  asDependency : Taken
-  asPrevPoint : Taken
-  asVersion : Taken
-  aside : Taken
+-- what entries give: the reasons that they set, the last of which is `invalid_reason`, and `latest_invalid_dep`
+pub record Found : Type 0 where
+  pub trail : List InvalidReason
+  pub root : Option InvalidDependency
 
-abbrev pub takenOwn : PointId → Option ℕ → Taken
-takenOwn i none = asVersion
-takenOwn i (some d) = pick (eqb d (i .digest)) asPrevPoint aside
-
-unfoldable pub taken : PointView → PointId → Taken
-taken p i =
-    pick (eqb (i .round) (p .id .round - 1) && eqb (i .author) (p .id .author)) (takenOwn i (p .prevDigest)) asDependency
-
-unfoldable pub dependencyTrail : Settings → Bool → Bool → PointView → DagPoint → List InvalidReason
-unfolding concat pointRows depView
-dependencyTrail c required isPrevPoint p (Valid q) = concat (pointRows c required isPrevPoint p (depView q))
-dependencyTrail c required isPrevPoint p (TransInvalid q root n) = concat (pointRows c required isPrevPoint p (depView q))
-dependencyTrail c required isPrevPoint p (Invalid q n) = concat (pointRows c required isPrevPoint p (depView q))
-dependencyTrail c required isPrevPoint p (IllFormed i n) = DepIllFormed i n ∷ []
-dependencyTrail c required isPrevPoint p (NotFound i) = DepNotFound i ∷ []
-dependencyTrail c required isPrevPoint p Dropped = []
-
--- a version that is first valid, or not found but certified, had to be referenced; a trans-invalid, invalid or ill-formed one had
--- to be skipped; any other gives nothing. Versions give 9 or 10 and nothing else
-abbrev pub versionTrail : Entry → DagPoint → List InvalidReason
-versionTrail e (Valid q) = when (e .firstValid) (MustHaveReferencedPrevPoint (q .id))
-versionTrail e (TransInvalid q root n) = MustHaveSkippedRound (q .id) ∷ []
-versionTrail e (Invalid q n) = MustHaveSkippedRound (q .id) ∷ []
-versionTrail e (IllFormed i n) = MustHaveSkippedRound i ∷ []
-versionTrail e (NotFound i) = when (e .certified) (MustHaveReferencedPrevPoint i)
-versionTrail e Dropped = []
-
-abbrev pub entryTrailAs : Settings → Bool → PointView → Taken → Entry → List InvalidReason
-entryTrailAs c required p asDependency e = dependencyTrail c required false p (e .state)
-entryTrailAs c required p asPrevPoint e = dependencyTrail c required true p (e .state)
-entryTrailAs c required p asVersion e = versionTrail e (e .state)
-entryTrailAs c required p aside e = []
-
-unfoldable pub entryTrail : Settings → Bool → PointView → Entry → List InvalidReason
-unfolding dependencyTrail taken
-entryTrail c required p e = entryTrailAs c required p (taken p (entryId (e .state))) e
-
--- the direct list: "A dropped entry ends the direct list and sets its reason only if none is set"; `set` says that one is
-unfoldable pub directTrail : Settings → Bool → PointView → Bool → List Entry → List InvalidReason
-unfolding entryTrail
-directTrail c required p set [] = []
-directTrail c required p set (e ∷ l) =
-    pick (isDropped (e .state))
-    (when (not set) DependencyRoundDropped)
-    (entryTrail c required p e ++ directTrail c required p (set || not (isEmpty (entryTrail c required p e))) l)
-
--- ---- check_indirect_links
-
--- of an indirect link's target that has the role: the anchor time of a proof, check_trigger_proof of a trigger
-abbrev pub indirectRow : AnchorStageRole → PointView → DepView → List InvalidReason
-indirectRow Proof p q = anchorTimeRow p q
-indirectRow Trigger p q = triggerProofRow p q true
-
-unfoldable pub indirectPointRows : Settings → AnchorStageRole → PointView → DepView → List (List InvalidReason)
-unfolding timeRow anchorTimeRow triggerProofRow
-indirectPointRows c g p q =
-    timeRow c p q
-    ∷ pick (isAnchorStage g (q .role)) (indirectRow g p q) (AnchorLinkRole g (q .id) ∷ [])
-    ∷ []
-
-unfoldable pub indirectEntryTrail : Settings → AnchorStageRole → PointView → DagPoint → List InvalidReason
-unfolding concat indirectPointRows depView
-indirectEntryTrail c g p (Valid q) = concat (indirectPointRows c g p (depView q))
-indirectEntryTrail c g p (TransInvalid q root n) = concat (indirectPointRows c g p (depView q))
-indirectEntryTrail c g p (Invalid q n) = concat (indirectPointRows c g p (depView q))
-indirectEntryTrail c g p (IllFormed i n) = DepIllFormed i n ∷ []
-indirectEntryTrail c g p (NotFound i) = DepNotFound i ∷ []
-indirectEntryTrail c g p Dropped = []
-
--- "dropped ones are skipped"
-unfoldable pub indirectTrail : Settings → PointView → List IndirectEntry → List InvalidReason
-unfolding indirectEntryTrail
-indirectTrail c p [] = []
-indirectTrail c p (a ∷ l) = indirectEntryTrail c (a .role) p (a .entry .state) ++ indirectTrail c p l
-
--- ---- dependency: what is recorded
+-- a dependency whose point is at hand is checked against the rows; "invalidating deps (ill and not found) are not checked against"
+unfoldable pub dependencyTrail : (DepView → List (List InvalidReason)) → DagPoint → List InvalidReason
+unfolding concat depView
+dependencyTrail rows (Valid q) = concat (rows (depView q))
+dependencyTrail rows (TransInvalid q root n) = concat (rows (depView q))
+dependencyTrail rows (Invalid q n) = concat (rows (depView q))
+dependencyTrail rows (IllFormed i n) = DepIllFormed i n ∷ []
+dependencyTrail rows (NotFound i) = DepNotFound i ∷ []
+dependencyTrail rows Dropped = []
 
 -- what an entry would have recorded, reached through t from a point of a round. The window is of trans-invalid entries alone:
 -- "while r−1 is less than the root's round plus commit_history_rounds".
@@ -248,73 +184,117 @@ join none new = new
 join (some old) none = some old
 join (some old) (some new) = pick (isNewer old new) (some new) (some old)
 
+abbrev pub nothing : Found
+nothing = record { trail = []; root = none }
+
+-- what entries gave, and then one more
+abbrev pub joined : Found → Found → Found
+joined old new = record { trail = old .trail ++ new .trail; root = join (old .root) (new .root) }
+
+-- what a dependency of a point of a round gives, reached through t
+unfoldable pub dependency : Settings → ℕ → Through → (DepView → List (List InvalidReason)) → Entry → Found
+unfolding dependencyTrail recordOf
+dependency c round t rows e =
+    record { trail = dependencyTrail rows (e .state); root = recordOf c round (e .certified) t (e .state) }
+
+-- ---- check_valid, of one direct entry
+
+-- how an entry is taken: a dependency, the previous point, a version of the author's point at r-1 where none is referenced,
+-- or not at all
+pub data Taken : Type 0 where
+  asDependency : Taken
+  asPrevPoint : Taken
+  asVersion : Taken
+  aside : Taken
+
+abbrev pub takenOwn : PointId → Option ℕ → Taken
+takenOwn i none = asVersion
+takenOwn i (some d) = pick (eqb d (i .digest)) asPrevPoint aside
+
+unfoldable pub taken : PointView → PointId → Taken
+taken p i = pick (isBy (p .id .round - 1) (p .id .author) i) (takenOwn i (p .prevDigest)) asDependency
+
 -- a direct entry came through its author's place: includes at r-1, else witness
 abbrev pub directThrough : ℕ → PointId → Through
 directThrough round i = pick (eqb (i .round) (round - 1)) (Includes (i .author)) (Witness (i .author))
 
-abbrev pub recordAs : Settings → ℕ → Taken → Entry → Option InvalidDependency
-recordAs c round asDependency e = recordOf c round (e .certified) (directThrough round (entryId (e .state))) (e .state)
-recordAs c round asPrevPoint e = recordOf c round (e .certified) (directThrough round (entryId (e .state))) (e .state)
-recordAs c round asVersion e = none
-recordAs c round aside e = none
+-- a version that is first valid, or not found but certified, had to be referenced; a trans-invalid, invalid or ill-formed one had
+-- to be skipped; any other gives nothing. Versions give 9 or 10 and nothing else
+abbrev pub versionTrail : Entry → DagPoint → List InvalidReason
+versionTrail e (Valid q) = when (e .firstValid) (MustHaveReferencedPrevPoint (q .id))
+versionTrail e (TransInvalid q root n) = MustHaveSkippedRound (q .id) ∷ []
+versionTrail e (Invalid q n) = MustHaveSkippedRound (q .id) ∷ []
+versionTrail e (IllFormed i n) = MustHaveSkippedRound i ∷ []
+versionTrail e (NotFound i) = when (e .certified) (MustHaveReferencedPrevPoint i)
+versionTrail e Dropped = []
 
-unfoldable pub entryRecord : Settings → PointView → Entry → Option InvalidDependency
-unfolding taken recordOf
-entryRecord c p e = recordAs c (p .id .round) (taken p (entryId (e .state))) e
+abbrev pub foundAs : Settings → Bool → PointView → Taken → Entry → Found
+foundAs c required p asDependency e = dependency c (p .id .round) (directThrough (p .id .round) (entryId (e .state))) (pointRows c required false p) e
+foundAs c required p asPrevPoint e = dependency c (p .id .round) (directThrough (p .id .round) (entryId (e .state))) (pointRows c required true p) e
+foundAs c required p asVersion e = record { trail = versionTrail e (e .state); root = none }
+foundAs c required p aside e = nothing
 
-unfoldable pub directRecord : Settings → PointView → Option InvalidDependency → List Entry → Option InvalidDependency
-unfolding join entryRecord
-directRecord c p old [] = old
-directRecord c p old (e ∷ l) = pick (isDropped (e .state)) old (directRecord c p (join old (entryRecord c p e)) l)
+unfoldable pub entryFound : Settings → Bool → PointView → Entry → Found
+unfolding taken dependency pointRows
+entryFound c required p e = foundAs c required p (taken p (entryId (e .state))) e
+
+-- the loop: "A dropped entry ends the direct list and sets its reason only if none is set"
+unfoldable pub checkValid : Settings → Bool → PointView → Found → List Entry → Found
+unfolding join entryFound
+checkValid c required p old [] = old
+checkValid c required p old (e ∷ l) =
+    pick (isDropped (e .state))
+    (record { trail = old .trail ++ when (isEmpty (old .trail)) DependencyRoundDropped; root = old .root })
+    (checkValid c required p (joined old (entryFound c required p e)) l)
+
+-- ---- check_indirect_links
+
+-- of an indirect link's target that has the role: the anchor time of a proof, check_trigger_proof of a trigger
+abbrev pub indirectRow : AnchorStageRole → PointView → DepView → List InvalidReason
+indirectRow Proof p q = anchorTimeRow p q
+indirectRow Trigger p q = triggerProofRow p q true
+
+unfoldable pub indirectPointRows : Settings → AnchorStageRole → PointView → DepView → List (List InvalidReason)
+unfolding timeRow anchorTimeRow triggerProofRow
+indirectPointRows c g p q =
+    timeRow c p q
+    ∷ pick (isAnchorStage g (q .role)) (indirectRow g p q) (AnchorLinkRole g (q .id) ∷ [])
+    ∷ []
 
 -- an indirect entry came through its link's map and peer
-unfoldable pub indirectRecord : Settings → PointInfo → Option InvalidDependency → List IndirectEntry → Option InvalidDependency
-unfolding join recordOf
-indirectRecord c p old [] = old
-indirectRecord c p old (a ∷ l) =
-    indirectRecord c p (join old (recordOf c (p .id .round) (a .entry .certified) (through (anchorLink (a .role) p)) (a .entry .state))) l
+unfoldable pub indirectFound : Settings → PointInfo → IndirectEntry → Found
+unfolding dependency indirectPointRows pointView
+indirectFound c p a =
+    dependency c (p .id .round) (through (anchorLink (a .role) p)) (indirectPointRows c (a .role) (pointView p)) (a .entry)
+
+-- the loop: a dropped entry gives nothing, "one old link doesn't mean others are unreachable"
+unfoldable pub checkIndirectLinks : Settings → PointInfo → Found → List IndirectEntry → Found
+unfolding join indirectFound
+checkIndirectLinks c p old [] = old
+checkIndirectLinks c p old (a ∷ l) = checkIndirectLinks c p (joined old (indirectFound c p a)) l
 
 -- ---- validate
 
-pub data ValidateResult : Type 0 where
-  isInvalid : InvalidReason → ValidateResult
-  isTransInvalid : InvalidDependency → ValidateResult
-  isValid : ValidateResult
-
-abbrev pub ofResult : ValidateResult → verdict.Verdict
-ofResult (isInvalid r) = verdict.Invalid r
-ofResult (isTransInvalid d) = verdict.TransInvalid d
-ofResult isValid = verdict.Valid
-
-abbrev pub resultWith : Option InvalidReason → Option InvalidDependency → ValidateResult
-resultWith (some reason) d = isInvalid reason
-resultWith none (some d) = isTransInvalid d
-resultWith none none = isValid
+abbrev pub resultWith : Option InvalidReason → Option InvalidDependency → verdict.Verdict
+resultWith (some reason) d = verdict.Invalid reason
+resultWith none (some d) = verdict.TransInvalid d
+resultWith none none = verdict.Valid
 
 -- "Indirect entries are judged only if the direct ones gave no reason"; "Invalid wins over a record"
-unfoldable pub overLists : Settings → Bool → PointInfo → List Entry → List IndirectEntry → ValidateResult
-unfolding lastOf directTrail indirectTrail directRecord indirectRecord pointView
+unfoldable pub overLists : Settings → Bool → PointInfo → List Entry → List IndirectEntry → verdict.Verdict
+unfolding lastOf checkValid checkIndirectLinks pointView
 overLists c required p es ts =
-    resultWith
-    (lastOf
-    (pick (isEmpty (directTrail c required (pointView p) false es)) (indirectTrail c (pointView p) ts)
-    (directTrail c required (pointView p) false es)))
-    (indirectRecord c p (directRecord c (pointView p) none es) ts)
-
--- "Presence 0 and 1 give `NoRoundInDag` of evidence and of includes, the list unread. With presence 2, .. a non-empty witness
--- gives `NoRoundInDag(Witness)` before any other reason."
-unfoldable pub presenceReason : ℕ → PointInfo → Option InvalidReason
-presenceReason n p =
-    pick (eqb n 0) (some (NoRoundInDag map.Evidence))
-    (pick (eqb n 1) (some (NoRoundInDag map.Includes))
-    (pick (eqb n 2 && not (isEmpty (p .witness))) (some (NoRoundInDag map.Witness)) none))
-
-abbrev pub validateWith : Option InvalidReason → ValidateResult → ValidateResult
-validateWith (some reason) result = isInvalid reason
-validateWith none result = result
+    let direct = checkValid c required (pointView p) nothing es in
+    let all = pick (isEmpty (direct .trail)) (checkIndirectLinks c p direct ts) direct in
+    resultWith (lastOf (all .trail)) (all .root)
 
 -- Verifier::validate of a point above genesis, past check_ill_formed: regular points required or not, how many rounds are present, the
--- two lists
-unfoldable pub validate : Settings → Bool → ℕ → PointInfo → List Entry → List IndirectEntry → ValidateResult
-unfolding presenceReason overLists
-validate c required presence p es ts = validateWith (presenceReason presence p) (overLists c required p es ts)
+-- two lists. "Presence 0 and 1 give `NoRoundInDag` of evidence and of includes, the list unread. With presence 2, .. a non-empty witness
+-- gives `NoRoundInDag(Witness)` before any other reason."
+unfoldable pub validate : Settings → Bool → ℕ → PointInfo → List Entry → List IndirectEntry → verdict.Verdict
+unfolding overLists
+validate c required presence p es ts =
+    pick (eqb presence 0) (verdict.Invalid (NoRoundInDag map.Evidence))
+    (pick (eqb presence 1) (verdict.Invalid (NoRoundInDag map.Includes))
+    (pick (eqb presence 2 && not (isEmpty (p .witness))) (verdict.Invalid (NoRoundInDag map.Witness))
+    (overLists c required p es ts)))

@@ -1,6 +1,6 @@
 -- Verification: BasicVerifier (verifier.rs) as the table of its tests in the order in which they are made. The answer is the
 -- first fault; no fault is a pass.
-use Prim.Native.Nat.{ℕ, _+_, _-_}
+use Prim.Native.Nat.{ℕ, _-_}
 use mathlib.Core.Bool.{Bool, true, false, not, _&&_, _||_}
 use mathlib.Core.Option.{Option, none, some}
 use mathlib.Core.List.{List, [], _∷_}
@@ -9,7 +9,8 @@ use lib.Dec.{leb, ltb, eqb}
 use Rattle.base.specs.Base.{pick, when, concat, firstOf, isSome, isEmpty}
 use Rattle.parts.specs.Parts.{oneF, majority, majorityOfOthers}
 use Rattle.map.specs.Rows.{has, peers}
-use Rattle.point.specs.Point.{Through, Includes, Witness, AnchorLink, Direct, Indirect, PointInfo, isAnchorTrigger, requiresPrevPoint, throughRound, digestSafe, prevDigest, Sticky, stickyAnchors, through, targetRound}
+use Rattle.point.specs.Point.{Through, Includes, Witness, AnchorLink, Direct, Indirect, PointInfo, isAnchorTrigger, requiresPrevPoint, throughRound, digestSafe}
+use Rattle.point.specs.Point.{prevDigest, Sticky, stickyAnchors, through, targetRound}
 use Rattle.point.specs.declared.data.PointRole.{PointRole}
 use Rattle.point.specs.declared.data.PointRole.the-variants.{Regular, AnchorProof, AnchorTrigger, Genesis}
 use Rattle.point.specs.declared.data.AnchorStageRole.the-variants.{Proof, Trigger}
@@ -19,12 +20,15 @@ use Rattle.schedule.specs.Settings.{Settings}
 use Rattle.schedule.specs.Schedule.{Schedule, peersFor}
 use Rattle.rules.specs.Unknown.{unknownIn, peerBytes}
 use Rattle.reasons.specs.declared.ill_formed.StructureIssue.{StructureIssue}
-use Rattle.reasons.specs.declared.ill_formed.StructureIssue.the-variants.{ExpectedGenesis, BadGenesisPrevPoint, AuthorInMap, TriggerBadProofLink, Link, AnchorTime, NoPrevPoint}
-use Rattle.reasons.specs.declared.ill_formed.IllFormedReason.the-variants.{BeforeGenesis, UnknownAuthor, FalseGenesis, TooLargePayload, Structure, TooManyStickyAnchors, BadLastStickyFlag, LinksAcrossGenesis, MustBeEmpty, UnknownPeers, UnknownPeerInAnchorLink, LackOfPeers, NotRegular, BadWaveLink}
+use Rattle.reasons.specs.declared.ill_formed.StructureIssue.the-variants.{ExpectedGenesis, BadGenesisPrevPoint, AuthorInMap, TriggerBadProofLink, Link}
+use Rattle.reasons.specs.declared.ill_formed.StructureIssue.the-variants.{AnchorTime, NoPrevPoint}
+use Rattle.reasons.specs.declared.ill_formed.IllFormedReason.the-variants.{BeforeGenesis, UnknownAuthor, FalseGenesis, TooLargePayload, Structure}
+use Rattle.reasons.specs.declared.ill_formed.IllFormedReason.the-variants.{TooManyStickyAnchors, BadLastStickyFlag, LinksAcrossGenesis, MustBeEmpty}
+use Rattle.reasons.specs.declared.ill_formed.IllFormedReason.the-variants.{UnknownPeers, UnknownPeerInAnchorLink, LackOfPeers}
 use Rattle.reasons.specs.declared.ill_formed.VerifyError.{VerifyError}
 use Rattle.reasons.specs.declared.ill_formed.VerifyError.the-variants.{Fail, IllFormed}
 use Rattle.parts.specs.Bytes.{putAt}
-use Rattle.reasons.specs.declared.ill_formed.IllFormedReason.{IllFormedReason}
+use Rattle.reasons.specs.IllFormed.{errorAnswer}
 
 -- ---- BasicVerifierInner::new
 
@@ -83,7 +87,9 @@ unfolding linksOwn prevDigest
 genesisStructureRows p =
     when (not (isGenesis (p .role))) (ExpectedGenesis true)
     ∷ when (not (eqb (p .time) (p .anchorTime))) AnchorTime
-    ∷ when (not (isZero (prevDigest p)) || (not (linksOwn (p .id .author) (p .anchorProof)) || not (linksOwn (p .id .author) (p .anchorTrigger)))) BadGenesisPrevPoint
+    ∷ when
+    (not (isZero (prevDigest p)) || (not (linksOwn (p .id .author) (p .anchorProof)) || not (linksOwn (p .id .author) (p .anchorTrigger))))
+    BadGenesisPrevPoint
     ∷ []
 
 abbrev pub pointMap : Through → PointMap
@@ -240,35 +246,15 @@ verify c s p = firstOf (faults c s p)
 
 -- ---- unknown peers
 
--- the map whose unknown peers a fault tells of
-abbrev pub unknownMapOf : IllFormedReason → Option PointMap
-unknownMapOf BeforeGenesis = none
-unknownMapOf UnknownAuthor = none
-unknownMapOf FalseGenesis = none
-unknownMapOf (TooLargePayload n) = none
-unknownMapOf (Structure i) = none
-unknownMapOf (TooManyStickyAnchors n) = none
-unknownMapOf BadLastStickyFlag = none
-unknownMapOf LinksAcrossGenesis = none
-unknownMapOf (MustBeEmpty m) = none
-unknownMapOf (UnknownPeers n m) = some m
-unknownMapOf (UnknownPeerInAnchorLink g) = none
-unknownMapOf (LackOfPeers n f m) = none
-unknownMapOf NotRegular = none
-unknownMapOf (BadWaveLink b) = none
+-- those of a map, by its number in the answer
+abbrev pub unknownBy : Scheduled → PointInfo → ℕ → List ℕ
+unknownBy k p n =
+    pick (eqb n 0) (unknownIn (k .sameRound) (p .evidence))
+    (pick (eqb n 1) (unknownIn (k .includes) (peers (p .includes)))
+    (unknownIn (k .witness) (peers (p .witness))))
 
-abbrev pub unknownMap : Option VerifyError → Option PointMap
-unknownMap none = none
-unknownMap (some (Fail u)) = none
-unknownMap (some (IllFormed r)) = unknownMapOf r
-
--- the unknown peers of a map
-abbrev pub unknownOf : Scheduled → PointInfo → Option PointMap → List ℕ
-unknownOf k p none = []
-unknownOf k p (some map.Evidence) = unknownIn (k .sameRound) (p .evidence)
-unknownOf k p (some map.Includes) = unknownIn (k .includes) (peers (p .includes))
-unknownOf k p (some map.Witness) = unknownIn (k .witness) (peers (p .witness))
-
--- "All unknown peers go, rising, into a lent buffer ..; the rest of it keeps its bytes"
+-- "All unknown peers go, rising, into a lent buffer ..; the rest of it keeps its bytes": UnknownPeers is number 12
 abbrev pub bufferWith : Scheduled → PointInfo → Option VerifyError → List ℕ → List ℕ
-bufferWith k p e buffer = putAt buffer 0 (peerBytes (unknownOf k p (unknownMap e)))
+bufferWith k p none buffer = buffer
+bufferWith k p (some e) buffer =
+    pick (eqb (errorAnswer e .reason) 12) (putAt buffer 0 (peerBytes (unknownBy k p (errorAnswer e .map)))) buffer

@@ -6,13 +6,14 @@ use native.Mathlib.Decide.{decLt}
 use native.Mathlib.Numerals.{add-one}
 use mathlib.Core.Path.{_≡_, refl, ap, sym, _∙_}
 use mathlib.Core.List.{List, [], _∷_, _++_}
-use mathlib.Core.Option.{Option, none, some}
+use mathlib.Core.Option.{Option, none, some, Option·map, Option·getD}
 use mathlib.Core.Bool.{Bool, true, false, not, _&&_, and-eq-true-iff}
 use lib.ListN.{length, getD, take, drop, set, replicate, length-take, length-drop, drop-of-length-le, take-append-drop}
 use lib.Seq.{getD-take, take-all, take-suc, take-suc-set, drop-at, drop-drop, drop-set-lt, append-snoc, length-take-le}
 use lib.Dec.{leb, ltb}
 use borrow.Author.Tests.{lt-ltb, le-ltb, le-leb, lt-leb, eq-eqb}
-use Rattle.base.specs.Base.{pick, isEmpty}
+use Rattle.base.specs.Base.{pick, isEmpty, andThen}
+use Rattle.base.proofs.Option.{IfSome, pick-has, then-has, map-has, has}
 use Rattle.base.proofs.Impossible.{impossible}
 use Rattle.parts.specs.Bytes.{bytesAt, littleAt}
 use Rattle.parts.proofs.Laws.{at-split, at-length}
@@ -25,22 +26,13 @@ use Rattle.schedule.specs.declared.schedule.Span as code
 use Rattle.schedule.specs.declared.schedule.ReadSchedule as code-read
 use Rattle.schedule.specs.Settings.{Settings, settingsIn, inLimits, readSettings}
 use Rattle.schedule.specs.Code.{settingsOf, spansThen, spanOf, spansOf, firstsOf, noSpan, codeSpanAt, codeSpansFrom, readScheduleOf, unreadable, Handed}
-use Rattle.schedule.specs.Schedule.{Span, Schedule, spanAt, spanOk, lastOk, lastAt, spanThen, scheduleFrom, firsts, ifUsable, readSchedule, orElse, lastStarted, spanFor, peersIn, peersFor}
+use Rattle.schedule.specs.Schedule.{Span, Schedule, spanAt, spanOk, lastOk, lastAt, addSpan, scheduleFrom, firsts, readSchedule, orElse, lastStarted, spanFor, peersFor}
 
 -- ---- choices
 
 nothing {ℓ} : {A : Type ℓ} (b : Bool) → _≡_ {A = Option A} (pick b none none) none
 nothing true = refl
 nothing false = refl
-
--- where there is something, it has a property
-abbrev Holds {ℓ} : {A : Type ℓ} → (A → Type 0) → Option A → Type 0
-Holds P none = Unit
-Holds P (some x) = P x
-
-holds-pick {ℓ} : {A : Type ℓ} (P : A → Type 0) (b : Bool) (o p : Option A) → (b ≡ true → Holds P o) → Holds P p → Holds P (pick b o p)
-holds-pick P true o p h g = h refl
-holds-pick P false o p h g = g
 
 -- what is there where a test holds, else the first of two choices
 first-of : (b : Bool) (n : ℕ) (o p : Option ℕ) → orElse (pick b (some n) o) p ≡ pick b (some n) (orElse o p)
@@ -142,14 +134,14 @@ module _ (s : List ℕ) where
   spansOf-firsts (x ∷ l) = ap (λ (m : List ℕ). x .first ∷ m) (spansOf-firsts l)
 
   spansOf-at : (l : List code.Span) (i : ℕ) → i < length l →
-      peersIn (spansOf s l) (some i) ≡ peersOf 32 (bytesAt (32 * getD l i noSpan .peers) s (getD l i noSpan .place))
+      getD (spansOf s l) i (record { first = 0; peers = [] }) .peers ≡ peersOf 32 (bytesAt (32 * getD l i noSpan .peers) s (getD l i noSpan .place))
   spansOf-at [] i h = absurd (omega arith)
   spansOf-at (x ∷ l) zero h = refl
   spansOf-at (x ∷ l) (suc i) h = spansOf-at l i (omega arith)
 
   -- the peers of one of the first n spans
   pub spansOf-peers : (l : List code.Span) (n i : ℕ) → i < length (take n l) →
-      peersIn (spansOf s (take n l)) (some i) ≡ peersOf 32 (bytesAt (32 * getD l i noSpan .peers) s (getD l i noSpan .place))
+      getD (spansOf s (take n l)) i (record { first = 0; peers = [] }) .peers ≡ peersOf 32 (bytesAt (32 * getD l i noSpan .peers) s (getD l i noSpan .place))
   spansOf-peers l n i h =
       let g : i < n = omega (arith, length-take n l) in
       spansOf-at (take n l) i h ∙ rw (getD-take n l i noSpan g)
@@ -165,12 +157,12 @@ firstsOf-at (x ∷ l) (suc i) h = firstsOf-at l i (omega arith)
 
 spansThen-append : (a b : List Span) (o : Option Schedule) → spansThen (a ++ b) o ≡ spansThen a (spansThen b o)
 spansThen-append [] b o = refl
-spansThen-append (x ∷ a) b o = ap (spanThen x) (spansThen-append a b o)
+spansThen-append (x ∷ a) b o = ap (Option·map (addSpan x)) (spansThen-append a b o)
 
 -- ---- reading: what is left to read after the first n spans
 
 pub from-step : (n m : ℕ) (s : List ℕ) (at : ℕ) → n ≡ suc m →
-    scheduleFrom n s at ≡ pick (spanOk s at) (spanThen (spanAt s at) (scheduleFrom m s (nextAt s at))) (lastAt s at)
+    scheduleFrom n s at ≡ pick (spanOk s at) (Option·map (addSpan (spanAt s at)) (scheduleFrom m s (nextAt s at))) (lastAt s at)
 unfolding scheduleFrom
 from-step n m s at e = rw e
 
@@ -180,18 +172,18 @@ from-none s at = refl
 
 -- one span more is stored
 pub stored : (s : List ℕ) (l : List code.Span) (n : ℕ) (x : code.Span) (y : Span) (o : Option Schedule) → n < length l → spanOf s x ≡ y →
-    spansThen (spansOf s (take n l)) (spanThen y o) ≡ spansThen (spansOf s (take (n + 1) (set l n x))) o
+    spansThen (spansOf s (take n l)) (Option·map (addSpan y) o) ≡ spansThen (spansOf s (take (n + 1) (set l n x))) o
 stored s l n x y o h e =
     rw (← e, add-one n, take-suc-set l n x h, spansOf-append s (take n l) (x ∷ []), spansThen-append (spansOf s (take n l)) (spansOf s (x ∷ [])) o)
 
 -- the entries while they are filled: after the first n stands no span, and they will be those n and the spans from a place on
 pub record Filled (s : List ℕ) (l : List code.Span) (n at : ℕ) : Type 0 where
-  pub behind : drop n l ≡ replicate (4 - n) noSpan
-  pub ahead : codeSpansFrom 4 s 0 ≡ take n l ++ codeSpansFrom (4 - n) s at
+  pub after : drop n l ≡ replicate (4 - n) noSpan
+  pub before : codeSpansFrom 4 s 0 ≡ take n l ++ codeSpansFrom (4 - n) s at
 
 module _ (s : List ℕ) (l : List code.Span) (n at : ℕ) (f : Filled s l n at) where
   filled : codeSpansFrom (4 - n) s at ≡ replicate (4 - n) noSpan → l ≡ codeSpansFrom 4 s 0
-  filled e = sym (f .ahead ∙ rw (e, ← f .behind) (take-append-drop n l))
+  filled e = sym (f .before ∙ rw (e, ← f .after) (take-append-drop n l))
 
   pub filled-full : n ≡ 4 → l ≡ codeSpansFrom 4 s 0
   unfolding codeSpansFrom
@@ -210,23 +202,26 @@ module _ (s : List ℕ) (l : List code.Span) (n at : ℕ) (f : Filled s l n at) 
     filled-step x g ok e =
         let m : 4 - n ≡ suc (4 - (n + 1)) = omega arith in
         record {
-          behind = drop-set-lt (n + 1) l n x (omega arith) ∙ (sym (drop-drop 1 n l) ∙ rw (f .behind, m));
-          ahead =
-              f .ahead
+          after = drop-set-lt (n + 1) l n x (omega arith) ∙ (sym (drop-drop 1 n l) ∙ rw (f .after, m));
+          before =
+              f .before
               ∙ rw (entries-step, ok, ← e, add-one n, take-suc-set l n x g) (sym (append-snoc (take n l) x _));
         }
 
 then-none : (l : List Span) → spansThen l none ≡ none
 then-none [] = refl
-then-none (x ∷ l) = ap (spanThen x) (then-none l)
+then-none (x ∷ l) = ap (Option·map (addSpan x)) (then-none l)
 
 then-some : (l : List Span) (k : ℕ) → spansThen l (some (record { spans = []; lastKnown = k })) ≡ some (record { spans = l; lastKnown = k })
 then-some [] k = refl
-then-some (x ∷ l) k = ap (spanThen x) (then-some l k)
+then-some (x ∷ l) k = ap (Option·map (addSpan x)) (then-some l k)
 
--- spans and a last known round make a schedule where there is a span and the first rounds rise
+-- a schedule, where it has a span and its first rounds rise
+abbrev ifUsable : Schedule → Option Schedule
+ifUsable c = pick (not (isEmpty (c .spans)) && rising (firsts (c .spans))) (some c) none
+
 usable : (l : List Span) (b : Bool) (k : ℕ) →
-    ifUsable (spansThen l (pick b (some (record { spans = []; lastKnown = k })) none))
+    andThen (spansThen l (pick b (some (record { spans = []; lastKnown = k })) none)) ifUsable
     ≡ pick (not (isEmpty l) && rising (firsts l)) (pick b (some (record { spans = l; lastKnown = k })) none) none
 usable l true k = rw (then-some l k)
 usable l false k = rw (then-none l) (sym (nothing (not (isEmpty l) && rising (firsts l))))
@@ -238,7 +233,7 @@ pub read-is : (s : List ℕ) (l : List code.Span) (end : ℕ) → scheduleFrom 4
     (pick (lastOk s end) (some (record { spans = spansOf s l; lastKnown = littleAt 4 s (end + 3) })) none)
     none
 unfolding readSchedule
-read-is s l end h = ap ifUsable h ∙ (usable (spansOf s l) (lastOk s end) (littleAt 4 s (end + 3)) ∙ rw (spansOf-firsts s l))
+read-is s l end h = ap (λ o. andThen o ifUsable) h ∙ (usable (spansOf s l) (lastOk s end) (littleAt 4 s (end + 3)) ∙ rw (spansOf-firsts s l))
 
 pub not-empty : (s : List ℕ) (l : List code.Span) → 0 < length l → isEmpty (spansOf s l) ≡ false
 not-empty s [] h = absurd (omega arith)
@@ -300,18 +295,18 @@ module _ (s : List ℕ) (l : List code.Span) (k round : ℕ) (from : 0 < k) (to 
       lastStarted 0 (spansOf s (take k l)) round ≡ lastStarted 0 (spansOf s (take (k - 1) l)) round
   last-before h = last-step ∙ rw (lt-leb _ _ h)
 
-below-else : (n : ℕ) (o p : Option ℕ) → Holds (λ i. i < n) o → Holds (λ i. i < n) p → Holds (λ i. i < n) (orElse o p)
+below-else : (n : ℕ) (o p : Option ℕ) → IfSome (λ i. i < n) o → IfSome (λ i. i < n) p → IfSome (λ i. i < n) (orElse o p)
 below-else n none p h g = g
 below-else n (some i) p h g = h
 
 -- a position is below the number of spans
-last-below : (i : ℕ) (l : List Span) (round : ℕ) → Holds (λ k. k < i + length l) (lastStarted i l round)
+last-below : (i : ℕ) (l : List Span) (round : ℕ) → IfSome (λ k. k < i + length l) (lastStarted i l round)
 unfolding lastStarted
 last-below i [] round = tt
 last-below i (x ∷ l) round =
     let e : i + suc (length l) ≡ suc i + length l = omega arith in
     let h : i < suc i + length l = omega arith in
-    rw e (below-else _ (lastStarted (suc i) l round) _ (last-below (suc i) l round) (holds-pick _ (leb (x .first) round) (some i) none (λ _. h) tt))
+    rw e (below-else _ (lastStarted (suc i) l round) _ (last-below (suc i) l round) (pick-has _ (leb (x .first) round) (some i) none (λ _. h) tt))
 
 module _ (c : Schedule) (round : ℕ) where
   pub span-past : c .lastKnown < round → spanFor c round ≡ none
@@ -325,7 +320,7 @@ module _ (c : Schedule) (round : ℕ) where
   pub span-below : (i : ℕ) → spanFor c round ≡ some i → i < length (c .spans)
   unfolding spanFor
   span-below i h =
-      let b = holds-pick (λ k. k < 0 + length (c .spans)) (leb round (c .lastKnown)) (lastStarted 0 (c .spans) round) none (λ _. last-below 0 (c .spans) round) tt in
+      let b = pick-has (λ k. k < 0 + length (c .spans)) (leb round (c .lastKnown)) (lastStarted 0 (c .spans) round) none (λ _. last-below 0 (c .spans) round) tt in
       let g : i < 0 + length (c .spans) = rw h at b in
       omega arith
 
@@ -345,32 +340,27 @@ AllFew [] = Unit
 AllFew (x ∷ l) = FewRising (x .peers) × AllFew l
 
 abbrev FewIn : Option Schedule → Type 0
-FewIn = Holds (λ c. AllFew (c .spans))
-
-few-then : (x : Span) (o : Option Schedule) → FewRising (x .peers) → FewIn o → FewIn (spanThen x o)
-few-then x none h g = tt
-few-then x (some c) h g = (h, g)
+FewIn = IfSome (λ c. AllFew (c .spans))
 
 few-last : (s : List ℕ) (at : ℕ) → FewIn (lastAt s at)
-few-last s at = holds-pick _ (lastOk s at) _ none (λ _. tt) tt
+few-last s at = pick-has _ (lastOk s at) _ none (λ _. tt) tt
 
 few-from : (n : ℕ) (s : List ℕ) (at : ℕ) → FewIn (scheduleFrom n s at)
 unfolding scheduleFrom
 few-from zero s at = few-last s at
 few-from (suc n) s at =
-    holds-pick _ (spanOk s at) (spanThen (spanAt s at) (scheduleFrom n s (nextAt s at))) (lastAt s at)
-    (λ h. few-then (spanAt s at) (scheduleFrom n s (nextAt s at)) (record { rises = span-rising s at h; few = span-few s at h }) (few-from n s (nextAt s at)))
+    pick-has _ (spanOk s at) (Option·map (addSpan (spanAt s at)) (scheduleFrom n s (nextAt s at))) (lastAt s at)
+    (λ h. map-has _ (addSpan (spanAt s at)) (scheduleFrom n s (nextAt s at)) (λ c e. (record { rises = span-rising s at h; few = span-few s at h }, has _ _ c (few-from n s (nextAt s at)) e)))
     (few-last s at)
 
-few-usable : (o : Option Schedule) → FewIn o → FewIn (ifUsable o)
-few-usable none h = tt
-few-usable (some c) h = holds-pick _ (not (isEmpty (c .spans)) && rising (firsts (c .spans))) (some c) none (λ _. h) tt
+few-usable : (o : Option Schedule) → FewIn o → FewIn (andThen o ifUsable)
+few-usable o h = then-has _ o ifUsable (λ c e. pick-has _ (not (isEmpty (c .spans)) && rising (firsts (c .spans))) (some c) none (λ _. has _ o c h e) tt)
 
 few-none : FewRising []
 unfolding rising
 few-none = record { rises = refl; few = omega arith }
 
-few-at : (l : List Span) (o : Option ℕ) → AllFew l → FewRising (peersIn l o)
+few-at : (l : List Span) (o : Option ℕ) → AllFew l → FewRising (Option·getD (Option·map (λ i. getD l i (record { first = 0; peers = [] }) .peers) o) [])
 few-at l none h = few-none
 few-at [] (some i) h = few-none
 few-at (x ∷ l) (some zero) h = h .0

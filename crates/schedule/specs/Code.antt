@@ -1,5 +1,5 @@
 -- What the code's values stand for, and what its functions promise each other.
-use mathlib.Core.Option.{Option, none, some}
+use mathlib.Core.Option.{Option, none, some, Option·map}
 use Rattle.parts.specs.Code.{number}
 use Rattle.schedule.specs.Settings.{Settings}
 use Rattle.schedule.specs.declared.settings.Settings as code-settings
@@ -14,7 +14,7 @@ use Rattle.base.specs.Base.{pick}
 use Rattle.parts.specs.Bytes.{bytesAt, littleAt}
 use Rattle.map.specs.Rows.{peersOf}
 use Rattle.record.specs.Record.{nextAt, contentAt}
-use Rattle.schedule.specs.Schedule.{Span, Schedule, spanOk, lastAt, spanThen, scheduleFrom, spanFor}
+use Rattle.schedule.specs.Schedule.{Span, Schedule, spanOk, lastAt, addSpan, scheduleFrom, spanFor}
 use Rattle.schedule.specs.declared.schedule.Span as code-span
 use Rattle.schedule.specs.declared.schedule.Schedule as code-schedule
 use Rattle.schedule.specs.declared.schedule.ReadSpans as code-spans
@@ -44,7 +44,7 @@ readSettingsOf case-read.Unusable = none
 -- spans, and then what stands after them
 abbrev pub spansThen : List Span → Option Schedule → Option Schedule
 spansThen [] o = o
-spansThen (x ∷ l) o = spanThen x (spansThen l o)
+spansThen (x ∷ l) o = Option·map (addSpan x) (spansThen l o)
 
 abbrev pub spanOf : List ℕ → code-span.Span → Span
 spanOf s x = record { first = x .first; peers = peersOf 32 (bytesAt (32 * x .peers) s (x .place)) }

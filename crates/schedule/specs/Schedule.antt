@@ -1,11 +1,11 @@
 -- Schedules (document 01, tags 34 and 35), and what stateless.rs asks of them.
 use Prim.Native.Nat.{ℕ, zero, suc, _+_}
 use mathlib.Core.Bool.{Bool, not, _&&_}
-use mathlib.Core.Option.{Option, none, some}
+use mathlib.Core.Option.{Option, none, some, Option·map, Option·getD}
 use mathlib.Core.List.{List, [], _∷_}
 use lib.ListN.{length, getD, drop}
 use lib.Dec.{leb, eqb}
-use Rattle.base.specs.Base.{pick, isEmpty}
+use Rattle.base.specs.Base.{pick, isEmpty, andThen}
 use Rattle.parts.specs.Bytes.{littleAt}
 use Rattle.map.specs.Rows.{peersOf, rising, wellRowed}
 use Rattle.record.specs.Record.{fieldRow, fieldOk, nextAt, contentAt}
@@ -36,29 +36,23 @@ lastOk s at = fieldOk (fieldRow 35 4 4) s at && eqb (nextAt s at) (length s)
 abbrev pub lastAt : List ℕ → ℕ → Option Schedule
 lastAt s at = pick (lastOk s at) (some (record { spans = []; lastKnown = littleAt 4 s (at + 3) })) none
 
-abbrev pub spanThen : Span → Option Schedule → Option Schedule
-spanThen x none = none
-spanThen x (some c) = some (record { spans = x ∷ c .spans; lastKnown = c .lastKnown })
+abbrev pub addSpan : Span → Schedule → Schedule
+addSpan x c = record { spans = x ∷ c .spans; lastKnown = c .lastKnown }
 
 -- at most n spans from a place on, then the last known round
 unfoldable pub scheduleFrom : ℕ → List ℕ → ℕ → Option Schedule
 unfolding spanOk lastOk nextAt contentAt
 scheduleFrom zero s at = lastAt s at
-scheduleFrom (suc n) s at = pick (spanOk s at) (spanThen (spanAt s at) (scheduleFrom n s (nextAt s at))) (lastAt s at)
+scheduleFrom (suc n) s at = pick (spanOk s at) (Option·map (addSpan (spanAt s at)) (scheduleFrom n s (nextAt s at))) (lastAt s at)
 
 unfoldable pub firsts : List Span → List ℕ
 firsts [] = []
 firsts (x ∷ l) = x .first ∷ firsts l
 
--- "one to four fields of tag 34", "first rounds strictly rising"
-abbrev pub ifUsable : Option Schedule → Option Schedule
-ifUsable none = none
-ifUsable (some c) = pick (not (isEmpty (c .spans)) && rising (firsts (c .spans))) (some c) none
-
--- a slice that holds one schedule, or none
+-- a slice that holds one schedule, or none: "one to four fields of tag 34", "first rounds strictly rising"
 unfoldable pub readSchedule : List ℕ → Option Schedule
 unfolding scheduleFrom rising firsts
-readSchedule s = ifUsable (scheduleFrom 4 s 0)
+readSchedule s = andThen (scheduleFrom 4 s 0) (λ c. pick (not (isEmpty (c .spans)) && rising (firsts (c .spans))) (some c) none)
 
 -- ---- rounds
 
@@ -77,21 +71,12 @@ unfoldable pub spanFor : Schedule → ℕ → Option ℕ
 unfolding lastStarted
 spanFor c round = pick (leb round (c .lastKnown)) (lastStarted 0 (c .spans) round) none
 
-abbrev pub peersIn : List Span → Option ℕ → List ℕ
-peersIn l none = []
-peersIn l (some i) = getD l i (record { first = 0; peers = [] }) .peers
-
 -- PeerScheduleStateless::peers_for
 unfoldable pub peersFor : Schedule → ℕ → List ℕ
 unfolding spanFor
-peersFor c round = peersIn (c .spans) (spanFor c round)
-
-abbrev pub differ : Option ℕ → Option ℕ → Option Bool
-differ none j = none
-differ (some i) none = none
-differ (some i) (some j) = some (not (eqb i j))
+peersFor c round = Option·getD (Option·map (λ i. getD (c .spans) i (record { first = 0; peers = [] }) .peers) (spanFor c round)) []
 
 -- PeerScheduleStateless::require_regular_points; none where the Rust panics, a vset being unknown
 unfoldable pub requireRegularPoints : Schedule → ℕ → Option Bool
 unfolding spanFor
-requireRegularPoints c round = differ (spanFor c round) (spanFor c (round + 4))
+requireRegularPoints c round = andThen (spanFor c round) (λ i. Option·map (λ j. not (eqb i j)) (spanFor c (round + 4)))

@@ -5,7 +5,7 @@ use mathlib.Core.Bool.{true, false}
 use mathlib.Core.List.{List}
 use lib.ListN.{length, take, drop}
 use lib.IntN.{ℤ, pos, negsuc}
-use Rattle.tally_feed.specs.Tally.{Step, over, last, point}
+use Rattle.tally_feed.specs.Tally.{Step, over, last, point, step}
 use Rattle.tally.specs.declared.window.Window.{Window}
 use Rattle.tally.specs.declared.window.Got as code-got
 use Rattle.tally.specs.declared.window.Got.the-variants as case-got
@@ -88,3 +88,7 @@ abbrev pub Leads : ℕ → ℕ → code-turn.Turn → Type 0
 Leads len room case-turn.Over = Unit
 Leads len room (case-turn.Last l) = Unit
 Leads len room (case-turn.Point l s) = Stands len room s
+
+-- the step over what is at hand
+abbrev pub stepFrom : State → List ℕ → List ℕ → List ℕ → List ℕ → Step
+stepFrom s schedule book peers buf = step (take (s .«schedule_len») schedule) book peers (s .place) (atHand buf (s .window))

@@ -6,9 +6,8 @@ use tally_line::Line;
 ghost use mathlib.Core.Path.{_≡_};
 ghost use Prim.Native.Nat.{_-_, _≤_, _<_};
 ghost use lib.ListN.{length, take, drop};
-ghost use Rattle.tally_feed.specs.Tally.{step};
 ghost use Rattle.tally_feed.specs.Code.{bookAfter, peersAfter};
-ghost use Rattle.tally.specs.Code.{atHand, firstState, withWindow, turnOf, Stands, Leads};
+ghost use Rattle.tally.specs.Code.{atHand, firstState, withWindow, turnOf, Stands, Leads, stepFrom};
 
 // Where the program stands: what is at hand, the place of the next line, and how many bytes of the schedule's buffer are the schedule.
 pub struct State {
@@ -55,9 +54,11 @@ pub fn with(s: State, w: Window) -> State
 // Offers the next point at hand to the book.
 pub fn take_turn(book: &mut [u8], schedule: &[u8], peers: &mut [u8], buf: &[u8], s: State) -> Turn
     requires { ⌜ Stands (length (now buf)) (length (now schedule)) s × (s .place < 18446744073709551615) ⌝ }
-    ensures { λ r. ⌜ r ≡ turnOf s (step (take (s .«schedule_len») (now (schedule .entry))) (now (book .entry)) (now (peers .entry)) (s .place) (atHand (now (buf .entry)) (s .window))) ⌝ }
-    ensures { λ r. ⌜ now (book .exit) ≡ bookAfter (now (book .entry)) (step (take (s .«schedule_len») (now (schedule .entry))) (now (book .entry)) (now (peers .entry)) (s .place) (atHand (now (buf .entry)) (s .window))) ⌝ }
-    ensures { λ r. ⌜ now (peers .exit) ≡ peersAfter (now (peers .entry)) (step (take (s .«schedule_len») (now (schedule .entry))) (now (book .entry)) (now (peers .entry)) (s .place) (atHand (now (buf .entry)) (s .window))) ⌝ }
+    ensures { λ r. ⌜ r ≡ turnOf s (stepFrom s (now (schedule .entry)) (now (book .entry)) (now (peers .entry)) (now (buf .entry))) ⌝ }
+    ensures { λ r. ⌜ now (book .exit) ≡ bookAfter (now (book .entry))
+        (stepFrom s (now (schedule .entry)) (now (book .entry)) (now (peers .entry)) (now (buf .entry))) ⌝ }
+    ensures { λ r. ⌜ now (peers .exit) ≡ peersAfter (now (peers .entry))
+        (stepFrom s (now (schedule .entry)) (now (book .entry)) (now (peers .entry)) (now (buf .entry))) ⌝ }
     ensures { λ r. ⌜ Leads (length (now (buf .entry))) (length (now (schedule .entry))) r ⌝ }
 {
     let w = s.window;

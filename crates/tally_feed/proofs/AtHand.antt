@@ -5,24 +5,24 @@ use native.Mathlib.Omega.{arith}
 use native.Mathlib.Decide.{decLt}
 use mathlib.Core.Path.{_≡_, refl, ap, sym, _∙_}
 use mathlib.Core.Bool.{Bool, true, false}
-use mathlib.Core.Option.{Option, none, some}
+use mathlib.Core.Option.{Option, none, some, Option·getD}
 use mathlib.Core.List.{List, [], _∷_}
 use lib.ListN.{length, take, drop, length-drop}
 use lib.Seq.{take-all, take-length, take-nil, drop-nil, take-take, length-take-le}
 use Rattle.base.proofs.Option.{picked}
 use Rattle.record.specs.Record.{lengthAt, nextAt, fieldOk, endFrom, recordEnd, wellShaped}
-use Rattle.record.proofs.Laws.{fitting, end-behind, shaped-end, Agree, front-agrees, field-same, next-same, ends-same, end-same, end-within}
+use Rattle.record.proofs.Laws.{fitting, end-after, shaped-end, Agree, front-agrees, field-same, next-same, ends-same, end-same, end-within}
 use Rattle.point.specs.Point.{PointInfo}
 use Rattle.point.specs.Reading.{readPoint}
 use Rattle.schedule.specs.Settings.{Settings, readSettings}
 use Rattle.schedule.specs.Schedule.{Schedule, readSchedule}
-use Rattle.books.specs.Kept.{Book}
-use Rattle.books.specs.Offer.{Offer, offerTested, offerWith, offer}
-use Rattle.books.specs.Layout.{Opened, readBook}
-use Rattle.books.specs.Calls.{openNumber, Result, laidOut, offerTo, offerBytes}
+use Rattle.books.specs.Kept.{Opened}
+use Rattle.books.specs.Offer.{Offer, Result, offerTested, offerWith, offer}
+use Rattle.books.specs.Layout.{readBook}
+use Rattle.books.specs.Calls.{openNumber, inBytes, offerTo, offerBytes}
 use Rattle.tally_feed.specs.declared.front.Front as code-front
-use Rattle.tally_feed.specs.Tally.{lastKnownEnd, scheduleEndFrom, scheduleEnd, scheduleTo, frontWith, frontOf, openedWith, begin, sizeWith, recordSize, offeredAs, offered, step, Tally, stepThen, pointsFrom, points}
-use Rattle.tally_feed.proofs.Laws.{span, lastKnown, by-test, schedule-behind, schedule-most, schedule-inside, record-most, size-of}
+use Rattle.tally_feed.specs.Tally.{lastKnownEnd, scheduleEndFrom, scheduleEnd, scheduleTo, frontWith, frontOf, openedWith, begin, recordSize, offeredAs, offered, step, Tally, stepThen, pointsFrom, points}
+use Rattle.tally_feed.proofs.Laws.{span, lastKnown, by-test, schedule-after, schedule-most, schedule-inside, record-most, size-of}
 
 -- ---- an end that lies in a part of a list is the whole list's
 
@@ -66,14 +66,14 @@ module _ (schedule book peers : List ℕ) (leader : ℕ) (s t : List ℕ) (p : r
   abbrev offering : List ℕ → Offer
   offering bytes = record { schedule = schedule; leader = leader; bytes = bytes; peers = peers }
 
-  unread-offers : (c : Settings) (len : ℕ) (b : Book) (x : Option Schedule) → readSchedule schedule ≡ x → offer c len b (offering s) ≡ offer c len b (offering t)
+  unread-offers : (z : Opened) (x : Option Schedule) → readSchedule schedule ≡ x → offer z (offering s) ≡ offer z (offering t)
   unfolding offer offerTested offerWith
-  unread-offers c len b none e = rw e
-  unread-offers c len b (some d) e = rw (e, p, q)
+  unread-offers z none e = rw e
+  unread-offers z (some d) e = rw (e, p, q)
 
   unread-to : (z : Option Opened) → offerTo book (offering s) z ≡ offerTo book (offering t) z
   unread-to none = refl
-  unread-to (some z) = ap (laidOut (z .bytes) (length book)) (unread-offers (z .settings) (length book) (z .book) (readSchedule schedule) refl)
+  unread-to (some z) = ap inBytes (unread-offers z (readSchedule schedule) refl)
 
   unread-same : offerBytes book (offering s) ≡ offerBytes book (offering t)
   unfolding offerBytes
@@ -84,8 +84,8 @@ module _ (schedule book peers : List ℕ) (leader : ℕ) (s t : List ℕ) (p : r
 
 module _ (schedule book peers : List ℕ) (place leader n : ℕ) (s : List ℕ) where
   to-part : (o : Option ℕ) → recordEnd (take n s) ≡ o → recordEnd s ≡ o → ((k : ℕ) → o ≡ some k → k ≤ n) →
-      offered schedule book peers place leader (suc (sizeWith (take n s) o)) (take (sizeWith (take n s) o) (take n s))
-      ≡ offered schedule book peers place leader (suc (sizeWith s o)) (take (sizeWith s o) s)
+      offered schedule book peers place leader (suc (Option·getD o (length (take n s)))) (take (Option·getD o (length (take n s))) (take n s))
+      ≡ offered schedule book peers place leader (suc (Option·getD o (length s))) (take (Option·getD o (length s)) s)
   to-part none e f h =
       let a = take-length (take n s) in
       let b = take-length s in
@@ -122,12 +122,12 @@ module _ (e : ℕ) (s t : List ℕ) (a : Agree e s t) where
       by-test (fieldOk span s at) (scheduleEndFrom k s (nextAt s at)) (lastKnownEnd s at) n h
       (λ x i.
       let f = fitting span s at x in
-      let b : at + 3 + lengthAt s at ≤ e = omega (arith, f .next, schedule-behind k s (nextAt s at) n i) in
+      let b : at + 3 + lengthAt s at ≤ e = omega (arith, f .next, schedule-after k s (nextAt s at) n i) in
       rw (field-same e s t a at b span f, next-same e s t a at b) (from-same k (nextAt s at) n i g))
       (λ x i.
       let p = picked (fieldOk lastKnown s at) (endFrom [] s (nextAt s at)) n i in
       let f = fitting lastKnown s at (p .0) in
-      let b : at + 3 + lengthAt s at ≤ e = omega (arith, f .next, end-behind [] s (nextAt s at) n (p .1)) in
+      let b : at + 3 + lengthAt s at ≤ e = omega (arith, f .next, end-after [] s (nextAt s at) n (p .1)) in
       let o = field-same e s t a at b lastKnown f in
       rw (no-span t at o) (ends-same e s t a (lastKnown ∷ []) at n i g))
 
@@ -165,9 +165,9 @@ begin-part n len feed h =
 
 module _ (f g : List ℕ → List ℕ → List ℕ → Tally) (book : List ℕ) (x : ℕ) (s : List ℕ)
     (same : (b p t : List ℕ) → length t ≤ length s → f b p t ≡ g b p t) where
-  offered-same : (place k : ℕ) (r : Result) (p : Option PointInfo) → stepThen f book (x ∷ s) (offeredAs place (suc k) r p) ≡ stepThen g book (x ∷ s) (offeredAs place (suc k) r p)
+  offered-same : (place k : ℕ) (r : Result (List ℕ)) (p : Option PointInfo) → stepThen f book (x ∷ s) (offeredAs place (suc k) r p) ≡ stepThen g book (x ∷ s) (offeredAs place (suc k) r p)
   offered-same place k r none = refl
-  offered-same place k r (some p) = rw (same (r .bytes) (r .peers) (drop k s) (omega (arith, length-drop k s)))
+  offered-same place k r (some p) = rw (same (r .after) (r .peers) (drop k s) (omega (arith, length-drop k s)))
 
 -- every number of turns that is enough gives the same
 enough : (m n : ℕ) (schedule book peers : List ℕ) (place : ℕ) (feed : List ℕ) → length feed ≤ m → length feed ≤ n →

@@ -1,10 +1,10 @@
 -- Laws of feeds: how far their parts reach, and that a part of a feed that is long enough gives what the whole gives.
-use Prim.Native.Nat.{ℕ, zero, suc, _+_, _-_, _≤_, _<_}
+use Prim.Native.Nat.{ℕ, zero, suc, _+_, _≤_, _<_}
 use native.Mathlib.Omega.{arith}
 use native.Mathlib.Numerals.{add-one}
-use mathlib.Core.Path.{_≡_, refl, ap, _∙_}
+use mathlib.Core.Path.{_≡_, refl, ap, sym, _∙_}
 use mathlib.Core.Bool.{Bool, true, false}
-use mathlib.Core.Option.{Option, none, some}
+use mathlib.Core.Option.{Option, none, some, Option·getD}
 use mathlib.Core.List.{List, [], _∷_}
 use lib.ListN.{length, getD, take, drop, length-drop}
 use lib.Dec.{eqb}
@@ -13,17 +13,18 @@ use Rattle.base.specs.Base.{pick}
 use Rattle.base.proofs.Option.{picked}
 use Rattle.record.specs.declared.Row.{Row}
 use Rattle.record.specs.Record.{nextAt, fieldRow, fieldOk, endFrom, rows, recordEnd}
-use Rattle.record.proofs.Laws.{next-within, fitting, end-behind, end-within}
+use Rattle.record.proofs.Laws.{next-within, fitting, end-after, end-within}
 use Rattle.point.specs.Point.{PointInfo}
 use Rattle.schedule.specs.Settings.{Settings, readSettings}
 use Rattle.schedule.specs.Schedule.{Schedule, readSchedule}
 use Rattle.rules.specs.Judge.{JudgeAnswer}
-use Rattle.books.specs.Calls.{openNumber, openedAs, openBytes, Result}
+use Rattle.books.specs.Offer.{Result}
+use Rattle.books.specs.Calls.{openNumber, openedAs, openBytes}
 use Rattle.tally_line.specs.declared.Line.{Line}
 use Rattle.tally_feed.specs.declared.front.Front.the-variants as case-front
 use Rattle.tally_feed.specs.declared.next.Next as code-next
 use Rattle.tally_feed.specs.declared.next.Next.the-variants as case-next
-use Rattle.tally_feed.specs.Tally.{lineOf, lastKnownEnd, scheduleEndFrom, scheduleEnd, scheduleTo, frontOf, begin, sizeWith, recordSize, Step, over, offeredAs, offered, step}
+use Rattle.tally_feed.specs.Tally.{lineOf, lastKnownEnd, scheduleEndFrom, scheduleEnd, scheduleTo, frontOf, begin, recordSize, Step, over, offeredAs, offered, step}
 use Rattle.tally_feed.specs.Code.{nextOf, bookAfter, peersAfter, Within}
 
 -- ---- where fields end
@@ -65,13 +66,13 @@ pub by-test : {X : Type 0} (t : Bool) (x y : Option ℕ) (n : ℕ) → pick t x 
 by-test true x y n h f g = f refl h
 by-test false x y n h f g = g refl h
 
-pub schedule-behind : (k : ℕ) (s : List ℕ) (at n : ℕ) → scheduleEndFrom k s at ≡ some n → at ≤ n
+pub schedule-after : (k : ℕ) (s : List ℕ) (at n : ℕ) → scheduleEndFrom k s at ≡ some n → at ≤ n
 unfolding scheduleEndFrom
-schedule-behind zero s at n h = end-behind (lastKnown ∷ []) s at n h
-schedule-behind (suc k) s at n h =
+schedule-after zero s at n h = end-after (lastKnown ∷ []) s at n h
+schedule-after (suc k) s at n h =
     by-test (fieldOk span s at) (scheduleEndFrom k s (nextAt s at)) (lastKnownEnd s at) n h
-    (λ t x. omega (arith, fitting span s at t .next, schedule-behind k s (nextAt s at) n x))
-    (λ t y. end-behind (lastKnown ∷ []) s at n y)
+    (λ t x. omega (arith, fitting span s at t .next, schedule-after k s (nextAt s at) n x))
+    (λ t y. end-after (lastKnown ∷ []) s at n y)
 
 -- the most bytes that n spans and the last known round take
 abbrev mostSpans : ℕ → ℕ
@@ -180,7 +181,7 @@ unopened settings s d = go (openNumber settings (length s)) d
 
 -- ---- the next point
 
-size-in : (s : List ℕ) (o : Option ℕ) → recordEnd s ≡ o → sizeWith s o ≤ length s
+size-in : (s : List ℕ) (o : Option ℕ) → recordEnd s ≡ o → Option·getD o (length s) ≤ length s
 size-in s none e = omega arith
 size-in s (some n) e = end-within s n e
 
@@ -188,7 +189,7 @@ pub size-inside : (s : List ℕ) → recordSize s ≤ length s
 unfolding recordSize
 size-inside s = size-in s (recordEnd s) refl
 
-pub size-of : (s : List ℕ) (o : Option ℕ) → recordEnd s ≡ o → recordSize s ≡ sizeWith s o
+pub size-of : (s : List ℕ) (o : Option ℕ) → recordEnd s ≡ o → recordSize s ≡ Option·getD o (length s)
 unfolding recordSize
 size-of s o e = rw e
 
@@ -201,7 +202,7 @@ pub step-offer : (schedule book peers : List ℕ) (place : ℕ) (feed : List ℕ
     step schedule book peers place feed ≡ offered schedule book peers place (getD feed 0 0) (suc n) (take n (drop 1 feed))
 unfolding step
 step-offer schedule book peers place [] n h e = absurd (h refl)
-step-offer schedule book peers place (x ∷ s) n h e = rw e
+step-offer schedule book peers place (x ∷ s) n h e = ap (λ (k : ℕ). offered schedule book peers place x (suc k) (take k s)) (sym e)
 
 -- what a step gives, as its contract says it
 abbrev pub Gives : List ℕ → List ℕ → ℕ → Step → code-next.Next → List ℕ → List ℕ → Type 0
@@ -211,7 +212,7 @@ module _ (book peers : List ℕ) (len : ℕ) where
   pub gives-over : (t : Step) → t ≡ over → Gives book peers len t case-next.Over book peers
   gives-over t e = rw e (refl, (refl, (refl, tt)))
 
-  module _ (t : Step) (place n : ℕ) (r : Result) (a : JudgeAnswer) (b p : List ℕ) (f : a ≡ r .answer) (g : b ≡ r .bytes) (h : p ≡ r .peers) where
+  module _ (t : Step) (place n : ℕ) (r : Result (List ℕ)) (a : JudgeAnswer) (b p : List ℕ) (f : a ≡ r .answer) (g : b ≡ r .after) (h : p ≡ r .peers) where
     pub gives-last : (l : Line) → t ≡ offeredAs place (suc n) r none → l ≡ lineOf place 0 a → Gives book peers len t (case-next.Last l) b p
     gives-last l e d = rw (e, d, f) (refl, (g, (h, tt)))
 

@@ -9,11 +9,11 @@ use Rattle.point.specs.Reading.{readPoint}
 use Rattle.schedule.specs.Settings.{Settings}
 use Rattle.schedule.specs.Schedule.{Schedule, readSchedule}
 use Rattle.rules.specs.Judge.{Number}
-use Rattle.books.specs.Kept.{Book}
-use Rattle.books.specs.Offer.{offerTested, offerWith, offer, offerOf}
+use Rattle.books.specs.Kept.{Opened}
+use Rattle.books.specs.Offer.{Result, offerTested, offerWith, offer, offerOf}
 use Rattle.parts.specs.Bytes.{Bytes}
-use Rattle.books.specs.Layout.{Opened, readBook}
-use Rattle.books.specs.Calls.{Result, offerTo, offerBytes}
+use Rattle.books.specs.Layout.{readBook}
+use Rattle.books.specs.Calls.{offerTo, offerBytes}
 use Rattle.books.proofs.Refused.{unchanged}
 use Rattle.tally_feed.specs.Tally.{recordSize, Step, over, last, point, offeredAs, step}
 
@@ -24,21 +24,21 @@ unreadNumber (some z) none = 2
 unreadNumber (some z) (some d) = 3
 
 module _ (schedule book peers : List ℕ) (leader : ℕ) (s : List ℕ) (p : readPoint s ≡ none) where
-  offer-number : (c : Settings) (len : ℕ) (b : Book) (z : Opened) (x : Option Schedule) → readSchedule schedule ≡ x → offer c len b (offerOf schedule leader s peers) .answer ≡ Number (unreadNumber (some z) x)
+  offer-number : (z : Opened) (x : Option Schedule) → readSchedule schedule ≡ x → offer z (offerOf schedule leader s peers) .answer ≡ Number (unreadNumber (some z) x)
   unfolding offer offerTested offerWith
-  offer-number c len b z none e = rw e
-  offer-number c len b z (some d) e = rw (e, p)
+  offer-number z none e = rw e
+  offer-number z (some d) e = rw (e, p)
 
   to-number : (z : Option Opened) → offerTo book (offerOf schedule leader s peers) z .answer ≡ Number (unreadNumber z (readSchedule schedule))
   to-number none = refl
-  to-number (some z) = offer-number (z .settings) (length book) (z .book) z (readSchedule schedule) refl
+  to-number (some z) = offer-number z (readSchedule schedule) refl
 
   pub unread-number : offerBytes book (offerOf schedule leader s peers) .answer ≡ Number (unreadNumber (readBook book) (readSchedule schedule))
   unfolding offerBytes
   unread-number = to-number (readBook book)
 
-abbrev Same : List ℕ → List ℕ → Result → Type 0
-Same book peers r = (n : ℕ) → r .answer ≡ Number n → (r .bytes ≡ book) × (r .peers ≡ peers)
+abbrev Same : List ℕ → List ℕ → Result (List ℕ) → Type 0
+Same book peers r = (n : ℕ) → r .answer ≡ Number n → (r .after ≡ book) × (r .peers ≡ peers)
 
 -- where a step's answer is a number, it leaves the book and the peer buffer as they were
 abbrev pub Unchanged : List ℕ → List ℕ → Step → Type 0

@@ -13,7 +13,8 @@ use Rattle.point.specs.Point.{PointInfo}
 use Rattle.point.specs.Reading.{readPoint}
 use Rattle.schedule.specs.Settings.{Settings, readSettings}
 use Rattle.schedule.specs.Schedule.{readSchedule}
-use Rattle.books.specs.Calls.{openNumber, openBytes, Result}
+use Rattle.books.specs.Offer.{Result}
+use Rattle.books.specs.Calls.{openNumber, openBytes}
 use Rattle.tally_feed.specs.declared.front.Front as code-front
 use Rattle.tally_feed.specs.declared.front.Front.the-variants as case-front
 use Rattle.tally_feed.specs.Tally.{scheduleEnd, scheduleTo, frontWith, frontOf, openedWith, begin, recordSize, offeredAs, step, Tally, stepThen, pointsFrom, points, tallyFrom, tally}
@@ -30,9 +31,9 @@ unfolding step
 turn-step again f schedule book peers place n [] h same = refl
 turn-step again f schedule book peers place n (x ∷ s) h same = go (recordSize s) _ (readPoint (take (recordSize s) s))
   where
-    go : (k : ℕ) (r : Result) (p : Option PointInfo) → turn again book peers (x ∷ s) (offeredAs place (suc k) r p) ≡ stepThen f book (x ∷ s) (offeredAs place (suc k) r p)
+    go : (k : ℕ) (r : Result (List ℕ)) (p : Option PointInfo) → turn again book peers (x ∷ s) (offeredAs place (suc k) r p) ≡ stepThen f book (x ∷ s) (offeredAs place (suc k) r p)
     go k r none = refl
-    go k r (some p) = rw (same (r .bytes) (r .peers) (drop k s) (omega (arith, length-drop k s)))
+    go k r (some p) = rw (same (r .after) (r .peers) (drop k s) (omega (arith, length-drop k s)))
 
 module _ (held : ℕ → ℕ) (enough : (i : ℕ) → 41127 ≤ held i) where
   printed-points : (turns : ℕ) (schedule : List ℕ) (place : ℕ) (book peers feed : List ℕ) → length feed ≤ turns →

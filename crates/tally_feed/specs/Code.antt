@@ -17,8 +17,8 @@ nextOf (point l size r) = case-next.Point l size
 -- the book and the peer buffer after a step
 abbrev pub bookAfter : List ℕ → Step → List ℕ
 bookAfter book over = book
-bookAfter book (last l r) = r .bytes
-bookAfter book (point l size r) = r .bytes
+bookAfter book (last l r) = r .after
+bookAfter book (point l size r) = r .after
 
 abbrev pub peersAfter : List ℕ → Step → List ℕ
 peersAfter peers over = peers

@@ -1,7 +1,7 @@
 -- The program tally (document 01, "Printing and calling"): "reads settings, schedule, then leader byte and record per point from
 -- standard input into a book of 65,536 bytes". A feed is all bytes of its standard input.
 use Prim.Native.Nat.{ℕ, zero, suc, _+_}
-use mathlib.Core.Option.{Option, none, some}
+use mathlib.Core.Option.{Option, none, some, Option·map, Option·getD}
 use mathlib.Core.List.{List, [], _∷_, _++_}
 use lib.ListN.{length, take, drop, replicate}
 use Rattle.base.specs.Base.{pick, isSome}
@@ -14,8 +14,9 @@ use Rattle.reasons.specs.IllFormed.{illFormedNumber}
 use Rattle.reasons.specs.Invalid.{invalidNumber}
 use Rattle.reasons.specs.Verdict.{Verdict, Fail, IllFormed, Invalid, TransInvalid, Valid}
 use Rattle.rules.specs.Judge.{JudgeAnswer, Number, Given}
-use Rattle.books.specs.Layout.{Opened, readBook}
-use Rattle.books.specs.Calls.{openNumber, openBytes, Result, offerBytes}
+use Rattle.books.specs.Layout.{readBook}
+use Rattle.books.specs.Offer.{Result}
+use Rattle.books.specs.Calls.{openNumber, openBytes, offerBytes}
 use Rattle.tally_line.specs.declared.Line.{Line}
 use Rattle.tally_line.specs.Text.{linesBytes, endBytes}
 use Rattle.tally_feed.specs.declared.front.Front as code-front
@@ -87,24 +88,20 @@ begunBook settings book (case-front.Points n) = openBytes settings book
 
 -- ---- one point
 
-abbrev pub sizeWith : List ℕ → Option ℕ → ℕ
-sizeWith s none = length s
-sizeWith s (some n) = n
-
 -- how many bytes the record at the front of a slice takes: all of them where none ends there
 unfoldable pub recordSize : List ℕ → ℕ
 unfolding recordEnd
-recordSize s = sizeWith s (recordEnd s)
+recordSize s = Option·getD (recordEnd s) (length s)
 
 -- what comes next in a feed: nothing; the line of a record that can't be read; or a point's line and how many bytes the point takes;
 -- with what the offer left
 pub data Step : Type 0 where
   over : Step
-  last : Line → Result → Step
-  point : Line → ℕ → Result → Step
+  last : (line : Line) (result : Result (List ℕ)) → Step
+  point : (line : Line) (size : ℕ) (result : Result (List ℕ)) → Step
 
 -- "An unreadable record prints round 0 and ends the reading": it is offered as it stands, and the number is the offer's
-abbrev pub offeredAs : ℕ → ℕ → Result → Option PointInfo → Step
+abbrev pub offeredAs : ℕ → ℕ → Result (List ℕ) → Option PointInfo → Step
 offeredAs place size r none = last (lineOf place 0 (r .answer)) r
 offeredAs place size r (some p) = point (lineOf place (p .id .round) (r .answer)) size r
 
@@ -130,8 +127,8 @@ lineThen l t = record { lines = l ∷ t .lines; book = t .book }
 
 abbrev pub stepThen : (List ℕ → List ℕ → List ℕ → Tally) → List ℕ → List ℕ → Step → Tally
 stepThen next book feed over = record { lines = []; book = book }
-stepThen next book feed (last l r) = record { lines = l ∷ []; book = r .bytes }
-stepThen next book feed (point l size r) = lineThen l (next (r .bytes) (r .peers) (drop size feed))
+stepThen next book feed (last l r) = record { lines = l ∷ []; book = r .after }
+stepThen next book feed (point l size r) = lineThen l (next (r .after) (r .peers) (drop size feed))
 
 -- at most n points, each offered to the book, with the peer buffer, that the one before left
 unfoldable pub pointsFrom : ℕ → List ℕ → List ℕ → List ℕ → ℕ → List ℕ → Tally
@@ -161,13 +158,9 @@ unfolding begin points openBytes
 tally feed = tallyFrom (replicate 65536 0) (replicate 8160 0) feed (begin 65536 feed)
 
 -- "then `end` and the kept count"
-abbrev pub keptOf : Option Opened → ℕ
-keptOf none = 0
-keptOf (some z) = length (z .book)
-
 unfoldable pub keptIn : List ℕ → ℕ
 unfolding readBook
-keptIn s = keptOf (readBook s)
+keptIn s = Option·getD (Option·map (λ z. length (z .book)) (readBook s)) 0
 
 -- its bytes
 unfoldable pub output : Tally → List ℕ

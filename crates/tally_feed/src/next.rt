@@ -38,8 +38,10 @@ pub fn next_point(
     peers: &mut [u8],
 ) -> Next
     ensures { λ r. ⌜ r ≡ nextOf (step (now (schedule .entry)) (now (book .entry)) (now (peers .entry)) place (now (feed .entry))) ⌝ }
-    ensures { λ r. ⌜ now (book .exit) ≡ bookAfter (now (book .entry)) (step (now (schedule .entry)) (now (book .entry)) (now (peers .entry)) place (now (feed .entry))) ⌝ }
-    ensures { λ r. ⌜ now (peers .exit) ≡ peersAfter (now (peers .entry)) (step (now (schedule .entry)) (now (book .entry)) (now (peers .entry)) place (now (feed .entry))) ⌝ }
+    ensures { λ r. ⌜ now (book .exit) ≡ bookAfter (now (book .entry))
+        (step (now (schedule .entry)) (now (book .entry)) (now (peers .entry)) place (now (feed .entry))) ⌝ }
+    ensures { λ r. ⌜ now (peers .exit) ≡ peersAfter (now (peers .entry))
+        (step (now (schedule .entry)) (now (book .entry)) (now (peers .entry)) place (now (feed .entry))) ⌝ }
     ensures { λ r. ⌜ Within (length (now (feed .entry))) r ⌝ }
 {
     if feed.len() == 0 {

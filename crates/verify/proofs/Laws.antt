@@ -6,9 +6,8 @@ use mathlib.Core.Option.{Option, none, some}
 use mathlib.Core.List.{List, [], _∷_, _++_}
 use lib.Dec.{ltb, eqb}
 use borrow.Author.Tests.{lt-ltb, le-ltb, not-true, not-false}
-use Rattle.base.specs.Base.{pick, when, concat, firstOf, isSome}
+use Rattle.base.specs.Base.{pick, when, concat, firstOf}
 use Rattle.base.proofs.Bool.{and-left, and-right}
-use Rattle.base.proofs.Option.{unfound}
 use Rattle.point.specs.Point.{PointInfo, Sticky, inDomain}
 use Rattle.point.specs.Reading.{readPoint}
 use Rattle.schedule.specs.Settings.{Settings, readSettings}
@@ -19,10 +18,10 @@ use Rattle.reasons.specs.declared.ill_formed.StructureIssue.{StructureIssue}
 use Rattle.reasons.specs.declared.ill_formed.VerifyError.{VerifyError}
 use Rattle.reasons.specs.declared.ill_formed.Verified.{Verified}
 use Rattle.reasons.specs.declared.ill_formed.Verified.the-variants.{Passed, Failed}
-use Rattle.rules.specs.Verify.{Scheduled, scheduled, verify, vsetRow, newRows, structure, genesisRows, stickyFault, aboveRows, wellFormedRows, unknownMap, bufferWith}
+use Rattle.rules.specs.Verify.{Scheduled, scheduled, verify, vsetRow, newRows, structure, genesisRows, stickyFault, aboveRows, wellFormedRows, bufferWith}
 use Rattle.reasons.specs.Code.{verifiedOf}
 use Rattle.rules.specs.Judge.{verifiedFrom, Input, Tested, refused, admitted, tested, verifyWith, verifyBuffer}
-use Rattle.verify_peers.proofs.Laws.{Told, buffer-kept}
+use Rattle.verify_peers.proofs.Laws.{Told, tellsOf, buffer-kept}
 use Rattle.reasons.specs.declared.ill_formed.VerifyAnswer.{VerifyAnswer}
 use Rattle.reasons.specs.declared.ill_formed.VerifyAnswer.the-variants.{Number, Verdict}
 
@@ -31,7 +30,7 @@ use Rattle.reasons.specs.declared.ill_formed.VerifyAnswer.the-variants.{Number,
 -- whether no fault of a list, or of a table, tells of unknown peers
 unfoldable silent : List VerifyError → Bool
 silent [] = true
-silent (x ∷ l) = not (isSome (unknownMap (some x))) && silent l
+silent (x ∷ l) = not (tellsOf (some x)) && silent l
 
 unfoldable allSilent : List (List VerifyError) → Bool
 unfolding silent
@@ -42,22 +41,22 @@ silent-append : (a b : List VerifyError) → silent a ≡ true → silent b ≡ 
 unfolding silent
 silent-append [] b s t = t
 silent-append (x ∷ a) b s t =
-    rw (and-left (not (isSome (unknownMap (some x)))) (silent a) s) (silent-append a b (and-right (not (isSome (unknownMap (some x)))) (silent a) s) t)
+    rw (and-left (not (tellsOf (some x))) (silent a) s) (silent-append a b (and-right (not (tellsOf (some x))) (silent a) s) t)
 
 silent-concat : (l : List (List VerifyError)) → allSilent l ≡ true → silent (concat l) ≡ true
 unfolding concat silent allSilent
 silent-concat [] s = refl
 silent-concat (r ∷ l) s = silent-append r (concat l) (and-left (silent r) (allSilent l) s) (silent-concat l (and-right (silent r) (allSilent l) s))
 
-silent-first : (l : List VerifyError) → silent l ≡ true → unknownMap (firstOf l) ≡ none
+silent-first : (l : List VerifyError) → silent l ≡ true → tellsOf (firstOf l) ≡ false
 unfolding firstOf silent
 silent-first [] s = refl
-silent-first (x ∷ l) s = unfound (unknownMap (some x)) (not-true _ (and-left (not (isSome (unknownMap (some x)))) (silent l) s))
+silent-first (x ∷ l) s = not-true (tellsOf (some x)) (and-left (not (tellsOf (some x))) (silent l) s)
 
-silent-iff : (b : Bool) (x : VerifyError) → silent (when b x) ≡ (not (isSome (unknownMap (some x))) || not b)
+silent-iff : (b : Bool) (x : VerifyError) → silent (when b x) ≡ (not (tellsOf (some x)) || not b)
 unfolding silent
-silent-iff false x = sym (or-true (not (isSome (unknownMap (some x)))))
-silent-iff true x = let b = not (isSome (unknownMap (some x))) in and-true b ∙ sym (or-false b)
+silent-iff false x = sym (or-true (not (tellsOf (some x))))
+silent-iff true x = let b = not (tellsOf (some x)) in and-true b ∙ sym (or-false b)
 
 silent-pick : (b : Bool) (x y : List VerifyError) → silent (pick b x y) ≡ pick b (silent x) (silent y)
 silent-pick true x y = refl
@@ -84,7 +83,7 @@ silent-sticky c (some k) = simp (silent-pick, silent-iff) (pick-both (ltb (c .st
 -- an answer of such rows leaves the buffer as it was
 told-silent : (k : Scheduled) (p : PointInfo) (rows : List (List VerifyError)) (e : Option VerifyError) (old : List ℕ) → allSilent rows ≡ true →
     e ≡ firstOf (concat rows) → Told k p rows e old old
-told-silent k p rows e old s h = (h, sym (buffer-kept k p e old (ap unknownMap h ∙ silent-first (concat rows) (silent-concat rows s))))
+told-silent k p rows e old s h = (h, sym (buffer-kept k p e old (ap tellsOf h ∙ silent-first (concat rows) (silent-concat rows s))))
 
 module _ (c : Settings) (s : Schedule) (p : PointInfo) where
   silent-new : allSilent (newRows c s p) ≡ true

@@ -16,9 +16,10 @@ ghost use Rattle.point.specs.Code.{pointOf};
 ghost use Rattle.point.specs.Reading.{readPoint};
 ghost use Rattle.schedule.specs.Code.{settingsOf, scheduleOf};
 ghost use Rattle.schedule.specs.Schedule.{readSchedule};
-ghost use Rattle.rules.specs.Verify.{scheduled, verify, bufferWith};
+ghost use Rattle.rules.specs.Verify.{verify};
 ghost use Rattle.reasons.specs.Code.{verifiedOf};
 ghost use Rattle.rules.specs.Judge.{tested, verifyWith, verifyBuffer};
+ghost use Rattle.verify_peers.specs.Code.{BufferAfter};
 
 // BasicVerifier::verify, of input that was read.
 pub fn verify_point(
@@ -33,7 +34,7 @@ pub fn verify_point(
     requires { ⌜ readPoint (now rec) ≡ some (pointOf (now rec) info) ⌝ }
     requires { ⌜ peersRoom ≤ length (now peers) ⌝ }
     ensures { λ r. ⌜ verifiedOf r ≡ verify (settingsOf conf) (scheduleOf (now (schedule .entry)) spans) (pointOf (now (rec .entry)) info) ⌝ }
-    ensures { λ r. ⌜ now (peers .exit) ≡ bufferWith (scheduled (settingsOf conf) (scheduleOf (now (schedule .entry)) spans) (pointOf (now (rec .entry)) info)) (pointOf (now (rec .entry)) info) (verifiedOf r) (now (peers .entry)) ⌝ }
+    ensures { λ r. ⌜ BufferAfter conf (now (schedule .entry)) spans (now (rec .entry)) info (verifiedOf r) (now (peers .entry)) (now (peers .exit)) ⌝ }
 {
     let new = verify_new::check_new(conf, schedule, spans, rec, info);
     let Verified::Passed = new else {
@@ -70,7 +71,8 @@ pub fn verify_point(
 // Numbers 1 to 5 in number order, then the verdict.
 pub fn verify(settings: &[u8], schedule: &[u8], rec: &[u8], peers: &mut [u8]) -> VerifyAnswer
     ensures { λ r. ⌜ r ≡ verifyWith (tested (now (settings .entry)) (now (schedule .entry)) (now (rec .entry)) true (length (now (peers .entry)))) ⌝ }
-    ensures { λ r. ⌜ now (peers .exit) ≡ verifyBuffer (tested (now (settings .entry)) (now (schedule .entry)) (now (rec .entry)) true (length (now (peers .entry)))) (now (peers .entry)) ⌝ }
+    ensures { λ r. ⌜ now (peers .exit) ≡ verifyBuffer
+        (tested (now (settings .entry)) (now (schedule .entry)) (now (rec .entry)) true (length (now (peers .entry)))) (now (peers .entry)) ⌝ }
 {
     let ReadSettings::Settings(conf) = schedule::read_settings(settings) else {
         return VerifyAnswer::Number(1);

@@ -88,7 +88,8 @@ pub fn check_new(
     info: PointInfo,
 ) -> Verified
     requires { ⌜ readSchedule (now schedule) ≡ some (scheduleOf (now schedule) spans) ⌝ }
-    ensures { λ r. ⌜ verifiedOf r ≡ firstOf (concat (newRows (settingsOf conf) (scheduleOf (now (schedule .entry)) spans) (pointOf (now (rec .entry)) info))) ⌝ }
+    ensures { λ r. ⌜ verifiedOf r ≡ firstOf
+        (concat (newRows (settingsOf conf) (scheduleOf (now (schedule .entry)) spans) (pointOf (now (rec .entry)) info))) ⌝ }
 {
     let id = info.id;
     let round = id.round;

@@ -2,14 +2,14 @@
 use Prim.Native.Nat.{ℕ, _-_, _≤_, _<_}
 use native.Mathlib.Omega.{arith}
 use mathlib.Core.Path.{_≡_, refl, ap, sym, _∙_}
-use mathlib.Core.Bool.{not}
+use mathlib.Core.Bool.{Bool, false, not}
 use mathlib.Core.Option.{Option, none, some}
 use mathlib.Core.List.{List, [], _∷_, append-nil}
 use lib.ListN.{length}
 use lib.Dec.{ltb, eqb}
 use borrow.Author.Tests.{lt-ltb, le-ltb, eq-eqb, ne-eqb}
 use Rattle.base.specs.Base.{when, concat, firstOf, isEmpty}
-use Rattle.base.proofs.Tables.{first-here, first-behind, row-here, row-behind}
+use Rattle.base.proofs.Tables.{first-here, first-after, row-here, row-after}
 use Rattle.base.proofs.Lists.{empty, not-empty}
 use Rattle.parts.specs.Bytes.{putAt}
 use Rattle.parts.specs.Parts.{oneF, majority, majorityOfOthers}
@@ -21,16 +21,24 @@ use Rattle.point.specs.declared.data.PointMap.the-variants as map
 use Rattle.schedule.specs.Settings.{Settings}
 use Rattle.rules.specs.Unknown.{unknownIn, peerBytes}
 use Rattle.verify_unknown.proofs.Laws.{put-none}
+use Rattle.reasons.specs.Answer.{mapNumber}
+use Rattle.reasons.specs.IllFormed.{errorAnswer}
 use Rattle.reasons.specs.declared.ill_formed.IllFormedReason.the-variants.{MustBeEmpty, UnknownPeers, LackOfPeers}
 use Rattle.reasons.specs.declared.ill_formed.VerifyError.{VerifyError}
 use Rattle.reasons.specs.declared.ill_formed.VerifyError.the-variants.{IllFormed}
-use Rattle.rules.specs.Verify.{Scheduled, unknownRow, lack, evidenceRows, includesRows, witnessRows, unknownMap, unknownOf, bufferWith}
+use Rattle.rules.specs.Verify.{Scheduled, unknownRow, lack, evidenceRows, includesRows, witnessRows, unknownBy, bufferWith}
 
 -- ---- an answer of checks, and the buffer
 
--- a fault that tells of no unknown peers leaves the buffer as it was
-pub buffer-kept : (k : Scheduled) (p : PointInfo) (e : Option VerifyError) (old : List ℕ) → unknownMap e ≡ none → bufferWith k p e old ≡ old
-buffer-kept k p e old h = rw h (put-none old [] refl)
+-- whether a fault tells of unknown peers
+abbrev pub tellsOf : Option VerifyError → Bool
+tellsOf none = false
+tellsOf (some e) = eqb (errorAnswer e .reason) 12
+
+-- one that doesn't leaves the buffer as it was
+pub buffer-kept : (k : Scheduled) (p : PointInfo) (e : Option VerifyError) (old : List ℕ) → tellsOf e ≡ false → bufferWith k p e old ≡ old
+buffer-kept k p none old h = refl
+buffer-kept k p (some e) old h = rw h
 
 -- an answer is the first fault of some rows, and the buffer holds the unknown peers that it tells of
 abbrev pub Told : Scheduled → PointInfo → List (List VerifyError) → Option VerifyError → List ℕ → List ℕ → Type 0
@@ -42,10 +50,10 @@ module _ (k : Scheduled) (p : PointInfo) (rows rest : List (List VerifyError)) w
       Told k p (concat rows ∷ rest) e old new
   told-here e x old new h t = (h ∙ sym (first-here (concat rows) rest x (sym (t .0) ∙ h)), t .1)
 
-  told-behind : (d e : Option VerifyError) (old mid new : List ℕ) → d ≡ none → Told k p rows d old mid → Told k p rest e mid new →
+  told-after : (d e : Option VerifyError) (old mid new : List ℕ) → d ≡ none → Told k p rows d old mid → Told k p rest e mid new →
       Told k p (concat rows ∷ rest) e old new
-  told-behind d e old mid new h t u =
-      (u .0 ∙ sym (first-behind (concat rows) rest (sym (t .0) ∙ h)), u .1 ∙ ap (bufferWith k p e) (t .1 ∙ buffer-kept k p d old (ap unknownMap h)))
+  told-after d e old mid new h t u =
+      (u .0 ∙ sym (first-after (concat rows) rest (sym (t .0) ∙ h)), u .1 ∙ ap (bufferWith k p e) (t .1 ∙ buffer-kept k p d old (ap tellsOf h)))
 
 told-alone : (k : Scheduled) (p : PointInfo) (rows : List (List VerifyError)) (e : Option VerifyError) (old new : List ℕ) →
     Told k p rows e old new → Told k p (concat rows ∷ []) e old new
@@ -61,13 +69,13 @@ module _ (k : Scheduled) (p : PointInfo) (a b c : List (List VerifyError)) where
   module _ (d : Option VerifyError) (old mid : List ℕ) (pass : d ≡ none) (s : Told k p a d old mid) where
     pub told-second : (e : Option VerifyError) (x : VerifyError) (new : List ℕ) → e ≡ some x → Told k p b e mid new →
         Told k p (concat a ∷ concat b ∷ concat c ∷ []) e old new
-    told-second e x new h t = told-behind k p a (concat b ∷ concat c ∷ []) d e old mid new pass s (told-here k p b (concat c ∷ []) e x mid new h t)
+    told-second e x new h t = told-after k p a (concat b ∷ concat c ∷ []) d e old mid new pass s (told-here k p b (concat c ∷ []) e x mid new h t)
 
     pub told-third : (e f : Option VerifyError) (mid2 new : List ℕ) → e ≡ none → Told k p b e mid mid2 → Told k p c f mid2 new →
         Told k p (concat a ∷ concat b ∷ concat c ∷ []) f old new
     told-third e f mid2 new h t u =
-        told-behind k p a (concat b ∷ concat c ∷ []) d f old mid new pass s
-        (told-behind k p b (concat c ∷ []) e f mid mid2 new h t (told-alone k p c f mid2 new u))
+        told-after k p a (concat b ∷ concat c ∷ []) d f old mid new pass s
+        (told-after k p b (concat c ∷ []) e f mid mid2 new h t (told-alone k p c f mid2 new u))
 
 -- ---- rows of unknown peers, and of too few
 
@@ -82,20 +90,20 @@ pub compared : (scheduled known l rows old new : List ℕ) (n : ℕ) → schedul
     Compared (unknownIn scheduled l) old new n
 compared scheduled known l rows old new n e f c b = record { count = rw (e, f) c; bytes = rw (e, f) b }
 
-module _ (k : Scheduled) (p : PointInfo) (m : PointMap) (rest : List (List VerifyError)) (old new : List ℕ) (n : ℕ) (q : Compared (unknownOf k p (some m)) old new n) where
-  unknown-here : 0 < n → Told k p (unknownRow (unknownOf k p (some m)) m ∷ rest) (some (IllFormed (UnknownPeers n m))) old new
+module _ (k : Scheduled) (p : PointInfo) (m : PointMap) (rest : List (List VerifyError)) (old new : List ℕ) (n : ℕ) (q : Compared (unknownBy k p (mapNumber m)) old new n) where
+  unknown-here : 0 < n → Told k p (unknownRow (unknownBy k p (mapNumber m)) m ∷ rest) (some (IllFormed (UnknownPeers n m))) old new
   unknown-here h =
-      let l = unknownOf k p (some m) in
+      let l = unknownBy k p (mapNumber m) in
       let g = q .count in
       (rw g (sym (row-here (not (isEmpty l)) (IllFormed (UnknownPeers (length l) m)) rest (ap not (not-empty l (λ z. omega arith))))), q .bytes)
 
-  unknown-behind : n ≤ 0 → (e : Option VerifyError) → unknownMap e ≡ none → e ≡ firstOf (concat rest) →
-      Told k p (unknownRow (unknownOf k p (some m)) m ∷ rest) e old new
-  unknown-behind h e u t =
-      let l = unknownOf k p (some m) in
+  unknown-after : n ≤ 0 → (e : Option VerifyError) → tellsOf e ≡ false → e ≡ firstOf (concat rest) →
+      Told k p (unknownRow (unknownBy k p (mapNumber m)) m ∷ rest) e old new
+  unknown-after h e u t =
+      let l = unknownBy k p (mapNumber m) in
       let g = q .count in
       let z : length l ≡ 0 = omega arith in
-      (t ∙ sym (row-behind (not (isEmpty l)) (IllFormed (UnknownPeers (length l) m)) rest (ap not (empty l z))), q .bytes ∙ (put-none old l z ∙ sym (buffer-kept k p e old u)))
+      (t ∙ sym (row-after (not (isEmpty l)) (IllFormed (UnknownPeers (length l) m)) rest (ap not (empty l z))), q .bytes ∙ (put-none old l z ∙ sym (buffer-kept k p e old u)))
 
 -- whether peers are too few, where F is that of the scheduled ones
 module _ (m : PointMap) (many total need len : ℕ) (f : PeerCount) (d : len ≡ many) (e : f .0 ≡ oneF total) where
@@ -106,7 +114,7 @@ module _ (m : PointMap) (many total need len : ℕ) (f : PeerCount) (d : len ≡
 
   enough : need ≤ many → none ≡ firstOf (concat (when (ltb many need) (lack many total m) ∷ []))
   unfolding firstOf concat
-  enough h = sym (row-behind (ltb many need) (lack many total m) [] (le-ltb many need h))
+  enough h = sym (row-after (ltb many need) (lack many total m) [] (le-ltb many need h))
 
 -- ---- evidence
 
@@ -134,17 +142,17 @@ module _ (c : Settings) (k : Scheduled) (p : PointInfo) (old : List ℕ) where
           → Told k p (evidenceRows c k p) e old new
       unfolding evidenceRows
       evidence-above e t =
-          (t .0 ∙ sym (rw (not-empty (p .evidence) some-are) (row-behind (eqb (p .id .round) (c .genesisRound)) _ _ (ne-eqb _ _ above))), t .1)
+          (t .0 ∙ sym (rw (not-empty (p .evidence) some-are) (row-after (eqb (p .id .round) (c .genesisRound)) _ _ (ne-eqb _ _ above))), t .1)
 
       pub evidence-unknown : 0 < n → Told k p (evidenceRows c k p) (some (IllFormed (UnknownPeers n map.Evidence))) old new
       evidence-unknown h = evidence-above _ (unknown-here k p map.Evidence _ old new n q h)
 
       module _ (none-are : n ≤ 0) (len : ℕ) (f : PeerCount) (e : len ≡ length (p .evidence)) (g : f .0 ≡ oneF (length (k .sameRound))) where
         pub evidence-lacks : len < majorityOfOthers (f .0) → Told k p (evidenceRows c k p) (some (IllFormed (LackOfPeers len f map.Evidence))) old new
-        evidence-lacks h = evidence-above _ (unknown-behind k p map.Evidence _ old new n q none-are _ refl (lacking _ _ _ _ len f e g (omega arith)))
+        evidence-lacks h = evidence-above _ (unknown-after k p map.Evidence _ old new n q none-are _ refl (lacking _ _ _ _ len f e g (omega arith)))
 
         pub evidence-enough : majorityOfOthers (f .0) ≤ len → Told k p (evidenceRows c k p) none old new
-        evidence-enough h = evidence-above _ (unknown-behind k p map.Evidence _ old new n q none-are _ refl (enough _ _ _ _ len f e g (omega arith)))
+        evidence-enough h = evidence-above _ (unknown-after k p map.Evidence _ old new n q none-are _ refl (enough _ _ _ _ len f e g (omega arith)))
 
 -- ---- includes
 
@@ -156,11 +164,11 @@ module _ (k : Scheduled) (p : PointInfo) (old new : List ℕ) (n : ℕ) (q : Com
   module _ (none-are : n ≤ 0) (len : ℕ) (f : PeerCount) (e : len ≡ length (p .includes)) (g : f .0 ≡ oneF (length (k .includes))) where
     pub includes-lacks : len < majority (f .0) → Told k p (includesRows k p) (some (IllFormed (LackOfPeers len f map.Includes))) old new
     unfolding includesRows
-    includes-lacks h = unknown-behind k p map.Includes _ old new n q none-are _ refl (lacking _ _ _ _ len f e g (omega arith))
+    includes-lacks h = unknown-after k p map.Includes _ old new n q none-are _ refl (lacking _ _ _ _ len f e g (omega arith))
 
     pub includes-enough : majority (f .0) ≤ len → Told k p (includesRows k p) none old new
     unfolding includesRows
-    includes-enough h = unknown-behind k p map.Includes _ old new n q none-are _ refl (enough _ _ _ _ len f e g (omega arith))
+    includes-enough h = unknown-after k p map.Includes _ old new n q none-are _ refl (enough _ _ _ _ len f e g (omega arith))
 
 -- ---- witness
 
@@ -180,11 +188,11 @@ module _ (c : Settings) (k : Scheduled) (p : PointInfo) (old : List ℕ) where
           Told k p (unknownRow (unknownIn (k .witness) (peers (p .witness))) map.Witness ∷ []) e old new → Told k p (witnessRows c k p) e old new
       unfolding witnessRows
       witness-above e t =
-          (t .0 ∙ sym (rw (not-empty (p .witness) some-are) (row-behind (ltb (p .id .round - 2) (c .genesisRound)) _ _ (le-ltb _ _ above))), t .1)
+          (t .0 ∙ sym (rw (not-empty (p .witness) some-are) (row-after (ltb (p .id .round - 2) (c .genesisRound)) _ _ (le-ltb _ _ above))), t .1)
 
       pub witness-unknown : 0 < n → Told k p (witnessRows c k p) (some (IllFormed (UnknownPeers n map.Witness))) old new
       witness-unknown h = witness-above _ (unknown-here k p map.Witness _ old new n q h)
 
       pub witness-known : n ≤ 0 → Told k p (witnessRows c k p) none old new
       unfolding concat firstOf
-      witness-known h = witness-above _ (unknown-behind k p map.Witness [] old new n q h _ refl refl)
+      witness-known h = witness-above _ (unknown-after k p map.Witness [] old new n q h _ refl refl)

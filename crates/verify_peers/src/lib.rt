@@ -16,12 +16,13 @@ ghost use Rattle.base.specs.Base.{concat, firstOf};
 ghost use Rattle.parts.specs.Parts.{oneF};
 ghost use Rattle.parts.specs.Limits.{peersRoom};
 ghost use Rattle.map.specs.Rows.{peersOf, pairsOf, rising};
-ghost use Rattle.point.specs.Code.{pointOf};
+ghost use Rattle.point.specs.Code.{pointOf, MapsOf};
 ghost use Rattle.point.specs.Reading.{readPoint};
 ghost use Rattle.schedule.specs.Code.{settingsOf, scheduleOf};
 ghost use Rattle.schedule.specs.Schedule.{readSchedule};
-ghost use Rattle.rules.specs.Verify.{Scheduled, includesRound, scheduled, evidenceRows, includesRows, witnessRows, peerRows, bufferWith};
+ghost use Rattle.rules.specs.Verify.{Scheduled, includesRound, evidenceRows, includesRows, witnessRows, bufferWith};
 ghost use Rattle.reasons.specs.Code.{verifiedOf};
+ghost use Rattle.verify_peers.specs.Code.{PeersChecked, BufferAfter};
 
 // F of a scheduled set: it has one peer at genesis.
 fn one_f(total: usize) -> PeerCount
@@ -159,10 +160,10 @@ pub fn check_peers(
 ) -> Verified
     requires { ⌜ readSchedule (now schedule) ≡ some (scheduleOf (now schedule) spans) ⌝ }
     requires { ⌜ readPoint (now rec) ≡ some (pointOf (now rec) info) ⌝ }
-    requires { ⌜ (pairsOf (now includes) ≡ pointOf (now rec) info .includes) × (pairsOf (now witness) ≡ pointOf (now rec) info .witness) × (peersOf 32 (now evidence) ≡ pointOf (now rec) info .evidence) ⌝ }
+    requires { ⌜ MapsOf (pointOf (now rec) info) (now includes) (now witness) (now evidence) ⌝ }
     requires { ⌜ peersRoom ≤ length (now peers) ⌝ }
-    ensures { λ r. ⌜ verifiedOf r ≡ firstOf (concat (peerRows (settingsOf conf) (scheduled (settingsOf conf) (scheduleOf (now (schedule .entry)) spans) (pointOf (now (rec .entry)) info)) (pointOf (now (rec .entry)) info))) ⌝ }
-    ensures { λ r. ⌜ now (peers .exit) ≡ bufferWith (scheduled (settingsOf conf) (scheduleOf (now (schedule .entry)) spans) (pointOf (now (rec .entry)) info)) (pointOf (now (rec .entry)) info) (verifiedOf r) (now (peers .entry)) ⌝ }
+    ensures { λ r. ⌜ PeersChecked conf (now (schedule .entry)) spans (now (rec .entry)) info (verifiedOf r) ⌝ }
+    ensures { λ r. ⌜ BufferAfter conf (now (schedule .entry)) spans (now (rec .entry)) info (verifiedOf r) (now (peers .entry)) (now (peers .exit)) ⌝ }
 {
     let id = info.id;
     let round = id.round;

@@ -15,6 +15,6 @@ module _ (o : Option StructureIssue) where
   unfolding firstOf concat
   issue-here i rest h = rw h
 
-  pub issue-behind : (rest : List (List VerifyError)) → o ≡ none → firstOf (concat (structure o ∷ rest)) ≡ firstOf (concat rest)
+  pub issue-after : (rest : List (List VerifyError)) → o ≡ none → firstOf (concat (structure o ∷ rest)) ≡ firstOf (concat rest)
   unfolding firstOf concat
-  issue-behind rest h = rw h
+  issue-after rest h = rw h

@@ -18,13 +18,14 @@ ghost use mathlib.Core.Bool.{not, _&&_};
 ghost use mathlib.Core.Option.{some};
 ghost use Rattle.parts.specs.Code.{number};
 ghost use Rattle.base.specs.Base.{concat, firstOf, isSome};
-ghost use Rattle.map.specs.Rows.{peersOf, pairsOf};
+ghost use Rattle.map.specs.Rows.{pairsOf};
 ghost use Rattle.map.specs.Code.{foundOf};
 ghost use Rattle.point.specs.Point.{isAnchorTrigger, requiresPrevPoint, digestSafe, prevDigest, stickyAnchors, targetRoundOf};
-ghost use Rattle.point.specs.Code.{throughOf, linkOf, pointOf};
+ghost use Rattle.point.specs.Code.{throughOf, linkOf, pointOf, MapsOf};
 ghost use Rattle.point.specs.Reading.{readPoint};
 ghost use Rattle.schedule.specs.Code.{settingsOf};
-ghost use Rattle.rules.specs.Verify.{linksOwn, isGenesis, isZero, genesisStructureRows, pointMap, targetTooNew, badLink, equal, ownPointRows, linkRows, structureRows, genesisRows, stickyFault, aboveRows, wellFormedRows};
+ghost use Rattle.rules.specs.Verify.{linksOwn, isGenesis, isZero, genesisStructureRows, pointMap, targetTooNew, badLink, equal, ownPointRows, linkRows};
+ghost use Rattle.rules.specs.Verify.{structureRows, genesisRows, stickyFault, aboveRows, wellFormedRows};
 ghost use Rattle.reasons.specs.Code.{verifiedOf, checkedOf};
 
 fn is_genesis(role: PointRole) -> bool
@@ -208,7 +209,7 @@ fn check_own_points(
     info: PointInfo,
 ) -> Checked
     requires { ⌜ readPoint (now rec) ≡ some (pointOf (now rec) info) ⌝ }
-    requires { ⌜ (pairsOf (now includes) ≡ pointOf (now rec) info .includes) × (pairsOf (now witness) ≡ pointOf (now rec) info .witness) × (peersOf 32 (now evidence) ≡ pointOf (now rec) info .evidence) ⌝ }
+    requires { ⌜ MapsOf (pointOf (now rec) info) (now includes) (now witness) (now evidence) ⌝ }
     ensures { λ r. ⌜ checkedOf r ≡ firstOf (concat (ownPointRows (pointOf (now (rec .entry)) info))) ⌝ }
 {
     let id = info.id;
@@ -263,7 +264,7 @@ fn check_structure(
     info: PointInfo,
 ) -> Checked
     requires { ⌜ readPoint (now rec) ≡ some (pointOf (now rec) info) ⌝ }
-    requires { ⌜ (pairsOf (now includes) ≡ pointOf (now rec) info .includes) × (pairsOf (now witness) ≡ pointOf (now rec) info .witness) × (peersOf 32 (now evidence) ≡ pointOf (now rec) info .evidence) ⌝ }
+    requires { ⌜ MapsOf (pointOf (now rec) info) (now includes) (now witness) (now evidence) ⌝ }
     ensures { λ r. ⌜ checkedOf r ≡ firstOf (concat (structureRows (pointOf (now (rec .entry)) info))) ⌝ }
 {
     let role = info.role;
@@ -341,7 +342,7 @@ fn check_above_genesis(
     info: PointInfo,
 ) -> Verified
     requires { ⌜ readPoint (now rec) ≡ some (pointOf (now rec) info) ⌝ }
-    requires { ⌜ (pairsOf (now includes) ≡ pointOf (now rec) info .includes) × (pairsOf (now witness) ≡ pointOf (now rec) info .witness) × (peersOf 32 (now evidence) ≡ pointOf (now rec) info .evidence) ⌝ }
+    requires { ⌜ MapsOf (pointOf (now rec) info) (now includes) (now witness) (now evidence) ⌝ }
     ensures { λ r. ⌜ verifiedOf r ≡ firstOf (concat (aboveRows (settingsOf conf) (pointOf (now (rec .entry)) info))) ⌝ }
 {
     let id = info.id;
@@ -379,7 +380,7 @@ pub fn check_well_formed(
     info: PointInfo,
 ) -> Verified
     requires { ⌜ readPoint (now rec) ≡ some (pointOf (now rec) info) ⌝ }
-    requires { ⌜ (pairsOf (now includes) ≡ pointOf (now rec) info .includes) × (pairsOf (now witness) ≡ pointOf (now rec) info .witness) × (peersOf 32 (now evidence) ≡ pointOf (now rec) info .evidence) ⌝ }
+    requires { ⌜ MapsOf (pointOf (now rec) info) (now includes) (now witness) (now evidence) ⌝ }
     ensures { λ r. ⌜ verifiedOf r ≡ firstOf (concat (wellFormedRows (settingsOf conf) (pointOf (now (rec .entry)) info))) ⌝ }
 {
     let id = info.id;

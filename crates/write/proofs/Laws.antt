@@ -105,9 +105,9 @@ put-put l at xs ys n e h =
     ∙ (sym (sets-append l at xs ys) ∙ put-is l at (xs ++ ys) k)))
 
 -- a run right after what is there already
-pub put-behind : (xs ys vs : List ℕ) (n : ℕ) → length xs ≡ n → putAt (xs ++ ys) n vs ≡ (xs ++ vs) ++ drop (length vs) ys
+pub put-after : (xs ys vs : List ℕ) (n : ℕ) → length xs ≡ n → putAt (xs ++ ys) n vs ≡ (xs ++ vs) ++ drop (length vs) ys
 unfolding putAt
-put-behind xs ys vs n e =
+put-after xs ys vs n e =
     rw (take-at xs ys n e) (ap (λ (r : List ℕ). xs ++ vs ++ r) (ap (λ (k : ℕ). drop (k + length vs) (xs ++ ys)) (sym e) ∙ drop-append-add xs ys (length vs)))
 
 -- a run that was written is read back

@@ -20,9 +20,12 @@ pub extern "C" fn wutherdish_verify(
     peers: &mut [u8],
     answer: &mut [u8; 114],
 ) -> u8
-    ensures { λ r. ⌜ r ≡ verifyNumber (verifyWith (tested (now (settings .entry)) (now (schedule .entry)) (now (rec .entry)) true (length (now (peers .entry))))) ⌝ }
-    ensures { λ r. ⌜ now (answer .exit) ≡ verifyAnswer (verifyWith (tested (now (settings .entry)) (now (schedule .entry)) (now (rec .entry)) true (length (now (peers .entry))))) (now (answer .entry)) ⌝ }
-    ensures { λ r. ⌜ now (peers .exit) ≡ verifyBuffer (tested (now (settings .entry)) (now (schedule .entry)) (now (rec .entry)) true (length (now (peers .entry)))) (now (peers .entry)) ⌝ }
+    ensures { λ r. ⌜ r ≡ verifyNumber
+        (verifyWith (tested (now (settings .entry)) (now (schedule .entry)) (now (rec .entry)) true (length (now (peers .entry))))) ⌝ }
+    ensures { λ r. ⌜ now (answer .exit) ≡ verifyAnswer
+        (verifyWith (tested (now (settings .entry)) (now (schedule .entry)) (now (rec .entry)) true (length (now (peers .entry))))) (now (answer .entry)) ⌝ }
+    ensures { λ r. ⌜ now (peers .exit) ≡ verifyBuffer
+        (tested (now (settings .entry)) (now (schedule .entry)) (now (rec .entry)) true (length (now (peers .entry)))) (now (peers .entry)) ⌝ }
 {
     let verified = verify::verify(settings, schedule, rec, peers);
     match verified {
@@ -46,9 +49,16 @@ pub extern "C" fn wutherdish_judge(
     peers: &mut [u8],
     answer: &mut [u8; 114],
 ) -> u8
-    ensures { λ r. ⌜ r ≡ judgeNumber (judgeWith leader presence (now (list .entry)) (tested (now (settings .entry)) (now (schedule .entry)) (now (rec .entry)) (flagsOk leader presence) (length (now (peers .entry))))) ⌝ }
-    ensures { λ r. ⌜ now (answer .exit) ≡ judgeAnswer (judgeWith leader presence (now (list .entry)) (tested (now (settings .entry)) (now (schedule .entry)) (now (rec .entry)) (flagsOk leader presence) (length (now (peers .entry))))) (now (answer .entry)) ⌝ }
-    ensures { λ r. ⌜ now (peers .exit) ≡ verifyBuffer (tested (now (settings .entry)) (now (schedule .entry)) (now (rec .entry)) (flagsOk leader presence) (length (now (peers .entry)))) (now (peers .entry)) ⌝ }
+    ensures { λ r. ⌜ r ≡ judgeNumber
+        (judgeWith leader presence (now (list .entry))
+        (tested (now (settings .entry)) (now (schedule .entry)) (now (rec .entry)) (flagsOk leader presence) (length (now (peers .entry))))) ⌝ }
+    ensures { λ r. ⌜ now (answer .exit) ≡ judgeAnswer
+        (judgeWith leader presence (now (list .entry))
+        (tested (now (settings .entry)) (now (schedule .entry)) (now (rec .entry)) (flagsOk leader presence) (length (now (peers .entry)))))
+        (now (answer .entry)) ⌝ }
+    ensures { λ r. ⌜ now (peers .exit) ≡ verifyBuffer
+        (tested (now (settings .entry)) (now (schedule .entry)) (now (rec .entry)) (flagsOk leader presence) (length (now (peers .entry))))
+        (now (peers .entry)) ⌝ }
 {
     let judged = judge::judge(settings, schedule, rec, leader, presence, list, peers);
     match judged {
@@ -79,10 +89,14 @@ pub extern "C" fn wutherdish_offer(
     peers: &mut [u8],
     answer: &mut [u8; 114],
 ) -> u8
-    ensures { λ r. ⌜ r ≡ judgeNumber (offerBytes (now (book .entry)) (offerOf (now (schedule .entry)) leader (now (rec .entry)) (now (peers .entry))) .answer) ⌝ }
-    ensures { λ r. ⌜ now (answer .exit) ≡ judgeAnswer (offerBytes (now (book .entry)) (offerOf (now (schedule .entry)) leader (now (rec .entry)) (now (peers .entry))) .answer) (now (answer .entry)) ⌝ }
-    ensures { λ r. ⌜ now (peers .exit) ≡ offerBytes (now (book .entry)) (offerOf (now (schedule .entry)) leader (now (rec .entry)) (now (peers .entry))) .peers ⌝ }
-    ensures { λ r. ⌜ now (book .exit) ≡ offerBytes (now (book .entry)) (offerOf (now (schedule .entry)) leader (now (rec .entry)) (now (peers .entry))) .bytes ⌝ }
+    ensures { λ r. ⌜ r ≡ judgeNumber
+        (offerBytes (now (book .entry)) (offerOf (now (schedule .entry)) leader (now (rec .entry)) (now (peers .entry))) .answer) ⌝ }
+    ensures { λ r. ⌜ now (answer .exit) ≡ judgeAnswer
+        (offerBytes (now (book .entry)) (offerOf (now (schedule .entry)) leader (now (rec .entry)) (now (peers .entry))) .answer) (now (answer .entry)) ⌝ }
+    ensures { λ r. ⌜ now (peers .exit) ≡ offerBytes (now (book .entry))
+        (offerOf (now (schedule .entry)) leader (now (rec .entry)) (now (peers .entry))) .peers ⌝ }
+    ensures { λ r. ⌜ now (book .exit) ≡ offerBytes (now (book .entry))
+        (offerOf (now (schedule .entry)) leader (now (rec .entry)) (now (peers .entry))) .after ⌝ }
 {
     let judged = book::offer(book, schedule, leader, rec, peers);
     match judged {

@@ -37,9 +37,9 @@ pub struct Offers<'a> {
 impl<'a> Feed<'a> {
     /// The feed that some bytes are.
     pub fn read(bytes: &'a [u8]) -> Result<Self, Unreadable> {
-        let (network, behind) = Settings::read(bytes)?;
-        let (spans, points) = Schedule::read(behind).map_err(|unreadable| further(unreadable, SETTINGS))?;
-        let schedule = &behind[..behind.len() - points.len()];
+        let (network, after) = Settings::read(bytes)?;
+        let (spans, points) = Schedule::read(after).map_err(|unreadable| further(unreadable, SETTINGS))?;
+        let schedule = &after[..after.len() - points.len()];
         Ok(Self { front: (network, spans), settings: &bytes[..SETTINGS], schedule, bytes })
     }
 
@@ -53,12 +53,12 @@ impl<'a> Iterator for Offers<'a> {
     type Item = Result<Offer<'a>, Unreadable>;
 
     fn next(&mut self) -> Option<Self::Item> {
-        let (&leader, behind) = self.bytes.get(self.at..)?.split_first()?;
+        let (&leader, after) = self.bytes.get(self.at..)?.split_first()?;
         let start = self.at + 1;
         self.place += 1;
-        match Point::read(behind) {
+        match Point::read(after) {
             Ok((point, rest)) => {
-                let record = &behind[..behind.len() - rest.len()];
+                let record = &after[..after.len() - rest.len()];
                 self.at = start + record.len();
                 Some(Ok(Offer { place: self.place, leader, record, point, end: self.at }))
             }

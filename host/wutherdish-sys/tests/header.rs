@@ -21,8 +21,8 @@ fn words(path: &str, comment: (&str, &str)) -> String {
 
 /// What stands between the brackets of a call, parameter by parameter.
 fn parameters(code: &str, call: &str) -> Vec<String> {
-    let (_, behind) = code.split_once(&format!("{call}(")).expect("the call is declared");
-    let (inside, _) = behind.split_once(')').expect("a bracket that closes");
+    let (_, after) = code.split_once(&format!("{call}(")).expect("the call is declared");
+    let (inside, _) = after.split_once(')').expect("a bracket that closes");
     inside.split(',').map(|parameter| parameter.trim().to_string()).filter(|parameter| !parameter.is_empty()).collect()
 }
 

@@ -16,7 +16,7 @@ pub struct Unreadable {
 
 impl Unreadable {
     /// The same fault, in bytes that stand after others.
-    pub(crate) fn behind(self, others: usize) -> Self {
+    pub(crate) fn after(self, others: usize) -> Self {
         Self { at: others + self.at, ..self }
     }
 }

@@ -83,19 +83,19 @@ pub(crate) fn read(book: &[u8]) -> Result<Vec<Kept>, Unreadable> {
     let mut kept = Vec::new();
     while rest.first().is_some_and(|first| *first != 0) {
         let at = book.len() - rest.len();
-        let (entry, behind) = read_entry(rest).map_err(|unreadable| unreadable.behind(at))?;
+        let (entry, after) = read_entry(rest).map_err(|unreadable| unreadable.after(at))?;
         kept.push(entry);
-        rest = behind;
+        rest = after;
     }
     Ok(kept)
 }
 
 fn read_entry(bytes: &[u8]) -> Result<(Kept, &[u8]), Unreadable> {
-    let (point, behind) = Point::read(bytes)?;
-    let at = bytes.len() - behind.len();
-    let mut fields = Fields::new(behind);
+    let (point, after) = Point::read(bytes)?;
+    let at = bytes.len() - after.len();
+    let mut fields = Fields::new(after);
     let verdict = fields.read(33, "a kept point's verdict, tag 33 with 105 bytes", read_verdict);
-    let (status, certified) = verdict.map_err(|unreadable| unreadable.behind(at))?;
+    let (status, certified) = verdict.map_err(|unreadable| unreadable.after(at))?;
     Ok((Kept { point, status, certified }, fields.rest()))
 }
 

@@ -129,9 +129,9 @@ impl Entry {
 
     /// An entry at the front of the bytes, in the domain, and what stands after it.
     pub fn read(bytes: &[u8], mistake: Option<Mistake>) -> Option<(Self, &[u8])> {
-        let (point, behind) = read::record_front(bytes)?;
-        let record = bytes[..bytes.len() - behind.len()].to_vec();
-        let (head, rest) = behind.split_first_chunk()?;
+        let (point, after) = read::record_front(bytes)?;
+        let record = bytes[..bytes.len() - after.len()].to_vec();
+        let (head, rest) = after.split_first_chunk()?;
         if *head != [TAG, CONTENT as u8, 0] {
             return None;
         }

@@ -33,16 +33,16 @@ impl Book {
         }
         let mut ids = HashSet::new();
         while rest.first().is_some_and(|byte| *byte != 0) {
-            let (entry, behind) = Entry::read(rest, mistake)?;
+            let (entry, after) = Entry::read(rest, mistake)?;
             let twice = !ids.insert(entry.id) && !book.made(Mistake::IdTwice);
             let too_many = book.entries.len() == MOST && !book.made(Mistake::MoreEntries);
             if too_many || twice {
                 return None;
             }
             book.entries.push(entry);
-            rest = behind;
+            rest = after;
         }
-        let ended = book.made(Mistake::AnythingBehind) || rest.iter().all(|byte| *byte == 0);
+        let ended = book.made(Mistake::AnythingAfter) || rest.iter().all(|byte| *byte == 0);
         ended.then_some(book)
     }
 

@@ -62,7 +62,7 @@ plain::mistakes! {
     /// another version of a kept point is refused as kept
     VersionIsKept,
     /// in reading, what stands after the entries is not tested
-    AnythingBehind,
+    AnythingAfter,
     /// in reading, an id may stand twice
     IdTwice,
     /// in reading, there may be more entries
@@ -88,6 +88,6 @@ plain::mistakes! {
 impl Mistake {
     /// Whether it is made in reading a book's bytes, so that only damaged books notice it.
     pub fn is_in_reading(self) -> bool {
-        self as usize >= Self::AnythingBehind as usize
+        self as usize >= Self::AnythingAfter as usize
     }
 }

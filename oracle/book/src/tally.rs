@@ -21,15 +21,15 @@ pub fn tally(input: &[u8]) -> String {
     let mut place = 0;
     while let Some((leader, rest)) = points.split_first() {
         place += 1;
-        let Some((point, behind)) = read::record_front(rest) else {
+        let Some((point, after)) = read::record_front(rest) else {
             let _ = writeln!(out, "{place} 0 - 0 {RECORD}");
             break;
         };
-        let record = rest[..rest.len() - behind.len()].to_vec();
+        let record = rest[..rest.len() - after.len()].to_vec();
         let offer = Offer { schedule: schedule.to_vec(), leader: *leader, record, peer_buffer: PEER_BUFFER };
         let answer = book.offer(&offer).answer;
         let _ = writeln!(out, "{place} {}", line(&point, &answer));
-        points = behind;
+        points = after;
     }
     let _ = writeln!(out, "end {}", book.entries().len());
     out

@@ -66,12 +66,12 @@ fn stored_input() -> Vec<u8> {
     let mut input = feed.clone();
     let mut rest = points;
     while let Some((leader, record)) = rest.split_first() {
-        let (_, behind) = read::record_front(record).expect("the feed's records are readable");
-        let mut version = record[..record.len() - behind.len()].to_vec();
+        let (_, after) = read::record_front(record).expect("the feed's records are readable");
+        let mut version = record[..record.len() - after.len()].to_vec();
         version[DIGEST] ^= 1;
         input.push(*leader);
         input.extend(version);
-        rest = behind;
+        rest = after;
     }
     input.extend(&points[..100]);
     input

@@ -227,8 +227,8 @@ pub fn list(bytes: &[u8]) -> Option<Vec<Entry>> {
     let mut entries: Vec<Entry> = Vec::new();
     while rest.end().is_none() {
         let entry = entry(&mut rest)?;
-        let behind_indirect = entries.last().is_some_and(|before| before.indirect.is_some());
-        if entries.len() == 65_535 || (behind_indirect && entry.indirect.is_none()) {
+        let after_indirect = entries.last().is_some_and(|before| before.indirect.is_some());
+        if entries.len() == 65_535 || (after_indirect && entry.indirect.is_none()) {
             return None;
         }
         entries.push(entry);

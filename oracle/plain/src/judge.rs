@@ -180,7 +180,7 @@ impl Rules<'_> {
         if prev == Some(id) {
             self.is_proof_ok(dependency, regular_required, found);
         }
-        if !self.made(Mistake::TimeBehindAnchors) {
+        if !self.made(Mistake::TimeAfterAnchors) {
             self.check_time(dependency, found);
         }
         let mut roles = AnchorStageRole::ALL;
@@ -190,7 +190,7 @@ impl Rules<'_> {
         for role in roles {
             self.check_newer(dependency, role, found);
         }
-        if self.made(Mistake::TimeBehindAnchors) {
+        if self.made(Mistake::TimeAfterAnchors) {
             self.check_time(dependency, found);
         }
         if self.made(Mistake::SourcesFirst) {

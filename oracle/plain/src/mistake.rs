@@ -158,7 +158,7 @@ mistakes! {
     /// the newest anchor of a dependency is its link's target
     TopIsTarget,
     /// 11 is tested after 12
-    TimeBehindAnchors,
+    TimeAfterAnchors,
     /// the trigger's 12 is tested before the proof's
     TriggerAnchorFirst,
     /// sources are tested before targets

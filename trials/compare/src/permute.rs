@@ -18,10 +18,10 @@ pub fn permuted(seed: u64, place: u64) -> Vec<Case> {
     if direct.len().max(indirect.len()) > LONGEST {
         return Vec::new();
     }
-    let orders_behind = orders(indirect);
+    let orders_after = orders(indirect);
     orders(direct)
         .iter()
-        .flat_map(|front| orders_behind.iter().map(|behind| with_list(&case, &[&front[..], behind].concat())))
+        .flat_map(|front| orders_after.iter().map(|after| with_list(&case, &[&front[..], after].concat())))
         .collect()
 }
 

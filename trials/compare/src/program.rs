@@ -94,7 +94,7 @@ fn run(program: &str, input: &[u8], random: &mut Random) -> std::io::Result<Vec<
         let reader = scope.spawn(|| output.read_to_end(&mut printed));
         let mut rest = input;
         while !rest.is_empty() {
-            let (piece, behind) = rest.split_at((1 + random.below(longest)).min(rest.len()));
+            let (piece, after) = rest.split_at((1 + random.below(longest)).min(rest.len()));
             // an unreadable record ends the reading
             if pipe.write_all(piece).is_err() {
                 break;
@@ -102,7 +102,7 @@ fn run(program: &str, input: &[u8], random: &mut Random) -> std::io::Result<Vec<
             if pause && random.chance(1, 16) {
                 thread::sleep(Duration::from_millis(1));
             }
-            rest = behind;
+            rest = after;
         }
         drop(pipe);
         reader.join().expect("reading doesn't panic")

@@ -41,7 +41,7 @@ pub fn faulty(what: &str, folder: &str) -> Result<(), String> {
     let (mut model, mut fault) = (Model::default(), None);
     match what {
         "mistaken judge" => model.judge_mistake = Some(plain::Mistake::IncludesSet),
-        "mistaken book" => model.book_mistake = Some(book::Mistake::AnythingBehind),
+        "mistaken book" => model.book_mistake = Some(book::Mistake::AnythingAfter),
         _ => fault = Some(Fault::WriteInside(Lent::Record)),
     }
     let plan = Plan { seed: SEED, runs: RUNS, is_led: true, folder: PathBuf::from(folder), model, fault };

@@ -49,10 +49,10 @@ fn records(list: &[u8]) -> Vec<Vec<u8>> {
     let (mut records, mut rest) = (Vec::new(), list);
     while let Some(head) = rest.first_chunk::<3>() {
         if head[0] == 1
-            && let Some((_, behind)) = read::record_front(rest)
+            && let Some((_, after)) = read::record_front(rest)
         {
-            records.push(rest[..rest.len() - behind.len()].to_vec());
-            rest = behind;
+            records.push(rest[..rest.len() - after.len()].to_vec());
+            rest = after;
             continue;
         }
         let length = 3 + usize::from(u16::from_le_bytes([head[1], head[2]]));

@@ -1,6 +1,6 @@
 -- `of_fail` meets its contract by those of what it calls.
 use mathlib.Core.Path.{ap, _∙_}
-use Rattle.rules.specs.Answer.{plain}
+use Rattle.answer.specs.Code.{plain}
 use borrow.Author.Needs.{needs}
 use Rattle.answer.proofs.of_fail.Statement.{statement}
 use Rattle.answer.proofs.of_fail.Tie as tie

@@ -1,7 +1,8 @@
 -- `of_verdict` meets its contract: each arm gives the answer of its case.
 use mathlib.Core.Path.{ap, _∙_}
-use Rattle.rules.specs.Answer.{named, plain}
-use Rattle.answer.specs.Code.{valuesOf}
+use Rattle.reasons.specs.Code.{reasonOf}
+use Rattle.answer.specs.Code.{valuesOf, named, plain}
+use Rattle.answer.proofs.Laws.{ill-formed-parts, invalid-parts}
 use borrow.Author.Needs.{needs}
 use Rattle.answer.proofs.of_verdict.Statement.{statement}
 use Rattle.answer.proofs.of_verdict.Tie as tie
@@ -61,7 +62,7 @@ returns-2 : tie.Need-returns-2
 returns-2 c =
     let e = c .before .before .before .before in
     c .plain .ensures
-    ∙ (ap (plain 3 (c .before .before .number .result)) (c .before .of-ill-formed .ensures) ∙ rw (c .before .before .number .ensures, e .verdict2 .given .1))
+    ∙ (ap (plain 3 (c .before .before .number .result)) (c .before .of-ill-formed .ensures) ∙ rw (c .before .before .number .ensures, e .verdict2 .given .1) (ill-formed-parts (e .verdict2 .given .0 .0)))
 
 returns-3 : tie.Need-returns-3
 returns-3 c =
@@ -70,7 +71,7 @@ returns-3 c =
     let n = i .before in
     c .named .ensures
     ∙ (ap (λ id. named 2 (n .number2 .result) id (valuesOf (v .result))) (i .id-of .ensures)
-    ∙ (ap (named 2 (n .number2 .result) _) (v .ensures) ∙ rw (n .number2 .ensures, n .before .before .verdict3 .given .1)))
+    ∙ (ap (named 2 (n .number2 .result) _) (v .ensures) ∙ rw (n .number2 .ensures, n .before .before .verdict3 .given .1) (invalid-parts (reasonOf (n .before .before .verdict3 .given .0 .0)))))
 
 returns-4 : tie.Need-returns-4
 returns-4 c = c .of-dependency .ensures ∙ rw (c .before .before .verdict4 .given .1)

@@ -1,6 +1,7 @@
 -- `of_verified` meets its contract: each arm gives the answer of its case.
 use mathlib.Core.Path.{ap, _∙_}
-use Rattle.rules.specs.Answer.{plain}
+use Rattle.answer.specs.Code.{plain}
+use Rattle.answer.proofs.Laws.{ill-formed-parts}
 use borrow.Author.Needs.{needs}
 use Rattle.answer.proofs.of_verified.Statement.{statement}
 use Rattle.answer.proofs.of_verified.Tie as tie
@@ -47,7 +48,7 @@ returns-3 : tie.Need-returns-3
 returns-3 c =
     let e = c .before .before .before .before in
     c .plain2 .ensures
-    ∙ (ap (plain 3 (c .before .before .number .result)) (c .before .of-ill-formed .ensures) ∙ rw (c .before .before .number .ensures, e .before .before .before .verified .given .1, e .error2 .given .1))
+    ∙ (ap (plain 3 (c .before .before .number .result)) (c .before .of-ill-formed .ensures) ∙ rw (c .before .before .number .ensures, e .before .before .before .verified .given .1, e .error2 .given .1) (ill-formed-parts (e .error2 .given .0 .0)))
 
 pub of-verified-spec : {M : Type 1} → statement M
 of-verified-spec =

@@ -3,8 +3,8 @@ use mathlib.Core.Path.{_≡_, ap, sym, _∙_}
 use denote.Ref.{now}
 use Rattle.point.specs.Point.{PointInfo}
 use Rattle.judge.specs.Code.{judgeAnswerOf}
-use Rattle.books.specs.Offer.{leftFrom}
 use Rattle.book_layout.specs.Code.{leftOf}
+use Rattle.book.specs.Code.{leftFrom}
 use Rattle.book.proofs.OfferLaws.{left-none, left-one}
 use borrow.Author.Needs.{needs}
 use Rattle.book.proofs.keep.Statement.{statement}

@@ -57,8 +57,8 @@ read-entry-requires c κs =
     let l = c .before .before .before .before .before in
     (l .loop .inv, (begin l .pre .0 .1, sym (c .before .before .before .before .is-entry-at .ensures) ∙ c .before .before .before .if1 .taken))
 
-enum-known-behind : tie.Need-enum-known-behind Inv-loop μ-loop
-enum-known-behind c = search needs
+enum-known-after : tie.Need-enum-known-after Inv-loop μ-loop
+enum-known-after c = search needs
 
 enum-told : tie.Need-enum-told Inv-loop μ-loop
 enum-told c = search needs
@@ -77,8 +77,8 @@ returns c = told (refused c) _ (c .enum-told .given .1)
 
 one-more : (c : tie.After-known-told Inv-loop μ-loop) → let t = turn (added c) in
     let l = added c .read-entry .last .1 .1 .1 in
-    Reading (now (begin t .args .book)) (t .loop .n + 1) (c .before .behind .given .0 .0) (l .0) (l .1 .0) (l .1 .1 .0)
-one-more c = told (added c) _ (c .before .behind .given .1)
+    Reading (now (begin t .args .book)) (t .loop .n + 1) (c .before .after .given .0 .0) (l .0) (l .1 .0) (l .1 .1 .0)
+one-more c = told (added c) _ (c .before .after .given .1)
 
 add-n : tie.Need-add-n Inv-loop μ-loop
 add-n c = omega (arith, turn (added c) .loop .inv .index .room)
@@ -110,7 +110,7 @@ read-entries-spec =
     loop-holds
     is-entry-at-requires
     read-entry-requires
-    enum-known-behind
+    enum-known-after
     enum-told
     same-length
     same-length-2

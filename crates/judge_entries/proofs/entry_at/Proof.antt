@@ -3,6 +3,7 @@ use Prim.Native.Nat.{ℕ, _-_, _+_, _≤_}
 use native.Mathlib.Omega.{arith}
 use mathlib.Core.Path.{_≡_, ap, sym, _∙_}
 use mathlib.Core.Bool.{true}
+use mathlib.Core.Option.{Option·map}
 use mathlib.Core.List.{List}
 use lib.ListN.{length, getD, take, drop, length-drop}
 use denote.Ref.{now}
@@ -10,9 +11,9 @@ use borrow.Author.Needs.{needs}
 use borrow.Author.Tests.{not-true, not-false}
 use Rattle.base.proofs.Lists.{rest}
 use Rattle.record.specs.Record.{fieldRow, fieldOk}
-use Rattle.rules.specs.List.{readState, listedWith, entryAt}
+use Rattle.rules.specs.List.{readState, entryAt}
 use Rattle.judge_entries.specs.Code.{aimOf, readStatedOf}
-use Rattle.judge_entries.proofs.Laws.{fixed, entry-unfit, entry-certified, entry-first, entry-flagged, listed-none, listed-some, listed-placed, placed-stated}
+use Rattle.judge_entries.proofs.Laws.{fixed, entry-unfit, entry-certified, entry-first, entry-flagged, listedAs, listed-none, listed-some, listed-placed, placed-stated}
 use Rattle.judge_entries.proofs.entry_at.Statement.{statement}
 use Rattle.judge_entries.proofs.entry_at.Tie as tie
 
@@ -35,7 +36,7 @@ part c = let s = slice (flags c) in take (length s - 7) (drop 7 s)
 flagged : (c : tie.Else3) →
     let a = flags c .before .before .before .args in
     let s = now (a .s) in
-    entryAt (aimOf (a .aim)) (a .front) s ≡ listedWith (aimOf (a .aim)) (a .front) s (readState (getD s 3 0) (getD s 6 0) (drop 7 s))
+    entryAt (aimOf (a .aim)) (a .front) s ≡ Option·map (listedAs (aimOf (a .aim)) (a .front) s) (readState (getD s 3 0) (getD s 6 0) (drop 7 s))
 flagged c = entry-flagged _ _ _ (fits (flags c)) (c .before .if2 .left) (c .if3 .left)
 
 -- what stands after the flags

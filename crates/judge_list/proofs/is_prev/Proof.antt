@@ -1,8 +1,9 @@
 -- `is_prev` meets its contract: each `return` is one part of the id.
 use Prim.Native.Nat.{ℕ, _-_}
 use mathlib.Core.Option.{Option}
-use Rattle.point.specs.Point.{PointId, prevIdWith}
+use Rattle.point.specs.Point.{PointId}
 use Rattle.point.specs.Code.{pointIdOf}
+use Rattle.judge_list.specs.Code.{prevOf}
 use mathlib.Core.Path.{_≡_, ap, sym, _∙_}
 use mathlib.Core.Bool.{true}
 use lib.Dec.{eqb}
@@ -66,7 +67,7 @@ returns-3 c =
     let f = e .before .before in
     let b = start f in
     c .same2 .ensures
-    ∙ sym (ap (λ o. isId (prevIdWith (own b) (foundOf o)) (other b)) (t .prev-digest .given .1)
+    ∙ sym (ap (λ o. isId (prevOf (own b) (foundOf o)) (other b)) (t .prev-digest .given .1)
     ∙ prev-digest (own b) (other b) _ (round f) (author e))
 
 returns-4 : tie.Need-returns-4

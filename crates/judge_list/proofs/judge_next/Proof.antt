@@ -49,7 +49,7 @@ returns c =
     let r = c .before .before in
     let a = start r .args in
     let e = sym (r .read-entry .ensures .0) ∙ ap (readListedOf (slice r)) (c .enum-told .given .1) in
-    (sym (next-unread (settingsOf (a .conf)) (a .required) (viewedOf (a .p) (a .info)) (a .behind) (walkOf (a .walk)) (readEntry (slice r)) e), tt)
+    (sym (next-unread (settingsOf (a .conf)) (a .required) (viewedOf (a .p) (a .info)) (a .indirect-seen) (walkOf (a .walk)) (readEntry (slice r)) e), tt)
 
 is-in-order-requires : tie.Need-is-in-order-requires
 is-in-order-requires c κs = search needs
@@ -61,7 +61,7 @@ returns-2 c =
     let r = x .before .before in
     let a = start r .args in
     let o = sym (k .is-in-order .ensures) ∙ not-true _ (c .if1 .taken) in
-    (sym (next-disordered (settingsOf (a .conf)) (a .required) (viewedOf (a .p) (a .info)) (a .behind) (walkOf (a .walk)) (readEntry (slice r)) (listedOf (slice r) (x .x .given .0 .0)) (entry x) o), tt)
+    (sym (next-disordered (settingsOf (a .conf)) (a .required) (viewedOf (a .p) (a .info)) (a .indirect-seen) (walkOf (a .walk)) (readEntry (slice r)) (listedOf (slice r) (x .x .given .0 .0)) (entry x) o), tt)
 
 sub-step : tie.Need-sub-step
 sub-step c = placed (c .before .before .before) .1 .ordered
@@ -87,7 +87,7 @@ returns-3 c =
     let r = x .before .before in
     let a = start r .args in
     let o = sym (k .is-in-order .ensures) ∙ not-false _ (f .if1 .left) in
-    (next-ordered (settingsOf (a .conf)) (a .required) (viewedOf (a .p) (a .info)) (a .behind) (walkOf (a .walk)) (readEntry (slice r)) (listedOf (slice r) (x .x .given .0 .0)) (entry x) o _ _ (t .step .ensures (slice r) refl) (c .is-target .ensures), (placed x .0, placed x .1 .inside))
+    (next-ordered (settingsOf (a .conf)) (a .required) (viewedOf (a .p) (a .info)) (a .indirect-seen) (walkOf (a .walk)) (readEntry (slice r)) (listedOf (slice r) (x .x .given .0 .0)) (entry x) o _ _ (t .step .ensures (slice r) refl) (c .is-target .ensures), (placed x .0, placed x .1 .inside))
 
 pub judge-next-spec : {M : Type 1} → statement M
 judge-next-spec =

@@ -2,6 +2,7 @@
 use Prim.Native.Nat.{ℕ, _+_, _-_, _≤_, _<_}
 use native.Mathlib.Omega.{arith}
 use mathlib.Core.Path.{_≡_, refl, ap, sym, _∙_}
+use mathlib.Core.Bool.{false}
 use mathlib.Core.List.{List}
 use lib.ListN.{length, drop, length-drop}
 use lib.Seq.{drop-drop}
@@ -18,13 +19,13 @@ use Rattle.judge_list.proofs.walk_list.Statement.{statement}
 use Rattle.judge_list.proofs.walk_list.Tie as tie
 
 abbrev Inv-loop : tie.InvT-loop
-Inv-loop conf required rec info list p walk₀ behind₀ left₀ at₀ walk behind left at =
+Inv-loop conf required rec info list p walk₀ indirectSeen₀ left₀ at₀ walk indirectSeen left at =
     (at ≤ length list)
-    × (walkWith (settingsOf conf) required (viewedOf p info) (walkOf walk) (listFrom left behind (drop at list))
+    × (walkWith (settingsOf conf) required (viewedOf p info) (walkOf walk) (listFrom left indirectSeen (drop at list))
     ≡ walkWith (settingsOf conf) required (viewedOf p info) walkStart (readList list))
 
 abbrev μ-loop : tie.MeasureT-loop
-μ-loop conf required rec info list p walk₀ behind₀ left₀ at₀ walk behind left at = length list - at
+μ-loop conf required rec info list p walk₀ indirectSeen₀ left₀ at₀ walk indirectSeen left at = length list - at
 
 abbrev start : tie.At-loop Inv-loop μ-loop → tie.Start Inv-loop μ-loop
 start l = l .before .before .before .before
@@ -44,7 +45,7 @@ left l = drop (l .loop .at) (list l)
 
 -- the walk over the whole list is that over the point's own view
 whole : (l : tie.At-loop Inv-loop μ-loop) →
-    walkWith (conf l) (start l .args .required) (point l) (walkOf (l .loop .walk)) (listFrom (l .loop .left) (l .loop .behind) (left l))
+    walkWith (conf l) (start l .args .required) (point l) (walkOf (l .loop .walk)) (listFrom (l .loop .left) (l .loop .indirect-seen) (left l))
     ≡ walkWith (conf l) (start l .args .required) (viewed (pointOf (now (start l .args .rec)) (start l .args .info))) walkStart (readList (list l))
 whole l =
     l .loop .inv .1
@@ -53,10 +54,10 @@ whole l =
 -- what the next entry gave
 next : (c : tie.After-judge-next Inv-loop μ-loop) →
     let l = c .before .before .before .before in
-    nextOf (c .judge-next .result) ≡ nextWith (conf l) (start l .args .required) (point l) (l .loop .behind) (walkOf (l .loop .walk)) (readEntry (left l))
+    nextOf (c .judge-next .result) ≡ nextWith (conf l) (start l .args .required) (point l) (l .loop .indirect-seen) (walkOf (l .loop .walk)) (readEntry (left l))
 next c =
     let l = c .before .before .before .before in
-    c .judge-next .ensures .0 ∙ ap (λ t. nextWith (conf l) (start l .args .required) (point l) (l .loop .behind) (walkOf (l .loop .walk)) (readEntry t)) (rest (l .loop .at) (list l))
+    c .judge-next .ensures .0 ∙ ap (λ t. nextWith (conf l) (start l .args .required) (point l) (l .loop .indirect-seen) (walkOf (l .loop .walk)) (readEntry t)) (rest (l .loop .at) (list l))
 
 -- the entry that was judged, and that it takes up bytes of what is left
 abbrev given : tie.After-known-told Inv-loop μ-loop → tie.After-judge-next Inv-loop μ-loop
@@ -76,15 +77,20 @@ within c =
 point-view-requires : tie.Need-point-view-requires Inv-loop μ-loop
 point-view-requires c κs = search needs
 
-loop-holds : tie.Need-loop-holds Inv-loop μ-loop
+all-left : (s : List ℕ) → listFrom 65535 false s ≡ readList s
 unfolding readList
-loop-holds c = (search needs, refl)
+all-left s = refl
+
+loop-holds : tie.Need-loop-holds Inv-loop μ-loop
+loop-holds c =
+    let a = c .before .before .before .args in
+    (search needs, ap (walkWith (settingsOf (a .conf)) (a .required) (viewedOf (c .point-view .result) (a .info)) walkStart) (all-left (now (a .list))))
 
 returns : tie.Need-returns Inv-loop μ-loop
 returns c =
     let l = c .before .before in
-    sym (sym (whole l) ∙ (ap (λ n. walkWith (conf l) (start l .args .required) (point l) (walkOf (l .loop .walk)) (listFrom n (l .loop .behind) (left l))) (c .if1 .taken)
-    ∙ too-many (conf l) (start l .args .required) (point l) (walkOf (l .loop .walk)) (l .loop .behind) (left l) (omega (arith, length-drop (l .loop .at) (list l)))))
+    sym (sym (whole l) ∙ (ap (λ n. walkWith (conf l) (start l .args .required) (point l) (walkOf (l .loop .walk)) (listFrom n (l .loop .indirect-seen) (left l))) (c .if1 .taken)
+    ∙ too-many (conf l) (start l .args .required) (point l) (walkOf (l .loop .walk)) (l .loop .indirect-seen) (left l) (omega (arith, length-drop (l .loop .at) (list l)))))
 
 sub-judge-next : tie.Need-sub-judge-next Inv-loop μ-loop
 sub-judge-next c = search needs
@@ -118,8 +124,8 @@ loop-again c =
     let l = j .before .before .before .before in
     let n = c .before .next .given .0 in
     let e = sym (next j) ∙ ap nextOf (c .before .next .given .1) in
-    let y : Next = record { walk = walkOf (n .0); behind = n .1 .0; size = n .1 .1 .0 } in
-    let t = turn-read (conf l) (start l .args .required) (point l) (walkOf (l .loop .walk)) (l .loop .left) (l .loop .left - 1) (l .loop .behind) (left l) y (omega (arith, length-drop (l .loop .at) (list l))) (omega arith) e in
+    let y : Next = record { walk = walkOf (n .0); indirect = n .1 .0; size = n .1 .1 .0 } in
+    let t = turn-read (conf l) (start l .args .required) (point l) (walkOf (l .loop .walk)) (l .loop .left) (l .loop .left - 1) (l .loop .indirect-seen) (left l) y (omega (arith, length-drop (l .loop .at) (list l))) (omega arith) e in
     (within c .1, rw (sym (drop-drop (n .1 .1 .0) (l .loop .at) (list l))) (sym t ∙ l .loop .inv .1))
 
 enum-told : tie.Need-enum-told Inv-loop μ-loop
@@ -130,12 +136,12 @@ returns-2 c =
     let j = c .before .before in
     let l = j .before .before .before .before in
     let e = sym (next j) ∙ ap nextOf (c .enum-told .given .1) in
-    sym (sym (whole l) ∙ turn-unread (conf l) (start l .args .required) (point l) (walkOf (l .loop .walk)) (l .loop .left) (l .loop .behind) (left l) (omega (arith, length-drop (l .loop .at) (list l))) (omega arith) e)
+    sym (sym (whole l) ∙ turn-unread (conf l) (start l .args .required) (point l) (walkOf (l .loop .walk)) (l .loop .left) (l .loop .indirect-seen) (left l) (omega (arith, length-drop (l .loop .at) (list l))) (omega arith) e)
 
 returns-3 : tie.Need-returns-3 Inv-loop μ-loop
 returns-3 c =
     let l = c .before in
-    sym (sym (whole l) ∙ walk-end (conf l) (start l .args .required) (point l) (walkOf (l .loop .walk)) (l .loop .left) (l .loop .behind) (left l) (omega (arith, l .loop .inv .0, length-drop (l .loop .at) (list l))))
+    sym (sym (whole l) ∙ walk-end (conf l) (start l .args .required) (point l) (walkOf (l .loop .walk)) (l .loop .left) (l .loop .indirect-seen) (left l) (omega (arith, l .loop .inv .0, length-drop (l .loop .at) (list l))))
 
 pub walk-list-spec : {M : Type 1} → statement M
 walk-list-spec =

@@ -15,15 +15,15 @@ use Rattle.judge_reason.proofs.dependency_reason.Tie as tie
 
 -- the rows of a point that is at hand
 module _ (c : Settings) (required isPrevPoint : Bool) (p : PointView) (q : PointInfo) where
-  valid : dependencyTrail c required isPrevPoint p (Valid q) ≡ concat (pointRows c required isPrevPoint p (depView q))
+  valid : dependencyTrail (pointRows c required isPrevPoint p) (Valid q) ≡ concat (pointRows c required isPrevPoint p (depView q))
   unfolding dependencyTrail
   valid = refl
 
-  trans-invalid : (root : PointId) (n : ℕ) → dependencyTrail c required isPrevPoint p (TransInvalid q root n) ≡ concat (pointRows c required isPrevPoint p (depView q))
+  trans-invalid : (root : PointId) (n : ℕ) → dependencyTrail (pointRows c required isPrevPoint p) (TransInvalid q root n) ≡ concat (pointRows c required isPrevPoint p (depView q))
   unfolding dependencyTrail
   trans-invalid root n = refl
 
-  invalid : (n : ℕ) → dependencyTrail c required isPrevPoint p (Invalid q n) ≡ concat (pointRows c required isPrevPoint p (depView q))
+  invalid : (n : ℕ) → dependencyTrail (pointRows c required isPrevPoint p) (Invalid q n) ≡ concat (pointRows c required isPrevPoint p (depView q))
   unfolding dependencyTrail
   invalid n = refl
 

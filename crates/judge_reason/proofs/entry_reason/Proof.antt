@@ -1,6 +1,7 @@
 -- `entry_reason` meets its contract: each way by what was called.
 use denote.Ref.{now}
 use Rattle.base.specs.Base.{lastOf}
+use Rattle.rules.specs.Validate.{dependency}
 use borrow.Author.Needs.{needs}
 use Rattle.judge_reason.proofs.entry_reason.Statement.{statement}
 use Rattle.judge_reason.proofs.entry_reason.Tie as tie
@@ -27,9 +28,11 @@ enum-told-4 : tie.Need-enum-told-4
 enum-told-4 c = search needs
 
 returns : tie.Need-returns
+unfolding dependency
 returns c = rw (c .before .enum-told .given .1) (c .dependency-reason .ensures)
 
 returns-2 : tie.Need-returns-2
+unfolding dependency
 returns-2 c = rw (c .before .enum-told2 .given .1) (c .dependency-reason2 .ensures)
 
 returns-3 : tie.Need-returns-3

@@ -7,7 +7,7 @@ use Rattle.point.specs.Point.{PointId, PointInfo}
 use Rattle.point.specs.declared.data.AnchorStageRole.{AnchorStageRole}
 use Rattle.schedule.specs.Settings.{Settings}
 use Rattle.rules.specs.DagPoint.{Valid, TransInvalid, Invalid, PointView, depView}
-use Rattle.rules.specs.Validate.{indirectPointRows, indirectEntryTrail}
+use Rattle.rules.specs.Validate.{indirectPointRows, dependencyTrail}
 use Rattle.judge_entries.specs.Code.{ReadFrom}
 use borrow.Author.Needs.{needs}
 use Rattle.judge_reason.proofs.indirect_reason.Statement.{statement}
@@ -15,16 +15,16 @@ use Rattle.judge_reason.proofs.indirect_reason.Tie as tie
 
 -- the rows of a point that is at hand
 module _ (c : Settings) (g : AnchorStageRole) (p : PointView) (q : PointInfo) where
-  valid : indirectEntryTrail c g p (Valid q) ≡ concat (indirectPointRows c g p (depView q))
-  unfolding indirectEntryTrail
+  valid : dependencyTrail (indirectPointRows c g p) (Valid q) ≡ concat (indirectPointRows c g p (depView q))
+  unfolding dependencyTrail
   valid = refl
 
-  trans-invalid : (root : PointId) (n : ℕ) → indirectEntryTrail c g p (TransInvalid q root n) ≡ concat (indirectPointRows c g p (depView q))
-  unfolding indirectEntryTrail
+  trans-invalid : (root : PointId) (n : ℕ) → dependencyTrail (indirectPointRows c g p) (TransInvalid q root n) ≡ concat (indirectPointRows c g p (depView q))
+  unfolding dependencyTrail
   trans-invalid root n = refl
 
-  invalid : (n : ℕ) → indirectEntryTrail c g p (Invalid q n) ≡ concat (indirectPointRows c g p (depView q))
-  unfolding indirectEntryTrail
+  invalid : (n : ℕ) → dependencyTrail (indirectPointRows c g p) (Invalid q n) ≡ concat (indirectPointRows c g p (depView q))
+  unfolding dependencyTrail
   invalid n = refl
 
 enum-known-point : tie.Need-enum-known-point
@@ -73,15 +73,15 @@ returns-3 : tie.Need-returns-3
 returns-3 c = rw (c .before .before .before .point3 .given .1, invalid, ← (c .before .dep-view3 .ensures)) (c .check-indirect3 .ensures)
 
 returns-4 : tie.Need-returns-4
-unfolding indirectEntryTrail lastOf
+unfolding dependencyTrail lastOf
 returns-4 c = rw (c .before .point4 .given .1)
 
 returns-5 : tie.Need-returns-5
-unfolding indirectEntryTrail lastOf
+unfolding dependencyTrail lastOf
 returns-5 c = rw (c .before .point5 .given .1)
 
 returns-6 : tie.Need-returns-6
-unfolding indirectEntryTrail lastOf
+unfolding dependencyTrail lastOf
 returns-6 c = rw (c .enum-told .given .1)
 
 pub indirect-reason-spec : {M : Type 1} → statement M

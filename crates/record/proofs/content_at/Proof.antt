@@ -5,7 +5,7 @@ use mathlib.Core.Path.{_≡_}
 use denote.Ref.{now}
 use borrow.Author.Needs.{needs}
 use Rattle.record.specs.Record.{nextAt, contentAt}
-use Rattle.record.proofs.Laws.{next-within, next-behind}
+use Rattle.record.proofs.Laws.{next-within, next-after}
 use Rattle.record.proofs.content_at.Statement.{statement}
 use Rattle.record.proofs.content_at.Tie as tie
 
@@ -13,7 +13,7 @@ next-requires : tie.Need-next-requires
 next-requires c κs = search needs
 
 sub-if1 : tie.Need-sub-if1
-sub-if1 c = let a = c .before .before .args in omega (arith, next-behind (now (a .s)) (a .at) (c .before .before .pre), c .next .ensures)
+sub-if1 c = let a = c .before .before .args in omega (arith, next-after (now (a .s)) (a .at) (c .before .before .pre), c .next .ensures)
 
 sub-result : tie.Need-sub-result
 sub-result c = search needs

@@ -46,8 +46,8 @@ field-ok-requires c κs = search needs
 returns : tie.Need-returns Inv-loop μ-loop
 returns c = sym (turn (c .before) ∙ rw (not-true (c .before .field-ok .result) (c .if1 .taken)))
 
-behind-requires : tie.Need-behind-requires Inv-loop μ-loop
-behind-requires c κs =
+field-end-requires : tie.Need-field-end-requires Inv-loop μ-loop
+field-end-requires c κs =
     let f = c .before in
     let l = f .before .before .before in
     fitting _ (now (l .before .before .args .s)) (l .loop .at) (sym (f .field-ok .ensures) ∙ not-false _ (c .if1 .left)) .end
@@ -63,7 +63,7 @@ loop-again c =
     let f = c .before .before in
     let l = f .before .before .before in
     let s = now (l .before .before .args .s) in
-    (search needs, omega (arith, next-within s (l .loop .at), c .behind .ensures), turn f ∙ rw (not-false (f .field-ok .result) (c .before .if1 .left), c .behind .ensures))
+    (search needs, omega (arith, next-within s (l .loop .at), c .field-end .ensures), turn f ∙ rw (not-false (f .field-ok .result) (c .before .if1 .left), c .field-end .ensures))
 
 returns-2 : tie.Need-returns-2 Inv-loop μ-loop
 returns-2 c =
@@ -82,7 +82,7 @@ record-end-spec =
     array-copy-out-row
     field-ok-requires
     returns
-    behind-requires
+    field-end-requires
     add-k
     loop-less
     loop-again

@@ -86,17 +86,17 @@ find-places-requires c κs = shaped (c .before .before .before .before .before .
 content-from-requires : tie.Need-content-from-requires
 content-from-requires c κs =
     let f = c .find-places .ensures in
-    ((shaped (found c), omega arith), (f .0 .1, f .1 .0 .0))
+    ((shaped (found c), omega arith), (f .includes, f .witness))
 
 content-from-requires-2 : tie.Need-content-from-requires-2
 content-from-requires-2 c κs =
     let f = c .before .find-places .ensures in
-    ((shaped (found (c .before)), omega arith), f .1 .0)
+    ((shaped (found (c .before)), omega arith), (f .witness, f .evidence))
 
 content-from-requires-3 : tie.Need-content-from-requires-3
 content-from-requires-3 c κs =
     let f = c .before .before .find-places .ensures in
-    ((shaped (found (c .before .before)), omega arith), (f .1 .0 .1, f .1 .1 .0 .0))
+    ((shaped (found (c .before .before)), omega arith), (f .evidence, f .anchorProof))
 
 -- the maps that were looked up are the point's
 abbrev handed : tie.After-content-from3 → tie.Start

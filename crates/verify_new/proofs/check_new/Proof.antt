@@ -7,7 +7,7 @@ use denote.Ref.{now}
 use borrow.Author.Needs.{needs}
 use borrow.Author.Tests.{lt-ltb, le-ltb}
 use Rattle.base.specs.Base.{concat, firstOf}
-use Rattle.base.proofs.Tables.{first-here, first-behind, row-here, row-behind}
+use Rattle.base.proofs.Tables.{first-here, first-after, row-here, row-after}
 use Rattle.schedule.specs.Code.{settingsOf, scheduleOf}
 use Rattle.point.specs.Code.{pointOf}
 use Rattle.reasons.specs.declared.ill_formed.VerifyError.{VerifyError}
@@ -63,43 +63,43 @@ witness c = rw (← c .before .rounds-back2 .ensures) (sym (c .check-vset3 .ensu
 -- what is left of the table at those places
 left1 : (c : tie.Else1) → Left 1 (entry1 c)
 unfolding newRows
-left1 c = row-behind _ _ _ (le-ltb _ _ (c .if1 .left))
+left1 c = row-after _ _ _ (le-ltb _ _ (c .if1 .left))
 
 left2 : (c : tie.After-enum-told) → Left 2 (entry2 c)
 unfolding newRows
 left2 c =
     let d = c .before .before in
-    left1 (d .before) ∙ first-behind _ _ (same-round d ∙ ap verifiedOf (c .enum-told .given .1))
+    left1 (d .before) ∙ first-after _ _ (same-round d ∙ ap verifiedOf (c .enum-told .given .1))
 
 left3 : (c : tie.Else2) → Left 3 (entry3 c)
 unfolding newRows
 left3 c =
     let d = c .before in
-    left2 (d .before) ∙ row-behind _ _ _ (rw (d .is-scheduled .ensures) at (c .if2 .left))
+    left2 (d .before) ∙ row-after _ _ _ (rw (d .is-scheduled .ensures) at (c .if2 .left))
 
 left4 : (c : tie.After-enum-told3) → Left 4 (entry4 c)
 unfolding newRows
 left4 c =
     let d = c .before .before in
-    left3 (d .before .before) ∙ first-behind _ _ (includes d ∙ ap verifiedOf (c .enum-told3 .given .1))
+    left3 (d .before .before) ∙ first-after _ _ (includes d ∙ ap verifiedOf (c .enum-told3 .given .1))
 
 left5 : (c : tie.After-enum-told5) → Left 5 (entry5 c)
 unfolding newRows
 left5 c =
     let d = c .before .before in
-    left4 (d .before .before) ∙ first-behind _ _ (witness d ∙ ap verifiedOf (c .enum-told5 .given .1))
+    left4 (d .before .before) ∙ first-after _ _ (witness d ∙ ap verifiedOf (c .enum-told5 .given .1))
 
 left6 : (c : tie.Else3) → Left 6 (entry6 c)
 unfolding newRows
 left6 c =
     let d = c .before in
-    left5 (d .before) ∙ row-behind _ _ _ (sym (d .is-unknown-target .ensures) ∙ c .if3 .left)
+    left5 (d .before) ∙ row-after _ _ _ (sym (d .is-unknown-target .ensures) ∙ c .if3 .left)
 
 left7 : (c : tie.Else4) → Left 7 (entry7 c)
 unfolding newRows
 left7 c =
     let d = c .before in
-    left6 (d .before) ∙ row-behind _ _ _ (sym (d .is-unknown-target2 .ensures) ∙ c .if4 .left)
+    left6 (d .before) ∙ row-after _ _ _ (sym (d .is-unknown-target2 .ensures) ∙ c .if4 .left)
 
 returns : tie.Need-returns
 unfolding newRows

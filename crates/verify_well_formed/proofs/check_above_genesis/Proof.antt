@@ -8,8 +8,8 @@ use lib.Dec.{ltb}
 use denote.Ref.{now}
 use borrow.Author.Tests.{lt-ltb, le-ltb}
 use Rattle.base.specs.Base.{concat, firstOf}
-use Rattle.base.proofs.Tables.{first-here, first-behind, row-here, row-behind, last-test}
-use Rattle.base.proofs.Bool.{or-first, or-behind}
+use Rattle.base.proofs.Tables.{first-here, first-after, row-here, row-after, last-test}
+use Rattle.base.proofs.Bool.{or-first, or-rest}
 use Rattle.point.specs.Point.{stickyAnchors, targetRound}
 use Rattle.point.specs.declared.data.AnchorStageRole.{AnchorStageRole}
 use Rattle.point.specs.declared.data.AnchorStageRole.the-variants.{Proof, Trigger}
@@ -20,7 +20,7 @@ use Rattle.reasons.specs.declared.ill_formed.VerifyError.{VerifyError}
 use Rattle.reasons.specs.declared.ill_formed.VerifyError.the-variants.{IllFormed}
 use Rattle.rules.specs.Verify.{stickyFault, aboveRows}
 use Rattle.reasons.specs.Code.{checkedOf, verifiedOf}
-use Rattle.verify_well_formed.proofs.Laws.{issue-here, issue-behind}
+use Rattle.verify_well_formed.proofs.Laws.{issue-here, issue-after}
 use borrow.Author.Needs.{needs}
 use Rattle.verify_well_formed.proofs.check_above_genesis.Statement.{statement}
 use Rattle.verify_well_formed.proofs.check_above_genesis.Tie as tie
@@ -43,7 +43,7 @@ light : (c : tie.Else1) →
     let t = rows (c .before .before .before .before .before .before .before .before) in
     firstOf (concat t) ≡ firstOf (concat (drop 1 t))
 unfolding aboveRows
-light c = row-behind _ _ (drop 1 (rows (c .before .before .before .before .before .before .before .before))) (le-ltb _ _ (c .if1 .left))
+light c = row-after _ _ (drop 1 (rows (c .before .before .before .before .before .before .before .before))) (le-ltb _ _ (c .if1 .left))
 
 sound : (c : tie.After-enum-told) →
     let t = rows (start (c .before .before)) in
@@ -51,7 +51,7 @@ sound : (c : tie.After-enum-told) →
 unfolding aboveRows
 sound c =
     let s = c .before .before in
-    light (s .before) ∙ issue-behind _ (drop 2 (rows (start s))) (sym (s .check-structure .ensures) ∙ ap checkedOf (c .enum-told .given .1))
+    light (s .before) ∙ issue-after _ (drop 2 (rows (start s))) (sym (s .check-structure .ensures) ∙ ap checkedOf (c .enum-told .given .1))
 
 unstuck : (c : tie.After-enum-told2) →
     let t = rows (start (c .before .before .before .before .before)) in
@@ -60,7 +60,7 @@ unfolding aboveRows
 unstuck c =
     let s = c .before .before in
     let o = start (s .before .before .before) in
-    sound (s .before) ∙ first-behind (sticky o) (drop 3 (rows o)) (sym (s .check-sticky .ensures) ∙ ap verifiedOf (c .enum-told2 .given .1))
+    sound (s .before) ∙ first-after (sticky o) (drop 3 (rows o)) (sym (s .check-sticky .ensures) ∙ ap verifiedOf (c .enum-told2 .given .1))
 
 -- what the tests of the last row told
 proof-across : (c : tie.After-target-round) →
@@ -138,7 +138,7 @@ returns-5 c =
     let l = t .before in
     let o = start (l .before .before .before .before .before .before .before .before) in
     sym (unstuck (l .before .before .before)
-    ∙ row-here (across Proof o || across Trigger o) _ [] (or-behind _ _ (past-proof l) ∙ (trigger-across t ∙ lt-ltb _ _ (c .if3 .taken))))
+    ∙ row-here (across Proof o || across Trigger o) _ [] (or-rest _ _ (past-proof l) ∙ (trigger-across t ∙ lt-ltb _ _ (c .if3 .taken))))
 
 returns-6 : tie.Need-returns-6
 unfolding aboveRows
@@ -147,7 +147,7 @@ returns-6 c =
     let l = t .before in
     let o = start (l .before .before .before .before .before .before .before .before) in
     sym (unstuck (l .before .before .before)
-    ∙ last-test (across Proof o || across Trigger o) (IllFormed LinksAcrossGenesis) (or-behind _ _ (past-proof l) ∙ (trigger-across t ∙ le-ltb _ _ (c .if3 .left))))
+    ∙ last-test (across Proof o || across Trigger o) (IllFormed LinksAcrossGenesis) (or-rest _ _ (past-proof l) ∙ (trigger-across t ∙ le-ltb _ _ (c .if3 .left))))
 
 pub check-above-genesis-spec : {M : Type 1} → statement M
 check-above-genesis-spec =

@@ -6,13 +6,13 @@ use lib.ListN.{drop}
 use denote.Ref.{now}
 use borrow.Author.Tests.{lt-ltb, le-ltb}
 use Rattle.base.specs.Base.{concat, firstOf}
-use Rattle.base.proofs.Tables.{row-here, row-behind}
+use Rattle.base.proofs.Tables.{row-here, row-after}
 use Rattle.point.specs.Code.{pointOf}
 use Rattle.schedule.specs.Code.{settingsOf}
 use Rattle.reasons.specs.declared.ill_formed.VerifyError.{VerifyError}
 use Rattle.rules.specs.Verify.{genesisRows}
 use Rattle.reasons.specs.Code.{checkedOf}
-use Rattle.verify_well_formed.proofs.Laws.{issue-here, issue-behind}
+use Rattle.verify_well_formed.proofs.Laws.{issue-here, issue-after}
 use borrow.Author.Needs.{needs}
 use Rattle.verify_well_formed.proofs.check_genesis.Statement.{statement}
 use Rattle.verify_well_formed.proofs.check_genesis.Tie as tie
@@ -25,7 +25,7 @@ known : (c : tie.Else1) →
     let t = rows (c .before .before .before .before) in
     firstOf (concat t) ≡ firstOf (concat (drop 1 t))
 unfolding genesisRows
-known c = row-behind _ _ (drop 1 (rows (c .before .before .before .before))) (ap not (sym (c .before .same .ensures)) ∙ c .if1 .left)
+known c = row-after _ _ (drop 1 (rows (c .before .before .before .before))) (ap not (sym (c .before .same .ensures)) ∙ c .if1 .left)
 
 empty : (c : tie.Else2) →
     let t = rows (c .before .before .before .before .before .before) in
@@ -33,7 +33,7 @@ empty : (c : tie.Else2) →
 unfolding genesisRows
 empty c =
     let t = rows (c .before .before .before .before .before .before) in
-    known (c .before .before) ∙ row-behind _ _ (drop 2 t) (le-ltb _ _ (c .if2 .left))
+    known (c .before .before) ∙ row-after _ _ (drop 2 t) (le-ltb _ _ (c .if2 .left))
 
 same-requires : tie.Need-same-requires
 same-requires c κs = search needs
@@ -61,7 +61,7 @@ returns-3 : tie.Need-returns-3
 unfolding genesisRows
 returns-3 c =
     let s = c .before .before in
-    sym (empty (s .before) ∙ issue-behind _ [] (sym (s .check-genesis-structure .ensures) ∙ ap checkedOf (c .enum-told .given .1)))
+    sym (empty (s .before) ∙ issue-after _ [] (sym (s .check-genesis-structure .ensures) ∙ ap checkedOf (c .enum-told .given .1)))
 
 returns-4 : tie.Need-returns-4
 unfolding genesisRows

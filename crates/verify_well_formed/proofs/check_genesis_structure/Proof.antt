@@ -5,8 +5,8 @@ use lib.ListN.{drop}
 use denote.Ref.{now}
 use borrow.Author.Tests.{eq-eqb, ne-eqb}
 use Rattle.base.specs.Base.{concat, firstOf}
-use Rattle.base.proofs.Tables.{row-here, row-behind, last-test}
-use Rattle.base.proofs.Bool.{or-first, or-behind}
+use Rattle.base.proofs.Tables.{row-here, row-after, last-test}
+use Rattle.base.proofs.Bool.{or-first, or-rest}
 use Rattle.point.specs.Point.{PointInfo, prevDigest}
 use Rattle.point.specs.Code.{pointOf}
 use Rattle.rules.specs.Verify.{isZero, linksOwn, genesisStructureRows}
@@ -25,14 +25,14 @@ genesis : (c : tie.Else1) →
     let p = point (c .before .before .before .before) in
     firstOf (concat (genesisStructureRows p)) ≡ firstOf (concat (drop 1 (genesisStructureRows p)))
 unfolding genesisStructureRows
-genesis c = row-behind _ _ _ (ap not (sym (c .before .is-genesis .ensures)) ∙ c .if1 .left)
+genesis c = row-after _ _ _ (ap not (sym (c .before .is-genesis .ensures)) ∙ c .if1 .left)
 
 -- and once the times are equal
 timely : (c : tie.Else2) →
     let p = point (start c) in
     firstOf (concat (genesisStructureRows p)) ≡ firstOf (concat (drop 2 (genesisStructureRows p)))
 unfolding genesisStructureRows
-timely c = genesis (c .before .before) ∙ row-behind _ _ _ (ap not (eq-eqb _ _ (c .if2 .left)))
+timely c = genesis (c .before .before) ∙ row-after _ _ _ (ap not (eq-eqb _ _ (c .if2 .left)))
 
 -- what the tests of the last row told
 zero : (c : tie.After-is-zero) → not (isZero (prevDigest (point (start (c .before .before))))) ≡ not (c .is-zero .result)
@@ -77,7 +77,7 @@ unfolding genesisStructureRows
 returns-4 c =
     let z = c .before .before in
     sym (timely (z .before .before .before)
-    ∙ row-here _ _ _ (or-behind _ _ (past-zero z) ∙ or-first _ _ (ap not (sym (c .before .links-own .ensures)) ∙ c .if4 .taken)))
+    ∙ row-here _ _ _ (or-rest _ _ (past-zero z) ∙ or-first _ _ (ap not (sym (c .before .links-own .ensures)) ∙ c .if4 .taken)))
 
 links-own-requires-2 : tie.Need-links-own-requires-2
 links-own-requires-2 c κs = search needs
@@ -88,7 +88,7 @@ returns-5 c =
     let l = c .before .before in
     let z = l .before .before in
     sym (timely (z .before .before .before)
-    ∙ row-here _ _ _ (or-behind _ _ (past-zero z) ∙ (or-behind _ _ (past-proof l) ∙ (ap not (sym (c .before .links-own2 .ensures)) ∙ c .if5 .taken))))
+    ∙ row-here _ _ _ (or-rest _ _ (past-zero z) ∙ (or-rest _ _ (past-proof l) ∙ (ap not (sym (c .before .links-own2 .ensures)) ∙ c .if5 .taken))))
 
 returns-6 : tie.Need-returns-6
 unfolding genesisStructureRows
@@ -96,7 +96,7 @@ returns-6 c =
     let l = c .before .before in
     let z = l .before .before in
     sym (timely (z .before .before .before)
-    ∙ last-test _ _ (or-behind _ _ (past-zero z) ∙ (or-behind _ _ (past-proof l) ∙ (ap not (sym (c .before .links-own2 .ensures)) ∙ c .if5 .left))))
+    ∙ last-test _ _ (or-rest _ _ (past-zero z) ∙ (or-rest _ _ (past-proof l) ∙ (ap not (sym (c .before .links-own2 .ensures)) ∙ c .if5 .left))))
 
 pub check-genesis-structure-spec : {M : Type 1} → statement M
 check-genesis-structure-spec =

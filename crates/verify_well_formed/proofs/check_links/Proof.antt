@@ -5,7 +5,7 @@ use lib.ListN.{drop}
 use denote.Ref.{now}
 use borrow.Author.Tests.{le-leb, lt-leb}
 use Rattle.base.specs.Base.{concat, firstOf}
-use Rattle.base.proofs.Tables.{row-here, row-behind, last-test}
+use Rattle.base.proofs.Tables.{row-here, row-after, last-test}
 use Rattle.point.specs.Point.{PointInfo}
 use Rattle.point.specs.Code.{pointOf}
 use Rattle.rules.specs.Verify.{linkRows}
@@ -24,19 +24,19 @@ triggered : (c : tie.Else1) →
     let p = point (start c) in
     firstOf (concat (linkRows p)) ≡ firstOf (concat (drop 1 (linkRows p)))
 unfolding linkRows
-triggered c = row-behind _ _ _ (sym (c .before .is-bad-proof-link .ensures) ∙ c .if1 .left)
+triggered c = row-after _ _ _ (sym (c .before .is-bad-proof-link .ensures) ∙ c .if1 .left)
 
 proof-linked : (c : tie.Else2) →
     let p = point (start (c .before .before)) in
     firstOf (concat (linkRows p)) ≡ firstOf (concat (drop 2 (linkRows p)))
 unfolding linkRows
-proof-linked c = triggered (c .before .before) ∙ row-behind _ _ _ (sym (c .before .is-bad-link .ensures) ∙ c .if2 .left)
+proof-linked c = triggered (c .before .before) ∙ row-after _ _ _ (sym (c .before .is-bad-link .ensures) ∙ c .if2 .left)
 
 trigger-linked : (c : tie.Else3) →
     let p = point (start (c .before .before .before .before)) in
     firstOf (concat (linkRows p)) ≡ firstOf (concat (drop 3 (linkRows p)))
 unfolding linkRows
-trigger-linked c = proof-linked (c .before .before) ∙ row-behind _ _ _ (sym (c .before .is-bad-link2 .ensures) ∙ c .if3 .left)
+trigger-linked c = proof-linked (c .before .before) ∙ row-after _ _ _ (sym (c .before .is-bad-link2 .ensures) ∙ c .if3 .left)
 
 is-bad-proof-link-requires : tie.Need-is-bad-proof-link-requires
 is-bad-proof-link-requires c κs = search needs

@@ -8,7 +8,7 @@ use lib.ListN.{drop}
 use lib.Dec.{eqb}
 use denote.Ref.{now}
 use Rattle.base.specs.Base.{concat, firstOf, isSome, isEmpty}
-use Rattle.base.proofs.Tables.{row-here, row-behind, last-test}
+use Rattle.base.proofs.Tables.{row-here, row-after, last-test}
 use Rattle.base.proofs.Lists.{empty-length}
 use Rattle.map.specs.Rows.{has, peers, rising}
 use Rattle.map.proofs.Laws.{peers-pairsOf}
@@ -68,19 +68,19 @@ has-prev : (c : tie.Else1) →
     let p = point (start (c .before .before)) in
     firstOf (concat (ownPointRows p)) ≡ firstOf (concat (drop 1 (ownPointRows p)))
 unfolding ownPointRows
-has-prev c = row-behind _ _ _ (lacks (c .before) ∙ c .if1 .left)
+has-prev c = row-after _ _ _ (lacks (c .before) ∙ c .if1 .left)
 
 proven : (c : tie.Else2) →
     let p = point (start (c .before .before .before .before .before)) in
     firstOf (concat (ownPointRows p)) ≡ firstOf (concat (drop 2 (ownPointRows p)))
 unfolding ownPointRows
-proven c = has-prev (c .before .before .before) ∙ row-behind _ _ _ (unequal (c .before) ∙ c .if2 .left)
+proven c = has-prev (c .before .before .before) ∙ row-after _ _ _ (unequal (c .before) ∙ c .if2 .left)
 
 not-evidence : (c : tie.Else3) →
     let p = point (start (c .before .before .before .before .before .before .before)) in
     firstOf (concat (ownPointRows p)) ≡ firstOf (concat (drop 3 (ownPointRows p)))
 unfolding ownPointRows
-not-evidence c = proven (c .before .before) ∙ row-behind _ _ _ (among-evidence (c .before) ∙ c .if3 .left)
+not-evidence c = proven (c .before .before) ∙ row-after _ _ _ (among-evidence (c .before) ∙ c .if3 .left)
 
 prev-digest-requires : tie.Need-prev-digest-requires
 prev-digest-requires c κs = search needs

@@ -4,7 +4,7 @@ use mathlib.Core.List.{List}
 use lib.ListN.{drop}
 use denote.Ref.{now}
 use Rattle.base.specs.Base.{concat, firstOf}
-use Rattle.base.proofs.Tables.{first-here, first-behind, row-here, row-behind, last-row}
+use Rattle.base.proofs.Tables.{first-here, first-after, row-here, row-after, last-row}
 use Rattle.point.specs.Code.{pointOf}
 use Rattle.reasons.specs.declared.ill_formed.StructureIssue.{StructureIssue}
 use Rattle.rules.specs.Verify.{structureRows}
@@ -21,7 +21,7 @@ no-genesis : (c : tie.Else1) →
     let t = rows (c .before .before .before .before .before .before) in
     firstOf (concat t) ≡ firstOf (concat (drop 1 t))
 unfolding structureRows
-no-genesis c = row-behind _ _ (drop 1 (rows (c .before .before .before .before .before .before))) (sym (c .before .is-genesis .ensures) ∙ c .if1 .left)
+no-genesis c = row-after _ _ (drop 1 (rows (c .before .before .before .before .before .before))) (sym (c .before .is-genesis .ensures) ∙ c .if1 .left)
 
 is-genesis-requires : tie.Need-is-genesis-requires
 is-genesis-requires c κs = search needs
@@ -56,7 +56,7 @@ returns-3 c =
     let o = t .before .before in
     let all = rows (o .before .before .before .before .before .before .before) in
     c .check-links .ensures
-    ∙ sym (no-genesis (o .before) ∙ (first-behind _ (drop 2 all) (sym (o .check-own-points .ensures) ∙ ap checkedOf (t .enum-told .given .1)) ∙ last-row _))
+    ∙ sym (no-genesis (o .before) ∙ (first-after _ (drop 2 all) (sym (o .check-own-points .ensures) ∙ ap checkedOf (t .enum-told .given .1)) ∙ last-row _))
 
 pub check-structure-spec : {M : Type 1} → statement M
 check-structure-spec =

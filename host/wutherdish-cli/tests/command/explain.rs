@@ -109,10 +109,10 @@ fn what_stands_before_a_bad_record_is_explained() {
     let mut feed = feed();
     let whole = done(&["explain", "-"], &feed);
     let (front, points) = split_front(&feed);
-    let (_, behind) = Point::read(&points[1..]).expect("the first point can be read");
-    let second = feed.len() - behind.len();
-    let (_, behind) = Point::read(&behind[1..]).expect("the second point can be read");
-    let third = feed.len() - behind.len();
+    let (_, after) = Point::read(&points[1..]).expect("the first point can be read");
+    let second = feed.len() - after.len();
+    let (_, after) = Point::read(&after[1..]).expect("the second point can be read");
+    let third = feed.len() - after.len();
     assert!(front.len() < second && second < third);
     // the tag of the third point's payload, after leader byte and id
     let place = third + 1 + 71;

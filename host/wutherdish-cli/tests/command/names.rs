@@ -25,9 +25,9 @@ pub fn network() -> Network {
 fn points(feed: &[u8]) -> Vec<Point> {
     let (mut points, mut rest) = (Vec::new(), split_front(feed).1);
     while let [_, record @ ..] = rest {
-        let (point, behind) = Point::read(record).expect("it can be read");
+        let (point, after) = Point::read(record).expect("it can be read");
         points.push(point);
-        rest = behind;
+        rest = after;
     }
     points
 }

@@ -75,8 +75,8 @@ pub fn feed() -> Vec<u8> {
 
 /// Settings and schedule of a feed, and the rest.
 pub fn split_front(feed: &[u8]) -> (&[u8], &[u8]) {
-    let (_, behind) = Settings::read(feed).expect("it begins with settings");
-    let (_, points) = Schedule::read(behind).expect("a schedule follows");
+    let (_, after) = Settings::read(feed).expect("it begins with settings");
+    let (_, points) = Schedule::read(after).expect("a schedule follows");
     feed.split_at(feed.len() - points.len())
 }
 

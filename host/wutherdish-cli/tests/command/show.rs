@@ -12,9 +12,9 @@ use crate::xml::{Element, elements};
 fn book(feed: &[u8]) -> Book<Vec<u8>> {
     let (front, mut points) = split_front(feed);
     let mut book = Book::open(vec![0; 65_536], &front[..47]).expect("it is opened");
-    while let [leader, behind @ ..] = points {
-        let (_, rest) = Point::read(behind).expect("the point can be read");
-        let _ = book.offer(&front[47..], *leader, &behind[..behind.len() - rest.len()]);
+    while let [leader, after @ ..] = points {
+        let (_, rest) = Point::read(after).expect("the point can be read");
+        let _ = book.offer(&front[47..], *leader, &after[..after.len() - rest.len()]);
         points = rest;
     }
     book

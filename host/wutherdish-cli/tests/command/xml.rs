@@ -53,19 +53,19 @@ fn element(tag: &str, text: &str) -> Element {
     assert!(!name.is_empty() && name.chars().all(char::is_alphanumeric), "{tag}");
     let mut attributes: Vec<(String, String)> = Vec::new();
     while !rest.is_empty() {
-        let (key, behind) = rest.split_once("=\"").expect("an attribute has a value in quotes");
-        let (value, behind) = behind.split_once('"').expect("the quotes end");
+        let (key, after) = rest.split_once("=\"").expect("an attribute has a value in quotes");
+        let (value, after) = after.split_once('"').expect("the quotes end");
         assert!(key.chars().all(char::is_alphabetic) && is_escaped(value), "{tag}");
         assert!(!attributes.iter().any(|attribute| attribute.0 == key), "{tag} has {key} once");
-        assert!(behind.is_empty() || behind.starts_with(' '), "{tag}");
+        assert!(after.is_empty() || after.starts_with(' '), "{tag}");
         attributes.push((key.to_owned(), value.to_owned()));
-        rest = behind.trim_start();
+        rest = after.trim_start();
     }
     Element { name: name.to_owned(), attributes, text: text.to_owned() }
 }
 
 fn is_escaped(text: &str) -> bool {
-    text.split('&').skip(1).all(|behind| ["amp;", "lt;", "gt;"].iter().any(|name| behind.starts_with(name)))
+    text.split('&').skip(1).all(|after| ["amp;", "lt;", "gt;"].iter().any(|name| after.starts_with(name)))
 }
 
 #[test]

@@ -43,12 +43,12 @@ impl Feed {
 
     pub fn read(bytes: &[u8]) -> Self {
         let (settings, rest) = bytes.split_at(SETTINGS);
-        let behind = Schedule::read(rest).map_or(&[][..], |(_, behind)| behind);
-        let (schedule, mut behind) = rest.split_at(rest.len() - behind.len());
+        let after = Schedule::read(rest).map_or(&[][..], |(_, after)| after);
+        let (schedule, mut after) = rest.split_at(rest.len() - after.len());
         let mut offers = Vec::new();
-        while let Some((leader, rest)) = behind.split_first() {
-            behind = Point::read(rest).map_or(&[][..], |(_, behind)| behind);
-            offers.push((*leader, rest[..rest.len() - behind.len()].to_vec()));
+        while let Some((leader, rest)) = after.split_first() {
+            after = Point::read(rest).map_or(&[][..], |(_, after)| after);
+            offers.push((*leader, rest[..rest.len() - after.len()].to_vec()));
         }
         Self { settings: settings.to_vec(), schedule: schedule.to_vec(), offers }
     }
@@ -123,10 +123,10 @@ pub fn case_answer(bytes: &[u8]) -> Answer {
 pub fn blobs(bytes: &[u8]) -> Vec<&[u8]> {
     let (head, mut rest) = bytes.split_at(2);
     let mut blobs = Vec::new();
-    while let Some((length, behind)) = rest.split_first_chunk() {
-        let (blob, behind) = behind.split_at(u32::from_le_bytes(*length) as usize);
+    while let Some((length, after)) = rest.split_first_chunk() {
+        let (blob, after) = after.split_at(u32::from_le_bytes(*length) as usize);
         blobs.push(blob);
-        rest = behind;
+        rest = after;
     }
     assert!(rest.is_empty());
     assert_eq!(blobs.len(), usize::from(head[1]));

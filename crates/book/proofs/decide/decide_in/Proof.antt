@@ -76,7 +76,7 @@ returns c =
     let t = c .before in
     let r = t .before .before in
     refused-decides (start r .pre) (bytes r) (offer r) 2 _
-    (input-refused _ _ _ (offer r) _ (no-schedule _ (offer r) (schedule-unread _ (r .read-schedule .result) (r .read-schedule .ensures .0) (t .if1 .taken))))
+    (input-refused _ _ (start r .pre .settings) (offer r) _ (no-schedule _ (offer r) (schedule-unread _ (r .read-schedule .result) (r .read-schedule .ensures .0) (t .if1 .taken))))
     (c .refused .ensures .0) (c .refused .ensures .1)
 
 read-point-requires : tie.Need-read-point-requires
@@ -98,7 +98,7 @@ returns-2 c =
     let s = p .before in
     let r = first s in
     refused-decides (start r .pre) (bytes r) (offer r) 3 _
-    (input-refused _ _ _ (offer r) _ (no-point _ (offer r) _ (has-schedule s) (sym (p .read-point .ensures) ∙ ap (readPointOf _) (t .enum-told .given .1))))
+    (input-refused _ _ (start r .pre .settings) (offer r) _ (no-point _ (offer r) _ (has-schedule s) (sym (p .read-point .ensures) ∙ ap (readPointOf _) (t .enum-told .given .1))))
     (c .refused2 .ensures .0) (c .refused2 .ensures .1)
 
 is-in-domain-requires : tie.Need-is-in-domain-requires
@@ -114,7 +114,7 @@ returns-3 c =
     let s = second p in
     let r = first s in
     refused-decides (start r .pre) (bytes r) (offer r) 4 _
-    (input-refused _ _ _ (offer r) _ (no-domain _ (offer r) _ (has-schedule s) _ (has-point p) (sym (t .before .is-in-domain .ensures) ∙ not-true _ (t .if2 .taken))))
+    (input-refused _ _ (start r .pre .settings) (offer r) _ (no-domain _ (offer r) _ (has-schedule s) _ (has-point p) (sym (t .before .is-in-domain .ensures) ∙ not-true _ (t .if2 .taken))))
     (c .refused3 .ensures .0) (c .refused3 .ensures .1)
 
 refused-requires-4 : tie.Need-refused-requires-4
@@ -127,7 +127,7 @@ returns-4 c =
     let s = second p in
     let r = first s in
     refused-decides (start r .pre) (bytes r) (offer r) 4 _
-    (input-refused _ _ _ (offer r) _ (no-leader _ (offer r) _ (has-schedule s) _ (has-point p) (in-domain (t .before)) (t .if3 .taken)))
+    (input-refused _ _ (start r .pre .settings) (offer r) _ (no-leader _ (offer r) _ (has-schedule s) _ (has-point p) (in-domain (t .before)) (t .if3 .taken)))
     (c .refused4 .ensures .0) (c .refused4 .ensures .1)
 
 refused-requires-5 : tie.Need-refused-requires-5
@@ -141,7 +141,7 @@ returns-5 c =
     let s = second p in
     let r = first s in
     refused-decides (start r .pre) (bytes r) (offer r) 5 _
-    (input-refused _ _ _ (offer r) _ (no-buffer _ (offer r) _ (has-schedule s) _ (has-point p) (in-domain (l .before)) (l .if3 .left) (t .if4 .taken)))
+    (input-refused _ _ (start r .pre .settings) (offer r) _ (no-buffer _ (offer r) _ (has-schedule s) _ (has-point p) (in-domain (l .before)) (l .if3 .left) (t .if4 .taken)))
     (c .refused5 .ensures .0) (c .refused5 .ensures .1)
 
 decide-point-requires : tie.Need-decide-point-requires

@@ -41,10 +41,10 @@ is-new c =
 
 is-full-or-not : (c : tie.After-is-full) →
     let f = c .before .before .before in
-    c .is-full .result ≡ isFull (length (now (start f .args .book))) (book f) (now (start f .args .rec))
+    c .is-full .result ≡ isFull (start f .pre .0 .opened) (now (start f .args .rec))
 is-full-or-not c =
     let h = start (c .before .before .before) .pre .0 in
-    c .is-full .ensures ∙ full-is _ (h .opened .book) _ _ _ (h .holds .count) (h .ends)
+    c .is-full .ensures ∙ full-is (h .opened) _ _ _ _ (h .whole) (h .holds .count) (h .ends)
 
 find-requires : tie.Need-find-requires
 find-requires c κs = search needs
@@ -64,7 +64,7 @@ returns c =
     let f = t .before .before in
     let h = start f .pre in
     let x = found-kept (h .0 .holds) (input f .point .id) _ (subst (FoundAt _ _ _ _) (t .enum-told2 .given .1) (f .find .ensures)) in
-    refused-decides (h .0) (bytes f) (offer f) 11 _ (is-there _ _ _ (offer f) _ (h .1) (x .kept) (x .found)) (c .refused .ensures .0) (c .refused .ensures .1)
+    refused-decides (h .0) (bytes f) (offer f) 11 _ (is-there _ _ (h .0 .settings) (offer f) _ (h .1) (x .kept) (x .found)) (c .refused .ensures .0) (c .refused .ensures .1)
 
 is-full-requires : tie.Need-is-full-requires
 is-full-requires c κs =
@@ -81,7 +81,7 @@ returns-2 c =
     let e = k .before in
     let f = e .before .before in
     let h = start f .pre in
-    refused-decides (h .0) (bytes f) (offer f) 12 _ (no-room _ _ _ (offer f) _ (h .1) (is-new e) (sym (is-full-or-not k) ∙ t .if1 .taken)) (c .refused2 .ensures .0) (c .refused2 .ensures .1)
+    refused-decides (h .0) (bytes f) (offer f) 12 _ (no-room _ _ (h .0 .settings) (offer f) _ (h .1) (is-new e) (sym (is-full-or-not k) ∙ t .if1 .taken)) (c .refused2 .ensures .0) (c .refused2 .ensures .1)
 
 judge-offer-requires : tie.Need-judge-offer-requires
 judge-offer-requires c κs =

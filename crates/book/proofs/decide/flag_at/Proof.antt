@@ -6,7 +6,7 @@ use lib.ListN.{length, length-drop}
 use denote.Ref.{now}
 use Rattle.base.proofs.Lists.{rest}
 use Rattle.books.specs.Layout.{keptFront}
-use Rattle.book.proofs.Tests.{kept-placed, front-place, front-none}
+use Rattle.book.proofs.Tests.{kept-placed, front-len, front-none}
 use borrow.Author.Needs.{needs}
 use Rattle.book.proofs.decide.flag_at.Statement.{statement}
 use Rattle.book.proofs.decide.flag_at.Tie as tie
@@ -14,7 +14,7 @@ use Rattle.book.proofs.decide.flag_at.Tie as tie
 within : (c : tie.After-struct-known) →
     let k = c .before .before in
     let a = k .before .before .before .before .before .args in
-    a .place + k .read .given .0 .0 .place + 108 ≤ length (now (a .book))
+    a .place + k .read .given .0 .0 .len + 108 ≤ length (now (a .book))
 within c =
     let k = c .before .before in
     let r = k .before .before in
@@ -50,7 +50,7 @@ returns c = λ k g.
     let e = c .before .before in
     let r = e .before .before in
     let a = r .before .before .before .args in
-    omega (arith, front-place _ (r .read-kept .result) (r .read-kept .ensures .0) k (ap keptFront (rest (a .place) (now (a .book))) ∙ g) _ (e .read .given .1))
+    omega (arith, front-len _ (r .read-kept .result) (r .read-kept .ensures .0) k (ap keptFront (rest (a .place) (now (a .book))) ∙ g) _ (e .read .given .1))
 
 returns-2 : tie.Need-returns-2
 returns-2 c = λ k g.

@@ -16,7 +16,7 @@ use Rattle.schedule.specs.Code.{settingsOf}
 use Rattle.judge_step.specs.Code.{start, judgingOf}
 use Rattle.books.specs.Kept.{Book}
 use Rattle.book_judge.specs.Code.{marked, Asked}
-use Rattle.book_judge.proofs.Laws.{inMaps, maps-judged, direct-linked, versions-behind, view-prev}
+use Rattle.book_judge.proofs.Laws.{inMaps, maps-judged, direct-linked, versions-after, view-prev}
 use borrow.Author.Needs.{needs}
 use Rattle.book_judge.proofs.direct.judge_direct_list.Statement.{statement}
 use Rattle.book_judge.proofs.direct.judge_direct_list.Tie as tie
@@ -86,7 +86,7 @@ returns-2 c =
     let m = t .before .before in
     let st = begin m in
     let q = point m i in
-    versions-behind (settingsOf (st .args .conf)) (st .args .required) (pointViewOf (st .args .p)) b q start (judgingOf (m .judge-map2 .result)) _ (a .view)
+    versions-after (settingsOf (st .args .conf)) (st .args .required) (pointViewOf (st .args .p)) b q start (judgingOf (m .judge-map2 .result)) _ (a .view)
     (sym (view-prev (pointViewOf (st .args .p)) q (a .view)) ∙ ap foundOf (t .enum-told2 .given .1))
     (maps m b i a d) (c .judge-versions .ensures b (a .holds))
 

@@ -50,7 +50,7 @@ returns-4 : tie.Need-returns-4
 returns-4 c =
     let k = c .before in (
       sym (entry-kept _ _ _ (k .before .before .before .before .before .if1 .left) _ (status (k .before)) (sym (k .is-keepable .ensures) ∙ not-false _ (c .if2 .left))),
-      record { info = refl; place = refl },
+      record { info = refl; len = refl },
     )
 
 pub entry-of-spec : {M : Type 1} → statement M

@@ -1,7 +1,7 @@
 -- `read_ill_formed` meets its contract: a reason, and zeros after it.
 use mathlib.Core.Path.{sym, _∙_}
 use borrow.Author.Tests.{not-true, not-false}
-use Rattle.book_layout.proofs.Laws.{ill-formed-low, ill-formed-high, ill-formed-behind, ill-formed}
+use Rattle.book_layout.proofs.Laws.{ill-formed-low, ill-formed-high, ill-formed-after, ill-formed}
 use borrow.Author.Needs.{needs}
 use Rattle.book_layout.proofs.read.read_ill_formed.Statement.{statement}
 use Rattle.book_layout.proofs.read.read_ill_formed.Tie as tie
@@ -24,7 +24,7 @@ returns-3 : tie.Need-returns-3
 returns-3 c =
     let h = c .before .before in
     let e = h .before in
-    sym (ill-formed-behind _ (e .before .before .before .pre .1) (e .if1 .left) (h .if2 .left) (sym (c .before .is-zeros .ensures) ∙ not-true _ (c .if3 .taken)))
+    sym (ill-formed-after _ (e .before .before .before .pre .1) (e .if1 .left) (h .if2 .left) (sym (c .before .is-zeros .ensures) ∙ not-true _ (c .if3 .taken)))
 
 returns-4 : tie.Need-returns-4
 returns-4 c =

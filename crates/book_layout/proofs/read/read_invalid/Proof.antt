@@ -1,7 +1,7 @@
 -- `read_invalid` meets its contract: a reason, and zeros after it.
 use mathlib.Core.Path.{sym, _∙_}
 use borrow.Author.Tests.{not-true, not-false}
-use Rattle.book_layout.proofs.Laws.{invalid-reasonless, invalid-behind, invalid}
+use Rattle.book_layout.proofs.Laws.{invalid-reasonless, invalid-after, invalid}
 use borrow.Author.Needs.{needs}
 use Rattle.book_layout.proofs.read.read_invalid.Statement.{statement}
 use Rattle.book_layout.proofs.read.read_invalid.Tie as tie
@@ -24,7 +24,7 @@ returns-2 : tie.Need-returns-2
 returns-2 c =
     let e = c .before .before in
     let r = e .before in
-    sym (invalid-behind _ (r .before .before .before .pre .1) (sym (r .is-reason .ensures) ∙ not-false _ (e .if1 .left)) (sym (c .before .is-zeros .ensures) ∙ not-true _ (c .if2 .taken)))
+    sym (invalid-after _ (r .before .before .before .pre .1) (sym (r .is-reason .ensures) ∙ not-false _ (e .if1 .left)) (sym (c .before .is-zeros .ensures) ∙ not-true _ (c .if2 .taken)))
 
 returns-3 : tie.Need-returns-3
 returns-3 c =

@@ -34,19 +34,19 @@ add-at c = let h = shown (c .before) in omega (arith, h .room)
 aim-requires : tie.Need-aim-requires
 aim-requires c κs = let h = shown (c .before) in omega (arith, h .room)
 
-id-behind-requires : tie.Need-id-behind-requires
-id-behind-requires c κs = shown (c .before .before) .id-room
+id-after-requires : tie.Need-id-after-requires
+id-after-requires c κs = shown (c .before .before) .id-room
 
-end-behind-requires : tie.Need-end-behind-requires
-end-behind-requires c κs = let h = shown (c .before .before .before) in (h .room, ap isSome (h .end))
+entry-end-requires : tie.Need-entry-end-requires
+entry-end-requires c κs = let h = shown (c .before .before .before) in (h .room, ap isSome (h .end))
 
 returns : tie.Need-returns
 returns c =
     let f = c .before .before .before .before in
     let h = shown f in
-    let e = c .end-behind .ensures in
+    let e = c .entry-end .ensures in
     let g = h .end in
-    head-made _ (first (f .before .before)) _ _ _ _ (some-of _ (f .before .before .pre) .1) (c .before .before .aim .ensures ∙ sym (h .for)) (sym (h .dropped)) (c .before .id-behind .ensures ∙ sym (h .id)) (cc)
+    head-made _ (first (f .before .before)) _ _ _ _ (some-of _ (f .before .before .pre) .1) (c .before .before .aim .ensures ∙ sym (h .for)) (sym (h .dropped)) (c .before .id-after .ensures ∙ sym (h .id)) (cc)
 
 pub head-of-spec : {M : Type 1} → statement M
 head-of-spec =
@@ -57,6 +57,6 @@ head-of-spec =
     shared-slice-read-state
     add-at
     aim-requires
-    id-behind-requires
-    end-behind-requires
+    id-after-requires
+    entry-end-requires
     returns)

@@ -86,7 +86,7 @@ are-targets-requires : tie.Need-are-targets-requires
 are-targets-requires c κs =
     let w = placed (past (c .before)) in
     let t = rest (w-end (past (c .before))) (now (start (past (c .before)) .args .list)) in
-    (ap (λ (k : List ℕ). isSome (readList k)) t ∙ w .left, ap (λ (k : List ℕ). directs (listed k)) t ∙ w .behind)
+    (ap (λ (k : List ℕ). isSome (readList k)) t ∙ w .left, ap (λ (k : List ℕ). directs (listed k)) t ∙ w .after)
 
 returns-4 : tie.Need-returns-4
 returns-4 c =

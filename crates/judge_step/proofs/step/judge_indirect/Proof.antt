@@ -10,7 +10,7 @@ use Rattle.schedule.specs.Settings.{Settings}
 use Rattle.schedule.specs.Code.{settingsOf}
 use Rattle.reasons.specs.Invalid.{InvalidReason, InvalidDependency}
 use Rattle.rules.specs.DagPoint.{Entry, PointView}
-use Rattle.rules.specs.Validate.{indirectEntryTrail, recordOf, join}
+use Rattle.rules.specs.Validate.{dependencyTrail, recordOf, join, dependency, indirectPointRows}
 use Rattle.judge_entries.specs.Code.{entryOf}
 use Rattle.judge_valid.specs.Code.{pointViewOf}
 use Rattle.judge_step.specs.Code.{Judging, laterOf, indirectStep, judgingOf}
@@ -19,12 +19,12 @@ use Rattle.judge_step.proofs.step.judge_indirect.Statement.{statement}
 use Rattle.judge_step.proofs.step.judge_indirect.Tie as tie
 
 judged : (c : Settings) (p : PointView) (g : AnchorStageRole) (t : Through) (j : Judging) (e : Entry)
-    (reason : Option InvalidReason) (w : Option InvalidDependency) → reason ≡ lastOf (indirectEntryTrail c g p (e .state)) → w ≡ recordOf c (p .id .round) (e .certified) t (e .state) →
+    (reason : Option InvalidReason) (w : Option InvalidDependency) → reason ≡ lastOf (dependencyTrail (indirectPointRows c g p) (e .state)) → w ≡ recordOf c (p .id .round) (e .certified) t (e .state) →
     (indirect : Option InvalidReason) (recorded : Option InvalidDependency) → indirect ≡ laterOf (j .indirect) reason → recorded ≡ join (j .recorded) w →
     record { direct = j .direct; indirect = indirect; recorded = recorded; ended = j .ended } ≡ indirectStep c p g t j e
-unfolding indirectStep
+unfolding indirectStep dependency
 judged c p g t j e reason w r v indirect recorded i f =
-    let h : indirect ≡ laterOf (j .indirect) (lastOf (indirectEntryTrail c g p (e .state))) = i ∙ ap (laterOf (j .indirect)) r in
+    let h : indirect ≡ laterOf (j .indirect) (lastOf (dependencyTrail (indirectPointRows c g p) (e .state))) = i ∙ ap (laterOf (j .indirect)) r in
     let k : recorded ≡ join (j .recorded) (recordOf c (p .id .round) (e .certified) t (e .state)) = f ∙ ap (join (j .recorded)) v in
     rw (h, k)
 

@@ -1,8 +1,9 @@
 -- `source` meets its contract.
 use mathlib.Core.Path.{_≡_, ap, _∙_}
+use mathlib.Core.Option.{Option·getD}
 use borrow.Author.Needs.{needs}
 use denote.Ref.{now}
-use Rattle.point.specs.Point.{through, anchorLink, orZero}
+use Rattle.point.specs.Point.{through, anchorLink}
 use Rattle.point.specs.Code.{throughOf, pointOf}
 use Rattle.point.proofs.Laws.{link-in, source-is}
 use Rattle.point.proofs.info.source.Statement.{statement}
@@ -39,7 +40,7 @@ returns c =
     let d = c .before in
     let s = d .before in
     let t = s .before .before in
-    source-is _ _ _ _ _ _ (link t) (s .before .round .ensures) (d .digest-or-zero .ensures ∙ ap orZero (s .digest-safe .ensures)) (c .peer .ensures)
+    source-is _ _ _ _ _ _ (link t) (s .before .round .ensures) (d .digest-or-zero .ensures ∙ ap (λ o. Option·getD o 0) (s .digest-safe .ensures)) (c .peer .ensures)
 
 pub source-spec : {M : Type 1} → statement M
 source-spec =

@@ -9,21 +9,13 @@ use borrow.Author.Tests.{not-true, not-false}
 use borrow.Author.Needs.{needs}
 use denote.Ref.{now}
 use Rattle.record.specs.Record.{rows, rowOf, startOf, contentOf, wellShaped}
-use Rattle.record.specs.declared.Places.{Places}
+use Rattle.record.specs.Code.{PlacesOf}
 use Rattle.record.proofs.Laws.{end-is, shaped-end, content-least}
-use Rattle.point.specs.Reading.{readLink, readRole, pointWith, readPoint}
+use Rattle.point.specs.Reading.{readLink, readRole, readPoint}
 use Rattle.point.specs.Code.{linkOf, readLinkOf, readRoleOf}
-use Rattle.point.proofs.Laws.{unrowed, shaped-reads}
+use Rattle.point.proofs.Laws.{reads, unrowed, shaped-reads}
 use Rattle.point.proofs.read.read_shaped.Statement.{statement}
 use Rattle.point.proofs.read.read_shaped.Tie as tie
-
--- what `find_places` says
-abbrev Found : List ℕ → Places → Type 0
-Found s p =
-    ((p .payload ≡ startOf s 1) × (p .includes ≡ startOf s 2))
-    × (((p .witness ≡ startOf s 3) × (p .evidence ≡ startOf s 4))
-    × (((p .«anchor_proof» ≡ startOf s 5) × (p .«anchor_trigger» ≡ startOf s 6))
-    × ((p .role ≡ startOf s 7) × (p .times ≡ startOf s 8))))
 
 -- the record, once its maps are tested
 abbrev start : tie.Else1 → tie.Start
@@ -36,10 +28,10 @@ well : (c : tie.Else1) → wellShaped (s2 c) ≡ true
 well c = start c .pre
 
 -- where the fields start
-found : (c : tie.Else1) → Found (s2 c) (c .before .before .find-places .result)
+found : (c : tie.Else1) → PlacesOf (s2 c) (c .before .before .find-places .result)
 found c = c .before .before .find-places .ensures
 
-passed : (c : tie.Else1) → readPoint (s2 c) ≡ pointWith (s2 c) (readLink (contentOf (s2 c) 5)) (readLink (contentOf (s2 c) 6)) (readRole (contentOf (s2 c) 7))
+passed : (c : tie.Else1) → readPoint (s2 c) ≡ reads (s2 c) (readLink (contentOf (s2 c) 5)) (readLink (contentOf (s2 c) 6)) (readRole (contentOf (s2 c) 7))
 passed c = shaped-reads _ (well c) (sym (c .before .are-maps-ok .ensures) ∙ not-false _ (c .if1 .left))
 
 -- the proof's link, the trigger's link and the role
@@ -74,12 +66,12 @@ s6 c = s2 (e3 (e4 (e5 (c .before .before .before))))
 well6 : (c : tie.After-known-told3) → wellShaped (s6 c) ≡ true
 well6 c = well (e3 (e4 (e5 (c .before .before .before))))
 
-found6 : (c : tie.After-known-told3) → Found (s6 c) (e3 (e4 (e5 (c .before .before .before))) .before .before .find-places .result)
+found6 : (c : tie.After-known-told3) → PlacesOf (s6 c) (e3 (e4 (e5 (c .before .before .before))) .before .before .find-places .result)
 found6 c = found (e3 (e4 (e5 (c .before .before .before))))
 
 all-read : (c : tie.After-known-told3) →
     let t = c .before .before .before .before .before in
-    readPoint (s6 c) ≡ pointWith (s6 c) (some (linkOf (t .before .before .before .before .before .before .anchor-proof .given .0 .0))) (some (linkOf (t .before .anchor-trigger .given .0 .0))) (some (c .before .role .given .0 .0))
+    readPoint (s6 c) ≡ reads (s6 c) (some (linkOf (t .before .before .before .before .before .before .anchor-proof .given .0 .0))) (some (linkOf (t .before .anchor-trigger .given .0 .0))) (some (c .before .role .given .0 .0))
 all-read c =
     let r = c .before .before .before in
     let t = r .before .before in
@@ -150,19 +142,19 @@ returns-4 c =
 
 content-from-requires-4 : tie.Need-content-from-requires-4
 unfolding startOf
-content-from-requires-4 c κs = ((well6 c, omega arith), (refl, found6 c .0 .0))
+content-from-requires-4 c κs = ((well6 c, omega arith), (refl, found6 c .payload))
 
 point-id-at-requires : tie.Need-point-id-at-requires
 unfolding rowOf rows
 point-id-at-requires c κs = rw (c .content-from4 .ensures) (content-least _ (well6 (c .before)) 0 (omega arith))
 
 content-from-requires-5 : tie.Need-content-from-requires-5
-content-from-requires-5 c κs = let k = c .before .before in ((well6 k, omega arith), found6 k .0)
+content-from-requires-5 c κs = let k = c .before .before in ((well6 k, omega arith), (found6 k .payload, found6 k .includes))
 
 content-from-requires-6 : tie.Need-content-from-requires-6
 content-from-requires-6 c κs =
     let k = c .before .before .before in
-    ((well6 k, omega arith), (found6 k .1 .1 .1 .1, sym (end-is (s6 k) _ (shaped-end (s6 k) (well6 k)))))
+    ((well6 k, omega arith), (found6 k .times, sym (end-is (s6 k) _ (shaped-end (s6 k) (well6 k)))))
 
 u32-at-requires : tie.Need-u32-at-requires
 unfolding rowOf rows

@@ -2,6 +2,7 @@
 use Prim.Native.Nat.{_+_, _-_, _≤_}
 use native.Mathlib.Omega.{arith}
 use mathlib.Core.Path.{_≡_, refl, ap, sym, _∙_}
+use mathlib.Core.Option.{Option·map}
 use lib.ListN.{length, take, length-set}
 use denote.Ref.{now}
 use borrow.Author.Tests.{not-true, not-false}
@@ -9,7 +10,7 @@ use borrow.Author.Needs.{needs}
 use Rattle.base.specs.Base.{pick}
 use Rattle.record.specs.Record.{nextAt}
 use Rattle.record.proofs.Laws.{next-within}
-use Rattle.schedule.specs.Schedule.{spanAt, lastAt, spanThen, scheduleFrom}
+use Rattle.schedule.specs.Schedule.{spanAt, lastAt, addSpan, scheduleFrom}
 use Rattle.schedule.specs.Code.{spansThen, spanOf, spansOf}
 use Rattle.schedule.proofs.Laws.{Filled, filled-full, filled-end, filled-step, span-held, from-step, from-none, stored}
 use Rattle.schedule.proofs.schedule.read_spans.Statement.{statement}
@@ -27,14 +28,14 @@ turn : (c : tie.After-is-span Inv-loop μ-loop) →
     let s = now (l .before .before .args .s) in
     scheduleFrom 4 s 0
     ≡ spansThen (spansOf s (take (l .loop .count) (l .loop .spans)))
-    (pick (c .is-span .result) (spanThen (spanAt s (l .loop .at)) (scheduleFrom (4 - (l .loop .count + 1)) s (nextAt s (l .loop .at)))) (lastAt s (l .loop .at)))
+    (pick (c .is-span .result) (Option·map (addSpan (spanAt s (l .loop .at))) (scheduleFrom (4 - (l .loop .count + 1)) s (nextAt s (l .loop .at)))) (lastAt s (l .loop .at)))
 turn c =
     let l = c .before .before in
     let s = now (l .before .before .args .s) in
     rw (c .is-span .ensures) (l .loop .inv .3 ∙ ap (spansThen (spansOf s (take (l .loop .count) (l .loop .spans)))) (from-step (4 - l .loop .count) (4 - (l .loop .count + 1)) s (l .loop .at) (omega arith)))
 
 loop-holds : tie.Need-loop-holds Inv-loop μ-loop
-loop-holds c = (search needs, search needs, refl, refl, record { behind = refl; ahead = refl })
+loop-holds c = (search needs, search needs, refl, refl, record { after = refl; before = refl })
 
 is-span-requires : tie.Need-is-span-requires Inv-loop μ-loop
 is-span-requires c κs = search needs

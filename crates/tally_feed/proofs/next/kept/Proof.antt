@@ -1,7 +1,7 @@
 -- `kept` meets its contract: the count that reading the book gives.
-use mathlib.Core.Path.{ap, sym, subst, _∙_}
+use mathlib.Core.Path.{subst}
 use Rattle.book_read.specs.Code.{BookRead}
-use Rattle.tally_feed.specs.Tally.{keptOf, keptIn}
+use Rattle.tally_feed.specs.Tally.{keptIn}
 use borrow.Author.Needs.{needs}
 use Rattle.tally_feed.proofs.next.kept.Statement.{statement}
 use Rattle.tally_feed.proofs.next.kept.Tie as tie
@@ -30,7 +30,7 @@ returns c =
     let r = c .before .before .before .before .before .before in
     let l = r .read-book .last .1 in
     let x = subst (BookRead _ (l .0) (l .1 .0) (l .1 .1 .0)) (c .before .read .given .1) (r .read-book .ensures) in
-    x .holds .count ∙ sym (ap keptOf (x .read))
+    rw (x .read) (x .holds .count)
 
 returns-2 : tie.Need-returns-2
 unfolding keptIn
@@ -38,7 +38,7 @@ returns-2 c =
     let r = c .before .before .before .before .before in
     let l = r .read-book .last .1 in
     let x = subst (BookRead _ (l .0) (l .1 .0) (l .1 .1 .0)) (c .enum-told .given .1) (r .read-book .ensures) in
-    sym (ap keptOf x)
+    rw x
 
 pub kept-spec : {M : Type 1} → statement M
 kept-spec =

@@ -9,8 +9,8 @@ use Rattle.point.specs.Code.{pointOf, readPointOf}
 use Rattle.point.specs.Reading.{readPoint}
 use Rattle.base.proofs.Lists.{rest}
 use Rattle.judge.specs.Code.{judgeAnswerOf}
-use Rattle.books.specs.Calls.{Result, offerBytes}
-use Rattle.books.specs.Offer.{offerOf}
+use Rattle.books.specs.Calls.{offerBytes}
+use Rattle.books.specs.Offer.{Result, offerOf}
 use Rattle.tally_feed.specs.Tally.{recordSize, Step, offeredAs, step}
 use Rattle.tally_feed.proofs.Laws.{step-over, step-offer, gives-over, gives-last, gives-point}
 use borrow.Author.Needs.{needs}
@@ -56,7 +56,7 @@ said : (c : tie.After-read-point) → readPoint (bytes (sizing c)) ≡ readPoint
 said c = ap readPoint (sym (same-bytes (sizing c))) ∙ sym (c .read-point .ensures)
 
 -- what their offer gives
-abbrev result : tie.After-record-size → List ℕ → Result
+abbrev result : tie.After-record-size → List ℕ → Result (List ℕ)
 result c s = let a = start c .args in offerBytes (now (a .book)) (offerOf (now (a .schedule)) (getD (now (a .feed)) 0 0) s (now (a .peers)))
 
 offers : (c : tie.After-record-size) → next (start c) ≡ offeredAs (start c .args .place) (suc (size c)) (result c (bytes c)) (readPoint (bytes c))
@@ -68,8 +68,8 @@ read c = c .before .before .before .before
 gave : (c : tie.After-offer) → let k = sizing (read c) in judgeAnswerOf (c .offer .result) ≡ result k (bytes k) .answer
 gave c = let k = sizing (read c) in c .offer .ensures .0 ∙ ap (λ (x : List ℕ). result k x .answer) (same-bytes k)
 
-left : (c : tie.After-offer) → let k = sizing (read c) in c .offer .last .0 ≡ result k (bytes k) .bytes
-left c = let k = sizing (read c) in c .offer .ensures .1 .1 ∙ ap (λ (x : List ℕ). result k x .bytes) (same-bytes k)
+left : (c : tie.After-offer) → let k = sizing (read c) in c .offer .last .0 ≡ result k (bytes k) .after
+left c = let k = sizing (read c) in c .offer .ensures .1 .1 ∙ ap (λ (x : List ℕ). result k x .after) (same-bytes k)
 
 wrote : (c : tie.After-offer) → let k = sizing (read c) in c .offer .last .1 .1 .1 .1 .0 ≡ result k (bytes k) .peers
 wrote c = let k = sizing (read c) in c .offer .ensures .1 .0 ∙ ap (λ (x : List ℕ). result k x .peers) (same-bytes k)

@@ -1,9 +1,9 @@
--- `record::behind` meets its contract.
+-- `record::field_end` meets its contract.
 use native.Mathlib.Omega.{arith}
 use borrow.Author.Needs.{needs}
 use Rattle.record.specs.Record.{nextAt}
-use Rattle.record.proofs.behind.Statement.{statement}
-use Rattle.record.proofs.behind.Tie as tie
+use Rattle.record.proofs.field_end.Statement.{statement}
+use Rattle.record.proofs.field_end.Tie as tie
 
 add-u16-at : tie.Need-add-u16-at
 add-u16-at c = search needs
@@ -24,5 +24,5 @@ returns : tie.Need-returns
 unfolding nextAt
 returns c = omega arith
 
-pub behind-spec : {M : Type 1} → statement M
-behind-spec = tie.close (tie.spec add-u16-at u16-at-requires cast-n add-result add-result-2 returns)
+pub field-end-spec : {M : Type 1} → statement M
+field-end-spec = tie.close (tie.spec add-u16-at u16-at-requires cast-n add-result add-result-2 returns)

@@ -1,10 +1,10 @@
--- `end_behind` meets its contract: each arm is a state of `endBehind`.
+-- `entry_end` meets its contract: each arm is a state of `entryEnd`.
 use mathlib.Core.Path.{ap, sym, _∙_}
 use Rattle.base.specs.Base.{isSome}
 use Rattle.judge_mismatch.proofs.Heads.{end-dropped, end-ill-formed, end-not-found, end-root, end-record}
 use borrow.Author.Needs.{needs}
-use Rattle.judge_mismatch.proofs.head.end_behind.Statement.{statement}
-use Rattle.judge_mismatch.proofs.head.end_behind.Tie as tie
+use Rattle.judge_mismatch.proofs.head.entry_end.Statement.{statement}
+use Rattle.judge_mismatch.proofs.head.entry_end.Tie as tie
 
 add-result : tie.Need-add-result
 add-result c = search needs
@@ -43,8 +43,8 @@ returns-5 c =
     let r = c .before .match .rest in
     end-record _ _ _ (r .0 .0 .0 .1) (r .0 .0 .1) (r .0 .1) (r .1) ∙ c .end-of-record2 .ensures
 
-pub end-behind-spec : {M : Type 1} → statement M
-end-behind-spec =
+pub entry-end-spec : {M : Type 1} → statement M
+entry-end-spec =
     tie.close
     (tie.spec
     add-result
