@@ -93,7 +93,8 @@ extern "C" {
  * The caller's part: no pointer is null, not even with the length 0; each has as many bytes after it as its length
  * says, the answer 114; and the peer buffer and the answer overlap neither each other nor the rest.
  *
- * Stack: verifying needs at most 4 KB of it, judging 16 KB, opening 1 KB and an offer 56 KB. A call takes no other memory.
+ * Stack, as measured on x86-64 (docs/RELIABILITY.md) with room added: verifying needs at most 4 KB, judging 16 KB, opening
+ * 1 KB and an offer 56 KB. A call takes no other memory.
  *
  * Threads: a call keeps nothing for the next one. Calls may be made from several threads at once, also on separate books
  * and on the same bytes where these are const. One book may be in one call at a time, and is not read by others

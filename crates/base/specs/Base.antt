@@ -43,7 +43,7 @@ abbrev pub isSomeAnd {ℓ} : {A : Type ℓ} → Option A → (A → Bool) → Bo
 isSomeAnd none f = false
 isSomeAnd (some x) f = f x
 
--- Option::and_then: what is made of a value, which may lack too
+-- Option::and_then: what is made of a value, if there is one; that can be nothing too
 abbrev pub andThen {ℓ κ} : {A : Type ℓ} {B : Type κ} → Option A → (A → Option B) → Option B
 andThen none f = none
 andThen (some x) f = f x

@@ -16,13 +16,13 @@ use Rattle.base.proofs.Lists.{member-at}
 use Rattle.map.specs.Rows.{Pair, get, peersOf, pairsOf, digests}
 use Rattle.map.proofs.Laws.{peersOf-length, pairsOf-length, peers-pairsOf, peers-at, digests-at}
 use Rattle.map.proofs.Pairs.{get-there}
-use Rattle.point.specs.Point.{PointId, Through, PointInfo, AnchorLink, Indirect, prevDigest, prevId, anchorLink, sameId, inDomain}
+use Rattle.point.specs.Point.{PointId, Through, PointInfo, AnchorLink, Indirect, prevDigest, prevId, anchorLink, inDomain}
 use Rattle.point.specs.declared.data.AnchorStageRole.{AnchorStageRole}
 use Rattle.point.specs.declared.data.AnchorStageRole.the-variants.{Proof, Trigger}
 use Rattle.schedule.specs.Settings.{Settings}
 use Rattle.reasons.specs.Verdict.{Verdict}
 use Rattle.rules.specs.DagPoint.{DagPoint, NotFound, Entry, IndirectEntry, entryId, PointView, pointView}
-use Rattle.rules.specs.Validate.{Taken, asDependency, asPrevPoint, asVersion, aside, takenOwn, taken, dependency, foundAs, entryFound, validate}
+use Rattle.rules.specs.Validate.{Taken, asDependency, asPrevPoint, asVersion, aside, takenOwn, taken, dependency, findingsAs, entryFindings, validate}
 use Rattle.judge_step.specs.Code.{Judging, start, directStep, indirectStep, directFold, indirectFold, targetStep, resultOf}
 use Rattle.judge_step.proofs.Laws.{fold-over-lists}
 use Rattle.judge_mismatch.specs.Code.{noPair}
@@ -83,7 +83,7 @@ abbrev entry : DagPoint → Bool → Bool → Entry
 entry d certified first = record { state = d; certified = certified; firstValid = first }
 
 module _ (c : Settings) (required : Bool) (p : PointView) (d : DagPoint) (certified a b : Bool) where
-  found-first : (w : Taken) → isAsVersion w ≡ false → foundAs c required p w (entry d certified a) ≡ foundAs c required p w (entry d certified b)
+  found-first : (w : Taken) → isAsVersion w ≡ false → findingsAs c required p w (entry d certified a) ≡ findingsAs c required p w (entry d certified b)
   unfolding dependency
   found-first asDependency h = refl
   found-first asPrevPoint h = refl
@@ -91,7 +91,7 @@ module _ (c : Settings) (required : Bool) (p : PointView) (d : DagPoint) (certif
   found-first aside h = refl
 
   step-first : (j : Judging) → isAsVersion (taken p (entryId d)) ≡ false → directStep c required p j (entry d certified a) ≡ directStep c required p j (entry d certified b)
-  unfolding directStep entryFound
+  unfolding directStep entryFindings
   step-first j h = rw (found-first (taken p (entryId d)) h)
 
 -- what was looked up, judged without knowing whether it is first valid

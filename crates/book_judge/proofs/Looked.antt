@@ -27,13 +27,13 @@ use Rattle.judge_entries.specs.declared.DagPoint as code-point
 use Rattle.judge_entries.specs.declared.DagPoint.the-variants as case-point
 use Rattle.books.specs.Kept.{Kept, Book}
 use Rattle.books.specs.Lists.{dagPoint, lookup, targetEntry}
-use Rattle.books.specs.Layout.{KeptFront, keptFront}
+use Rattle.books.specs.Layout.{keptFront}
 use Rattle.book_layout.specs.Code.{statusOf, keptOf, readKeptOf, KeptPlaced}
 use Rattle.book_layout.specs.Code as layout
 use Rattle.book_layout.specs.declared.read.Kept as code-kept
 use Rattle.book_layout.specs.declared.read.ReadKept as code-read
 use Rattle.book_layout.specs.declared.read.ReadKept.the-variants as case-read
-use Rattle.book_judge.specs.Code.{marked, Asked, shown, lookedOf, Looks}
+use Rattle.book_judge.specs.Code.{marked, Asked, shown, lookedOf, Looks, KeptLooked}
 use Rattle.book_judge.specs.declared.look.Looked as code-looked
 use Rattle.book_read.proofs.Laws.{found-kept, absent-kept}
 use Rattle.book_judge.proofs.Laws.{looked-kept, looked-absent, step-looked, indirect-judged}
@@ -42,7 +42,7 @@ use Rattle.book_judge.proofs.Laws.{looked-kept, looked-absent, step-loo
 abbrev pub LookedAt : List ℕ → ℕ → Bool → code-looked.Looked → Type 0
 LookedAt s place covered x =
     EntryPlaced s (x .state) (x .place) (x .end)
-    × ((y : KeptFront) → keptFront (drop place s) ≡ some y → (first : Bool) → lookedOf s x first ≡ shown (y .kept) covered first)
+    × KeptLooked s place covered x
 
 placed-kept : (s : List ℕ) (r : code-read.ReadKept) (k : code-kept.Kept) → r ≡ case-read.Kept k → KeptPlaced s r → layout.KeptAt s k
 placed-kept s r k e h = rw e at h

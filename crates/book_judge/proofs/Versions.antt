@@ -144,8 +144,3 @@ module _ (c : Settings) (required : Bool) (p : PointView) where
     pub fold-end : length b ≤ j → w ≡ all
     unfolding versionsFold
     fold-end le = rw (drop-of-length-le b le) at h
-
--- whether an entry is a version, by its id
-pub is-version : (i : PointId) (k : Kept) (t : Bool) (back round author : ℕ) → i ≡ k .point .id → back ≡ round → t ≡ (eqb (i .round) back && eqb (i .author) author) →
-    isOf round author k ≡ t
-is-version i k t back round author e f g = sym (g ∙ rw (f, e))

@@ -5,7 +5,6 @@ use judge_entries::DagPoint;
 use judge_step::Judging;
 use judge_valid::PointView;
 use map::Found;
-use parts::Id;
 use point::PointId;
 use schedule::Settings;
 ghost use mathlib.Core.Path.{_≡_};
@@ -13,9 +12,7 @@ ghost use mathlib.Core.Bool.{not, _&&_};
 ghost use mathlib.Core.List.{List};
 ghost use Prim.Native.Nat.{ℕ, _+_, _≤_, _<_};
 ghost use lib.ListN.{length, getD};
-ghost use lib.Dec.{eqb};
 ghost use Rattle.judge_valid.specs.Code.{pointViewOf};
-ghost use Rattle.parts.specs.Code.{number};
 ghost use Rattle.point.specs.Code.{pointIdOf};
 ghost use Rattle.schedule.specs.Code.{settingsOf};
 ghost use Rattle.judge_entries.specs.Code.{dagPointOf, EntryPlaced};
@@ -125,16 +122,6 @@ fn is_first(state: DagPoint, seen: bool) -> bool
     }
 }
 
-// Whether an id is of an author's point at a round.
-fn is_of(id: PointId, round: u32, author: Id) -> bool
-    ensures { λ r. ⌜ r ≡ (eqb (id .round) round && eqb (number (id .author)) (number author)) ⌝ }
-{
-    if id.round != round {
-        return false;
-    }
-    parts::same(id.author, author)
-}
-
 // Judges the entry at a place, if it is a version of the author's point at the round before.
 fn judge_version(
     conf: Settings,
@@ -148,9 +135,8 @@ fn judge_version(
     ensures { λ r. ⌜ VersionJudged (settingsOf conf) required p (now (book .entry)) place (versionsOf «so_far») (versionsOf r) ⌝ }
 {
     let own = p.id;
-    let author = own.author;
     let id = point::point_id_at(book, place + 3);
-    if !is_of(id, parts::rounds_back(own.round, 1), author) {
+    if !judge_entries::is_own_before(own, id) {
         return so_far;
     }
     let x = look::kept_at(book, place, false);

@@ -24,12 +24,13 @@ use Rattle.write.proofs.Numbers.{little-fits, rest-bytes, little-of, big-of}
 use Rattle.point.specs.Point.{Includes, Witness, PointInfo, throughPeer, inDomain}
 use Rattle.point.specs.Reading.{pointIdAt, readPoint}
 use Rattle.schedule.specs.Settings.{Settings, readSettings}
+use Rattle.reasons.specs.Answer.{flag}
 use Rattle.reasons.specs.Invalid.{dagRound}
 use Rattle.rules.specs.List.{isListable}
 use Rattle.books.specs.Kept.{Status, Valid, TransInvalid, Invalid, IllFormed, Kept, Book, isTwice, Opened}
 use Rattle.books.specs.Lists.{dagPoint}
 use Rattle.books.specs.Offer.{used, isStateOk}
-use Rattle.books.specs.Layout.{flagByte, idBytes, throughBytes, statusBytes, keptBytes, entriesBytes, bookBytes, isZeros, throughAt, rootAt, isRootOk, readStatus, isKeepable, readKept, KeptFront, keptFront, entriesFrom, readBook}
+use Rattle.books.specs.Layout.{idBytes, throughBytes, statusBytes, keptBytes, entriesBytes, bookBytes, isZeros, throughAt, rootAt, isRootOk, readStatus, isKeepable, readKept, KeptFront, keptFront, entriesFrom, readBook}
 use Rattle.books.proofs.Shape.{RootFits, StatusShape, KeptShape, Shape}
 use Rattle.books.proofs.RoundTrip.{settings-length}
 
@@ -42,7 +43,7 @@ zeros-again (x ∷ l) h =
     let e : x ≡ 0 = eqb-true x 0 (and-left (eqb x 0) _ h) in
     rw e (ap (λ (t : List ℕ). 0 ∷ t) (zeros-again l (and-right (eqb x 0) _ h)))
 
-flag-again : (x : ℕ) → x ≤ 1 → flagByte (eqb x 1) ≡ x
+flag-again : (x : ℕ) → x ≤ 1 → flag (eqb x 1) ≡ x
 flag-again zero h = refl
 flag-again (suc zero) h = refl
 flag-again (suc (suc x)) h = absurd (omega arith)
@@ -100,7 +101,7 @@ module _ (t : List ℕ) where
 -- the 105 bytes of tag 33, a mark of 0 or 1 in the second
 module _ (t : List ℕ) (b : Bytes t) (l : length t ≡ 105) (m : getD t 1 0 ≤ 1) where
   -- the first byte, the mark and what stands after them
-  head-again : (x : ℕ) (r : List ℕ) → getD t 0 0 ≡ x → r ≡ drop 2 t → x ∷ flagByte (eqb (getD t 1 0) 1) ∷ r ≡ t
+  head-again : (x : ℕ) (r : List ℕ) → getD t 0 0 ≡ x → r ≡ drop 2 t → x ∷ flag (eqb (getD t 1 0) 1) ∷ r ≡ t
   head-again x r e f =
       rw (f, ← e, flag-again (getD t 1 0) m) (sym (drop-cons t 0 0 (omega arith) ∙ ap (λ (u : List ℕ). getD t 0 0 ∷ u) (drop-cons t 1 0 (omega arith))))
 

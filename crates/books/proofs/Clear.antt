@@ -22,6 +22,7 @@ use Rattle.rules.specs.Validate.{validate}
 use Rattle.schedule.specs.Settings.{Settings}
 use Rattle.rules.specs.Judge.{JudgeAnswer, Number, Given}
 use Rattle.rules.specs.Mismatch.{hasId, pairId, isAmong, isVersion, hasPlace, allPlaced, idThen, idsOf, droppedIn, lackingIn, lacking, isTargetOf, sameRole, stoodBefore, allTargets, mismatch, isId, uncovers, anyUncovers, entriesIn, uncovered}
+use Rattle.rules.proofs.All.{All, all-append}
 use Rattle.rules.proofs.Mismatch.{has-next, has-none}
 use Rattle.books.specs.Kept.{Status, Valid, TransInvalid, Invalid, IllFormed, Kept, Book, findKept, isTwice, markOne, mark}
 use Rattle.books.specs.Lists.{dagPoint, isOf, keptEntry, entryWith, lookup, lookups, versions, directList, targetEntry, isTriggerFirst, indirectList}
@@ -424,22 +425,6 @@ no-mismatch b p d ri rwi two =
     rw (placed, none-lacking b p, le-ltb (droppedIn (directList b p)) 0 (omega arith), all-targets b p)
 
 -- ---- 7 and 9: what holds of each kept entry and of each id that is not kept holds of both lists
-
-abbrev pub All : (Entry → Type 0) → List Entry → Type 0
-All P [] = Unit
-All P (e ∷ l) = P e × All P l
-
-all-append : (P : Entry → Type 0) (a b : List Entry) → All P a → All P b → All P (a ++ b)
-all-append P [] b f g = g
-all-append P (e ∷ a) b f g = (f .0, all-append P a b (f .1) g)
-
-pub all-member : (P : Entry → Type 0) (l : List Entry) → All P l → (e : Entry) → List·Memᴰ e l → P e
-all-member P [] h e m = absurd (List·Memᴰ·not-nil m)
-all-member P (x ∷ l) h e m = go (all-member P l (h .1) e) (List·Memᴰ·cases-cons m)
-  where
-    go : (List·Memᴰ e l → P e) → (e ≡ x) ⊎ List·Memᴰ e l → P e
-    go rec (inl q) = subst P (sym q) (h .0)
-    go rec (inr n) = rec n
 
 entries-append : (a b : List IndirectEntry) → entriesIn (a ++ b) ≡ entriesIn a ++ entriesIn b
 unfolding entriesIn

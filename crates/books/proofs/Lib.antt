@@ -1,5 +1,4 @@
 pub mod Find
-pub mod Fits
 pub mod Clear
 pub mod Named
 pub mod Roots
@@ -28,3 +27,4 @@ pub mod Example
 pub mod DependsOn
 pub mod Clean
 pub mod FoundBooks
+pub mod OffersTold

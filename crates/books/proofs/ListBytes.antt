@@ -12,11 +12,12 @@ use Rattle.map.specs.Rows.{Pair}
 use Rattle.point.specs.Point.{PointId, AnchorLink, Direct, Indirect, PointInfo, prevDigest, prevId, target}
 use Rattle.point.specs.declared.data.AnchorStageRole.{AnchorStageRole}
 use Rattle.point.specs.declared.data.AnchorStageRole.the-variants.{Proof, Trigger}
-use Rattle.reasons.specs.Answer.{roleNumber}
+use Rattle.reasons.specs.Answer.{flag, roleNumber}
 use Rattle.rules.specs.Mismatch.{pairId, isId}
 use Rattle.rules.specs.DagPoint.{isBy}
 use Rattle.books.specs.Kept.{Status, Valid, TransInvalid, Invalid, IllFormed, Kept, Book, findKept}
-use Rattle.books.specs.Layout.{flagByte, idBytes}
+use Rattle.books.specs.Layout.{idBytes}
+use Rattle.write.proofs.Laws.{bytes-below}
 use Rattle.books.specs.ListFor.{tag16, tag17, entryAs, entryOf, entryFor, ofPairs, ofVersions, ofTarget, listFor}
 use Rattle.books.proofs.Find.{find-member}
 use Rattle.books.proofs.Shape.{StatusFits, KeptShape, Shape}
@@ -46,20 +47,18 @@ chosen false v w = w
 
 -- ---- ids and tags
 
-big-bytes : (n x : ℕ) → AllBytes (bigBytes n x)
-unfolding bigBytes
-big-bytes zero x = none-more
-big-bytes (suc n) x = one-more (omega arith) (big-bytes n x)
-
-little-bytes : (n x : ℕ) → AllBytes (littleBytes n x)
+little-below : (n x : ℕ) → AllBytes (littleBytes n x)
 unfolding littleBytes
-little-bytes zero x = none-more
-little-bytes (suc n) x = one-more (omega arith) (little-bytes n (x / 256))
+little-below zero x = none-more
+little-below (suc n) x = one-more (omega arith) (little-below n (x / 256))
+
+big-below : (x : ℕ) → AllBytes (bigBytes 32 x)
+big-below x = record { bytes = bytes-below 32 x }
 
 id-bytes : (i : PointId) → AllBytes (idBytes i)
-id-bytes i = both (littleBytes 4 (i .round)) (little-bytes 4 (i .round)) (both (bigBytes 32 (i .digest)) (big-bytes 32 (i .digest)) (big-bytes 32 (i .author)))
+id-bytes i = both (littleBytes 4 (i .round)) (little-below 4 (i .round)) (both (bigBytes 32 (i .digest)) (big-below (i .digest)) (big-below (i .author)))
 
-flag-below : (t : Bool) → flagByte t < 256
+flag-below : (t : Bool) → flag t < 256
 flag-below true = omega arith
 flag-below false = omega arith
 

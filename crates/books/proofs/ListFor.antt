@@ -24,7 +24,7 @@ use Rattle.books.specs.Kept.{Status, Valid, TransInvalid, Invalid, IllFo
 use Rattle.books.specs.Lists.{isValid, isOf, firstValid, keptEntry, entryWith, lookup, lookups, versions, directList, targetEntry, isTriggerFirst, indirectList}
 use Rattle.books.specs.ListFor.{tag17, isKeptValid, isFirstValid, entryOf, entryFor, ofPairs, ofVersions, ofTarget, listFor}
 use Rattle.books.proofs.Find.{find-member, find-marked}
-use Rattle.books.proofs.Fits.{IdFits, point-fits, TargetFits, DependenciesFit, dependencies-fit}
+use Rattle.rules.proofs.Fits.{IdFits, point-fits, TargetFits, DependenciesFit, dependencies-fit}
 use Rattle.books.proofs.Shape.{Shape}
 use Rattle.books.proofs.Written.{Written, tagged, lost-reads, entry-written, Reads, none-read, direct-more, indirect-more}
 

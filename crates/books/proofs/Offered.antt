@@ -38,9 +38,10 @@ use Rattle.books.specs.Lists.{directList, indirectList}
 use Rattle.books.specs.Offer.{Offer, Result, startIn, used, isFull, testedRoom, inputTested, offerTested, markedBy, answerWith, keptAs, leftBy, beforeIn, markedIn, answerIn, numbered, judgedAs, offerWith, offer}
 use Rattle.books.specs.Calls.{IsOfferNumber}
 use Rattle.books.specs.FoundBook.{testedAs}
-use Rattle.books.proofs.Fits.{point-fits}
+use Rattle.rules.proofs.Fits.{point-fits}
 use Rattle.books.proofs.Named.{listable}
-use Rattle.books.proofs.Roots.{Recorded, reason-fits, validated}
+use Rattle.rules.proofs.Roots.{Recorded}
+use Rattle.books.proofs.Roots.{Root, reason-fits, validated}
 use Rattle.books.proofs.Bytes.{used-append, mark-used}
 use Rattle.books.proofs.Shape.{StatusShape, Shape, mark-length, mark-shape, append-shape, direct-rooted, indirect-rooted, whole}
 use Rattle.books.proofs.Find.{marked-found}
@@ -287,7 +288,7 @@ module _ (p : PointInfo) where
         let n = invalid-number r in
         record { keepable = l; state = and-both (isListable p) _ l n; fits = reason-fits (invalidNumber r) n }
 
-    trans-invalid-shape : (d : InvalidDependency) → Recorded d → VerdictShape p (verdict.TransInvalid d)
+    trans-invalid-shape : (d : InvalidDependency) → Recorded Root d → VerdictShape p (verdict.TransInvalid d)
     trans-invalid-shape d h =
         let r = h .root in
         record {

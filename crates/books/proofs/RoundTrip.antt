@@ -22,13 +22,15 @@ use Rattle.point.specs.Point.{PointId, Through, Includes, Witness, PointInfo, t
 use Rattle.point.specs.Reading.{pointIdAt, readPoint}
 use Rattle.point.proofs.Laws.{readable}
 use Rattle.schedule.specs.Settings.{Settings, settingsIn, readSettings}
+use Rattle.reasons.specs.Answer.{flag}
 use Rattle.reasons.specs.Invalid.{InvalidDependency}
 use Rattle.rules.specs.List.{isListable}
 use Rattle.books.specs.Kept.{Status, Valid, TransInvalid, Invalid, IllFormed, Kept, Book, isTwice, Opened}
 use Rattle.books.specs.Offer.{used}
-use Rattle.books.specs.Layout.{flagByte, idBytes, throughBytes, statusBytes, keptBytes, entriesBytes, bookBytes, isZeros, throughAt, rootAt, isRootOk, readStatus, readKept, KeptFront, keptFront, entriesFrom, readBook}
-use Rattle.books.proofs.Fits.{IdFits}
-use Rattle.books.proofs.Roots.{Recorded}
+use Rattle.books.specs.Layout.{idBytes, throughBytes, statusBytes, keptBytes, entriesBytes, bookBytes, isZeros, throughAt, rootAt, isRootOk, readStatus, readKept, KeptFront, keptFront, entriesFrom, readBook}
+use Rattle.rules.proofs.Fits.{IdFits}
+use Rattle.rules.proofs.Roots.{Recorded}
+use Rattle.books.proofs.Roots.{Root}
 use Rattle.books.proofs.Shape.{StatusShape, KeptShape, Shape}
 
 -- ---- tag 33
@@ -44,15 +46,15 @@ status-length (TransInvalid d) c = rw (through-length (d .through))
 status-length (Invalid n) c = refl
 status-length (IllFormed n) c = refl
 
-pub flag-back : (c : Bool) → eqb (flagByte c) 1 ≡ c
+pub flag-back : (c : Bool) → eqb (flag c) 1 ≡ c
 flag-back true = refl
 flag-back false = refl
 
-pub flag-fits : (c : Bool) → leb (flagByte c) 1 ≡ true
+pub flag-fits : (c : Bool) → leb (flag c) 1 ≡ true
 flag-fits true = refl
 flag-fits false = refl
 
-certified-at : (s : Status) (c : Bool) → getD (statusBytes s c) 1 0 ≡ flagByte c
+certified-at : (s : Status) (c : Bool) → getD (statusBytes s c) 1 0 ≡ flag c
 unfolding statusBytes
 certified-at Valid c = refl
 certified-at (TransInvalid d) c = refl
@@ -60,7 +62,7 @@ certified-at (Invalid n) c = refl
 certified-at (IllFormed n) c = refl
 
 -- a root cause that stands in the 105 bytes is read
-root-ok : (t : List ℕ) (d : InvalidDependency) → Recorded d → littleAt 4 t 3 ≡ d .to .round → getD t 71 0 ≡ d .reason → leb (getD t 72 0) 1 ≡ true → isRootOk t ≡ true
+root-ok : (t : List ℕ) (d : InvalidDependency) → Recorded Root d → littleAt 4 t 3 ≡ d .to .round → getD t 71 0 ≡ d .reason → leb (getD t 72 0) 1 ≡ true → isRootOk t ≡ true
 unfolding isRootOk
 root-ok t d o e3 e71 m = rw (e3, e71) (simp (m, le-leb 4 (d .to .round) (o .root .least), le-leb (d .to .round) 2147483647 (o .root .greatest), o .root .reason))
 
@@ -78,10 +80,10 @@ pub id-back : (x y z : ℕ) (i : PointId) (rest : List ℕ) → IdFits i → poi
 unfolding pointIdAt littleAt littleBytes bigAt bigBytes
 id-back x y z i rest f = rw (little-back 4 (i .round) (f .round), big-bytes 32 (i .digest) (f .digest), big-bytes 32 (i .author) (f .author))
 
-module _ (d : InvalidDependency) (c : Bool) (o : Recorded d) where
+module _ (d : InvalidDependency) (c : Bool) (o : Recorded Root d) where
   root-id : pointIdAt (statusBytes (TransInvalid d) c) 3 ≡ d .to
   unfolding statusBytes
-  root-id = id-back 1 (flagByte c) 0 (d .to) _ (o .root .id)
+  root-id = id-back 1 (flag c) 0 (d .to) _ (o .root .id)
 
   root-round : littleAt 4 (statusBytes (TransInvalid d) c) 3 ≡ d .to .round
   unfolding pointIdAt
@@ -110,7 +112,7 @@ module _ (d : InvalidDependency) (c : Bool) (o : Recorded d) where
   trans-reads = root-reads _ d (root-head .0) (root-head .1) (root-ok _ d o root-round root-reason root-map) root-at
 
 -- the root cause of a status that may be kept
-root-of : (q : PointInfo) (d : InvalidDependency) → StatusShape q (TransInvalid d) → Recorded d
+root-of : (q : PointInfo) (d : InvalidDependency) → StatusShape q (TransInvalid d) → Recorded Root d
 root-of q d o =
     let r = and-right (isListable q) _ (o .state) in
     let g = and-right (leb 4 (d .to .round)) _ r in

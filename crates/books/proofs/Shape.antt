@@ -27,9 +27,11 @@ use Rattle.books.specs.Kept.{Status, Valid, TransInvalid, Invalid, IllFo
 use Rattle.books.specs.Lists.{dagPoint, keptEntry, directList, indirectList}
 use Rattle.books.specs.Offer.{isStateOk, answerOver}
 use Rattle.books.specs.Layout.{isKeepable}
-use Rattle.books.proofs.Fits.{IdFits, PointFits, point-fits}
-use Rattle.books.proofs.Clear.{All, once-distinct, each-direct, each-indirect, prev-covers, clear}
-use Rattle.books.proofs.Roots.{Root, Rooted, RootedEntry}
+use Rattle.rules.proofs.All.{All}
+use Rattle.rules.proofs.Roots.{Rooted}
+use Rattle.rules.proofs.Fits.{IdFits, PointFits, point-fits}
+use Rattle.books.proofs.Clear.{once-distinct, each-direct, each-indirect, prev-covers, clear}
+use Rattle.books.proofs.Roots.{Root, RootedEntry}
 use Rattle.books.proofs.Find.{once-more, marked-found, mark-member}
 
 -- a root cause fits "root id, root's reason, map and peer it came through"
@@ -114,7 +116,7 @@ append-shape b k h s new few = record {
 
 -- ---- what its entries give judging
 
-kept-rooted : (k : Kept) → KeptShape k → Rooted (dagPoint (k .point) (k .status))
+kept-rooted : (k : Kept) → KeptShape k → Rooted Root (dagPoint (k .point) (k .status))
 kept-rooted k h = go (k .status) (h .status)
   where
     f : PointFits (k .point)
@@ -130,7 +132,7 @@ kept-rooted k h = go (k .status) (h .status)
           reason = and-right (leb (i .round) 2147483647) _ r;
         }
 
-    go : (x : Status) → StatusShape (k .point) x → Rooted (dagPoint (k .point) x)
+    go : (x : Status) → StatusShape (k .point) x → Rooted Root (dagPoint (k .point) x)
     go Valid s = tt
     go (TransInvalid d) s = (f .id .author, root (d .to) (d .reason) (s .fits .to) (and-right (isListable (k .point)) _ (s .state)))
     go (Invalid n) s = (

@@ -22,13 +22,13 @@ use Rattle.point.specs.declared.data.AnchorStageRole.the-variants.{Proof, Trigg
 use Rattle.reasons.specs.Invalid.{InvalidDependency, dagRound}
 use Rattle.rules.specs.DagPoint as dag
 use Rattle.rules.specs.DagPoint.{DagPoint, Entry, IndirectEntry}
-use Rattle.reasons.specs.Answer.{roleNumber}
+use Rattle.reasons.specs.Answer.{flag, roleNumber}
 use Rattle.rules.specs.List.{roleOf, isListable, recordFront, isRoot, readState, Listed, entryAt, readEntry, isInOrder, listFrom, directs, indirects}
 use Rattle.books.specs.Kept.{Status, Valid, TransInvalid, Invalid, IllFormed, Kept}
 use Rattle.books.specs.Lists.{dagPoint}
-use Rattle.books.specs.Layout.{flagByte, idBytes}
+use Rattle.books.specs.Layout.{idBytes}
 use Rattle.books.specs.ListFor.{tag16, tag17, entryAs}
-use Rattle.books.proofs.Fits.{IdFits, point-fits}
+use Rattle.rules.proofs.Fits.{IdFits, point-fits}
 use Rattle.books.proofs.Shape.{StatusShape, KeptShape}
 use Rattle.books.proofs.RoundTrip.{flag-back, flag-fits, kept-shaped, field-there, id-back}
 
@@ -49,7 +49,7 @@ tagged state reason c f body x h =
       tag = λ rest. refl;
       reads = λ aim front rest.
           let e : front + 7 + length body ≡ front + length (tag16 state c f reason ++ body) = omega arith in
-          rw (field-there 16 4 [] (state ∷ flagByte c ∷ flagByte f ∷ reason ∷ (body ++ rest)) (omega arith), flag-fits c, flag-fits f, h rest, flag-back c, flag-back f, e);
+          rw (field-there 16 4 [] (state ∷ flag c ∷ flag f ∷ reason ∷ (body ++ rest)) (omega arith), flag-fits c, flag-fits f, h rest, flag-back c, flag-back f, e);
     }
 
 -- the record of an entry

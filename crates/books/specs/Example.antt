@@ -17,6 +17,7 @@ use Rattle.point.specs.declared.data.AnchorStageRole.the-variants.{Proof}
 use Rattle.point.specs.declared.data.PointMap.the-variants as maps
 use Rattle.schedule.specs.Settings.{Settings, readSettings}
 use Rattle.schedule.specs.Schedule.{Span}
+use Rattle.reasons.specs.Answer.{flag}
 use Rattle.reasons.specs.Invalid.{NotTrigger, MustHaveReferencedPrevPoint, DepIllFormed, InvalidDependency}
 use Rattle.reasons.specs.Verdict as verdict
 use Rattle.reasons.specs.declared.ill_formed.IllFormedReason.the-variants.{BadWaveLink}
@@ -25,7 +26,7 @@ use Rattle.rules.specs.Unknown.{peerBytes}
 use Rattle.books.specs.Kept.{Status, Valid, TransInvalid, Invalid, IllFormed, Kept, Book, Opened}
 use Rattle.books.specs.Offer.{Offer, offer, offerOf}
 use Rattle.books.specs.Run.{Run, run, AreBytes}
-use Rattle.books.specs.Layout.{flagByte, idBytes, throughBytes}
+use Rattle.books.specs.Layout.{idBytes, throughBytes}
 use Rattle.books.specs.Calls.{openBytes, opened, offerBytes}
 use Rattle.books.specs.Following.{reached, stopped}
 use Rattle.books.specs.FoundBook.{FoundBook, followed}
@@ -62,7 +63,7 @@ linkBytes (Indirect to t) = 1 ∷ throughBytes t ++ idBytes to
 
 abbrev pub roleBytes : PointRole → List ℕ
 roleBytes Regular = 0 ∷ []
-roleBytes (AnchorProof n last) = 1 ∷ n ∷ flagByte last ∷ []
+roleBytes (AnchorProof n last) = 1 ∷ n ∷ flag last ∷ []
 roleBytes AnchorTrigger = 2 ∷ []
 roleBytes Genesis = 3 ∷ []
 

@@ -1,7 +1,7 @@
 -- The book's bytes (document 01, "The book"): settings first, then entries of a point record and tag 33, then zeros. What bytes mean,
 -- and how a book is laid out.
 use Prim.Native.Nat.{ℕ, zero, suc, _+_, _-_}
-use mathlib.Core.Bool.{Bool, true, false, _&&_}
+use mathlib.Core.Bool.{Bool, true, _&&_}
 use mathlib.Core.Option.{Option, none, some, Option·map}
 use mathlib.Core.List.{List, [], _∷_, _++_}
 use lib.ListN.{length, getD, take, drop, replicate}
@@ -12,17 +12,14 @@ use Rattle.parts.specs.Limits.{firstRound, lastRound, settingsLength, entriesSt
 use Rattle.record.specs.Record.{fieldRow, fieldOk, recordEnd}
 use Rattle.point.specs.Point.{PointId, Through, Includes, Witness, PointInfo, inDomain}
 use Rattle.point.specs.Reading.{pointIdAt, readPoint}
-use Rattle.schedule.specs.Settings.{Settings, readSettings}
+use Rattle.schedule.specs.Settings.{readSettings}
+use Rattle.reasons.specs.Answer.{flag}
 use Rattle.reasons.specs.Invalid.{dagRound, InvalidDependency}
 use Rattle.rules.specs.List.{isListable}
 use Rattle.books.specs.Kept.{Status, Valid, TransInvalid, Invalid, IllFormed, Kept, Book, isTwice, Opened}
 use Rattle.books.specs.Offer.{used}
 
 -- ---- how a book is laid out
-
-abbrev pub flagByte : Bool → ℕ
-flagByte false = 0
-flagByte true = 1
 
 -- "round (4), digest (32), author (32)"
 abbrev pub idBytes : PointId → List ℕ
@@ -36,11 +33,11 @@ throughBytes (Witness x) = 1 ∷ bigBytes 32 x
 -- tag 33: "state, certified, reason, root id, root's reason, map and peer it came through; zeros where none"
 unfoldable pub statusBytes : Status → Bool → List ℕ
 unfolding littleBytes bigBytes
-statusBytes Valid certified = 0 ∷ flagByte certified ∷ replicate 103 0
+statusBytes Valid certified = 0 ∷ flag certified ∷ replicate 103 0
 statusBytes (TransInvalid d) certified =
-    1 ∷ flagByte certified ∷ 0 ∷ (idBytes (d .to) ++ (d .reason ∷ throughBytes (d .through)))
-statusBytes (Invalid n) certified = 2 ∷ flagByte certified ∷ n ∷ replicate 102 0
-statusBytes (IllFormed n) certified = 3 ∷ flagByte certified ∷ n ∷ replicate 102 0
+    1 ∷ flag certified ∷ 0 ∷ (idBytes (d .to) ++ (d .reason ∷ throughBytes (d .through)))
+statusBytes (Invalid n) certified = 2 ∷ flag certified ∷ n ∷ replicate 102 0
+statusBytes (IllFormed n) certified = 3 ∷ flag certified ∷ n ∷ replicate 102 0
 
 -- "An entry is the point record and tag 33 (105 bytes)"
 unfoldable pub keptBytes : Kept → List ℕ

@@ -7,5 +7,6 @@ pub mod Calls
 pub mod Following
 pub mod ListFor
 pub mod FoundBook
+pub mod OffersTold
 pub mod AnyBytes
 pub mod Example

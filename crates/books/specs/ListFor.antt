@@ -9,15 +9,15 @@ use Rattle.map.specs.Rows.{Pair}
 use Rattle.point.specs.Point.{PointId, AnchorLink, Direct, Indirect, PointInfo, prevDigest, prevId, target, sameId}
 use Rattle.point.specs.declared.data.AnchorStageRole.{AnchorStageRole}
 use Rattle.point.specs.declared.data.AnchorStageRole.the-variants.{Proof, Trigger}
-use Rattle.reasons.specs.Answer.{roleNumber}
+use Rattle.reasons.specs.Answer.{flag, roleNumber}
 use Rattle.rules.specs.DagPoint.{isBy}
 use Rattle.rules.specs.Mismatch.{pairId, isId}
 use Rattle.books.specs.Kept.{Status, Valid, TransInvalid, Invalid, IllFormed, Kept, Book, findKept}
-use Rattle.books.specs.Layout.{flagByte, idBytes}
+use Rattle.books.specs.Layout.{idBytes}
 
 -- tag 16: "state .., certified (0 or 1), first valid (0 or 1), reason number"
 abbrev pub tag16 : ℕ → Bool → Bool → ℕ → List ℕ
-tag16 state certified firstValid reason = 16 ∷ 4 ∷ 0 ∷ state ∷ flagByte certified ∷ flagByte firstValid ∷ reason ∷ []
+tag16 state certified firstValid reason = 16 ∷ 4 ∷ 0 ∷ state ∷ flag certified ∷ flag firstValid ∷ reason ∷ []
 
 abbrev pub tag17 : PointId → List ℕ
 tag17 i = 17 ∷ 68 ∷ 0 ∷ idBytes i

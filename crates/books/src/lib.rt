@@ -2,12 +2,18 @@
 ghost use Prim.Native.Nat.{ℕ};
 ghost use mathlib.Core.List.{List};
 ghost use Rattle.books.specs.FoundBook.{FoundBooks};
+ghost use Rattle.books.specs.OffersTold.{OffersTold};
 ghost use Rattle.books.specs.AnyBytes.{AnyBytes};
 ghost use Rattle.books.specs.Example.{Example};
 
 // The statement and one book that it speaks of as a promise: without their proofs this crate is not proved, nor any that uses it.
 pub fn found_books()
     ensures { λ r. ⌜ FoundBooks × Example ⌝ }
+{}
+
+// Likewise that what an offer hands out tells its answer.
+pub fn offers_told()
+    ensures { λ r. ⌜ OffersTold ⌝ }
 {}
 
 // Likewise what is so of any bytes, whether a book was opened in them or not.

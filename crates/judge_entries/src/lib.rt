@@ -11,13 +11,14 @@ use record::Row;
 ghost use mathlib.Core.Path.{_≡_};
 ghost use mathlib.Core.List.{List};
 ghost use mathlib.Core.Option.{some};
-ghost use Prim.Native.Nat.{ℕ, _≤_};
+ghost use Prim.Native.Nat.{ℕ, _-_, _≤_};
 ghost use lib.ListN.{drop};
 ghost use Rattle.base.specs.Base.{isSome};
+ghost use Rattle.parts.specs.Code.{number};
 ghost use Rattle.point.specs.Code.{pointIdOf, linkOf, pointOf};
 ghost use Rattle.point.specs.Reading.{readPoint};
 ghost use Rattle.reasons.specs.Invalid.{dagRound};
-ghost use Rattle.rules.specs.DagPoint.{entryId, isDropped};
+ghost use Rattle.rules.specs.DagPoint.{entryId, isDropped, isBy};
 ghost use Rattle.rules.specs.List.{isNamed, isListable, recordFront, isRoot, readState, entryAt, readEntry};
 ghost use Rattle.judge_entries.specs.Code.{aimOf, dagPointOf, readRecordOf, RecordPlaced, readStatedOf, StatedPlaced, readListedOf, ListedPlaced};
 
@@ -121,6 +122,16 @@ impl DagPoint {
             DagPoint::Dropped => true,
         }
     }
+}
+
+// Whether an id is of the author's point at the round before.
+pub fn is_own_before(own: PointId, id: PointId) -> bool
+    ensures { λ r. ⌜ r ≡ isBy (own .round - 1) (number (own .author)) (pointIdOf id) ⌝ }
+{
+    if id.round != parts::rounds_back(own.round, 1) {
+        return false;
+    }
+    parts::same(id.author, own.author)
 }
 
 // Whether a link, if it is direct, names a peer of its map.

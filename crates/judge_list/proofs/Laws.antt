@@ -1,16 +1,18 @@
 -- Laws of judging over a list: the previous point, and the walk.
 use Prim.Native.Nat.{ℕ, zero, suc, _-_, _≤_, _<_}
-use mathlib.Core.Path.{_≡_, refl, ap, _∙_}
-use mathlib.Core.Bool.{Bool, true, false, _||_, and-false, and-true}
+use mathlib.Core.Path.{_≡_, refl, ap, sym, _∙_}
+use mathlib.Core.Bool.{Bool, true, false, _||_, and-true}
 use mathlib.Core.Option.{Option, none, some, Option·map}
 use mathlib.Core.List.{List, _∷_}
 use lib.ListN.{length, drop}
 use lib.Dec.{eqb}
-use borrow.Author.Tests.{eq-eqb, ne-eqb}
+use borrow.Author.Tests.{eqb-true, eq-eqb, ne-eqb}
 use Rattle.base.specs.Base.{pick, isSome, andThen}
+use Rattle.base.proofs.Bool.{never, clash, and-left, and-right, and-both}
 use native.Mathlib.Omega.{arith}
 use Rattle.point.specs.Point.{PointId, PointInfo, sameId, Through, through}
-use Rattle.rules.specs.DagPoint.{pointView, Entry}
+use Rattle.point.proofs.Ids.{same-fields}
+use Rattle.rules.specs.DagPoint.{pointView, Entry, isBy}
 use Rattle.rules.specs.Mismatch.{isId, uncovers}
 use Rattle.schedule.specs.Settings.{Settings}
 use Rattle.rules.specs.List.{Listed, readEntry, isInOrder, listFrom}
@@ -33,21 +35,17 @@ use Rattle.judge_list.specs.Code.{NextWithin, Walk, Viewed, viewed, step
 
 -- ---- the previous point
 
-pub prev-other-round : (i j : PointId) (o : Option ℕ) → eqb (i .round - 1) (j .round) ≡ false → isId (prevOf i o) j ≡ false
-unfolding sameId
-prev-other-round i j none h = refl
-prev-other-round i j (some d) h = rw h
+pub prev-other : (i j : PointId) (o : Option ℕ) → isBy (i .round - 1) (i .author) j ≡ false → isId (prevOf i o) j ≡ false
+prev-other i j none h = refl
+prev-other i j (some d) h =
+    never _ (λ t. let f = same-fields _ j t in clash _ (and-both _ _ (eq-eqb _ _ (sym (f .0))) (eq-eqb _ _ (sym (f .2)))) h)
 
-pub prev-other-author : (i j : PointId) (o : Option ℕ) →
-    eqb (i .round - 1) (j .round) ≡ true → eqb (i .author) (j .author) ≡ false → isId (prevOf i o) j ≡ false
+pub prev-digest : (i j : PointId) (d : ℕ) → isBy (i .round - 1) (i .author) j ≡ true → isId (prevOf i (some d)) j ≡ eqb d (j .digest)
 unfolding sameId
-prev-other-author i j none h g = refl
-prev-other-author i j (some d) h g = rw (h, g, and-false (eqb d (j .digest)))
-
-pub prev-digest : (i j : PointId) (d : ℕ) →
-    eqb (i .round - 1) (j .round) ≡ true → eqb (i .author) (j .author) ≡ true → isId (prevOf i (some d)) j ≡ eqb d (j .digest)
-unfolding sameId
-prev-digest i j d h g = rw (h, g, and-true (eqb d (j .digest)))
+prev-digest i j d h =
+    let r = eqb-true (j .round) (i .round - 1) (and-left (eqb (j .round) (i .round - 1)) _ h) in
+    let a = eqb-true (j .author) (i .author) (and-right (eqb (j .round) (i .round - 1)) _ h) in
+    rw (eq-eqb (i .round - 1) (j .round) (sym r), eq-eqb (i .author) (j .author) (sym a), and-true (eqb d (j .digest)))
 
 -- ---- the walk
 

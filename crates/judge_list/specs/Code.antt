@@ -64,7 +64,7 @@ stepAs none c required p j e = directStep c required (p .view) j e
 stepAs (some Proof) c required p j e = indirectStep c (p .view) Proof (p .proof) j e
 stepAs (some Trigger) c required p j e = indirectStep c (p .view) Trigger (p .trigger) j e
 
--- PointInfo::prev_id, of a digest that may lack
+-- PointInfo::prev_id, of a digest that may be missing
 abbrev pub prevOf : PointId → Option ℕ → Option PointId
 prevOf i o = Option·map (λ d. record { round = i .round - 1; digest = d; author = i .author }) o
 

@@ -81,10 +81,7 @@ pub fn is_prev(p: PointView, id: PointId) -> bool
     ensures { λ r. ⌜ r ≡ isId (prevIn (pointViewOf p)) (pointIdOf id) ⌝ }
 {
     let own = p.id;
-    if parts::rounds_back(own.round, 1) != id.round {
-        return false;
-    }
-    if !parts::same(own.author, id.author) {
+    if !judge_entries::is_own_before(own, id) {
         return false;
     }
     let prev_digest = p.prev_digest;

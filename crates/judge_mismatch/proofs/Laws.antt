@@ -114,7 +114,7 @@ marking-whole k e = rw e at k
 
 -- ---- the walk over the direct entries: what is left gives what the whole list gives, with the ids that stood before
 
-pub record Walk (presence : ℕ) (p : PointInfo) (all rest : List Entry) (seen : List ℕ) (dropped : ℕ) : Type 0 where
+pub record Walking (presence : ℕ) (p : PointInfo) (all rest : List Entry) (seen : List ℕ) (dropped : ℕ) : Type 0 where
   pub before : List PointId
   pub placed : allPlaced presence p before rest ≡ allPlaced presence p [] all
   pub count : dropped + droppedIn rest ≡ droppedIn all
@@ -128,7 +128,7 @@ zero-at zero k = refl
 zero-at (suc n) zero = refl
 zero-at (suc n) (suc k) = zero-at n k
 
-walk-start : (presence : ℕ) (p : PointInfo) (all : List Entry) → Walk presence p all all (replicate 510 0) 0
+walk-start : (presence : ℕ) (p : PointInfo) (all : List Entry) → Walking presence p all all (replicate 510 0) 0
 walk-start presence p all = record {
   before = [];
   placed = refl;
@@ -203,7 +203,7 @@ twice (e ∷ es) presence p before i b h =
     (sym (has-next x i (idsOf es)) ∙ (ap (λ (l : List PointId). hasId l i) (sym (ids-here e es x d refl)) ∙ h))))
     (cases (isDropped (e .state)))
 
-module _ {presence : ℕ} {p : PointInfo} {all rest : List Entry} {seen₀ : List ℕ} {dropped : ℕ} (w : Walk presence p all rest seen₀ dropped)
+module _ {presence : ℕ} {p : PointInfo} {all rest : List Entry} {seen₀ : List ℕ} {dropped : ℕ} (w : Walking presence p all rest seen₀ dropped)
     {e : Entry} {es : List Entry} (first : rest ≡ e ∷ es) where
   all-placed : allPlaced presence p (w .before) (e ∷ es) ≡ allPlaced presence p [] all
   all-placed = ap (allPlaced presence p (w .before)) (sym first) ∙ w .placed
@@ -217,7 +217,7 @@ module _ {presence : ℕ} {p : PointInfo} {all rest : List Entry} {seen₀ : Lis
   all-fresh : (i : PointId) → amongTo (mapsIn presence) p i ≡ false → hasId (w .before) i ≡ true → hasId (idsOf (e ∷ es)) i ≡ false
   all-fresh i a b = ap (λ (l : List Entry). hasId (idsOf l) i) (sym first) ∙ w .fresh i a b
 
-  walk-dropped : isDropped (e .state) ≡ true → Walk presence p all es seen₀ (dropped + 1)
+  walk-dropped : isDropped (e .state) ≡ true → Walking presence p all es seen₀ (dropped + 1)
   walk-dropped d = record {
     before = w .before;
     placed = sym (placed-dropped e es d presence p (w .before)) ∙ all-placed;
@@ -295,7 +295,7 @@ module _ {presence : ℕ} {p : PointInfo} {all rest : List Entry} {seen₀ : Lis
           })
           (or-cases found _ h)
 
-      walk-placed : (found || isNewVersion p es x) ≡ true → Walk presence p all es seen dropped
+      walk-placed : (found || isNewVersion p es x) ≡ true → Walking presence p all es seen dropped
       walk-placed h =
           let f = for-first h in
           record {
@@ -324,7 +324,7 @@ unfolding droppedIn
 none-dropped = refl
 
 -- at the end of the direct entries
-module _ {presence : ℕ} {p : PointInfo} {all : List Entry} {seen : List ℕ} {dropped : ℕ} (w : Walk presence p all [] seen dropped) where
+module _ {presence : ℕ} {p : PointInfo} {all : List Entry} {seen : List ℕ} {dropped : ℕ} (w : Walking presence p all [] seen dropped) where
   walk-end-placed : allPlaced presence p [] all ≡ true
   walk-end-placed = sym (w .placed) ∙ none-left presence p (w .before)
 
@@ -577,7 +577,7 @@ no-direct s at h f e n = let d = directs-next s at h f e in impossible (cc)
 pub record Going (presence : ℕ) (p : PointInfo) (s seen : List ℕ) (failed : Bool) (dropped at : ℕ) : Type 0 where
   pub reads : Reads s at
   pub targets : indirects (listed (drop at s)) ≡ indirects (listed s)
-  pub walk : Walk presence p (directs (listed s)) (directs (listed (drop at s))) seen dropped
+  pub walk : Walking presence p (directs (listed s)) (directs (listed (drop at s))) seen dropped
   pub small : dropped ≤ at
   pub fits : failed ≡ false
 
@@ -602,7 +602,7 @@ target-told r (some x) e h = refl
 ended-with : {presence : ℕ} {p : PointInfo} {s seen : List ℕ} {failed : Bool} {dropped at : ℕ} → Going presence p s seen failed dropped at →
     directs (listed (drop at s)) ≡ [] → AllPlaced presence p s seen dropped at
 ended-with {presence} {p} {s} {seen} {dropped = dropped} g e =
-    let w : Walk presence p (directs (listed s)) [] seen dropped = rw e at (g .walk) in
+    let w : Walking presence p (directs (listed s)) [] seen dropped = rw e at (g .walk) in
     record {
       placed = walk-end-placed w;
       count = walk-end-count w;
@@ -636,7 +636,7 @@ module _ {presence : ℕ} {p : PointInfo} {s seen : List ℕ} {failed : Bool} {d
         fits = g .fits;
       }
 
-      module _ (d : h .dropped ≡ false) (w : Walk presence p (directs (listed s)) (directs (listed (drop at s))) seen dropped) where
+      module _ (d : h .dropped ≡ false) (w : Walking presence p (directs (listed s)) (directs (listed (drop at s))) seen dropped) where
         pub going-marking : Marking (mapsIn presence) p (h .id) (w .before) 0 false seen
         going-marking = walk-marking w (directs-next s at h f a) (sym (f .dropped) ∙ d) (f .id)
 

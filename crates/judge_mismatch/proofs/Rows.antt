@@ -8,7 +8,6 @@ use mathlib.Core.Option.{Option, none, some}
 use mathlib.Core.List.{List, [], _∷_}
 use lib.ListN.{length, getD}
 use lib.Dec.{eqb}
-use borrow.Author.Tests.{eq-eqb, ne-eqb}
 use Rattle.base.specs.Base.{pick, isSome}
 use Rattle.base.proofs.Bool.{never, clash, last-false}
 use Rattle.base.proofs.Option.{some-none, none-some}
@@ -17,6 +16,7 @@ use Rattle.map.proofs.Laws.{peers-pairsOf, peers-length, peers-at, digests-at, 
 use Rattle.point.specs.Point.{PointId, PointInfo, prevDigest, sameId}
 use Rattle.point.proofs.Laws.{MapOf, Readable}
 use Rattle.point.proofs.Ids.{same-fields, fields-same}
+use Rattle.rules.specs.DagPoint.{isBy}
 use Rattle.rules.specs.Mismatch.{hasId, pairId, isAmong, isVersion}
 use Rattle.judge_mismatch.specs.Code.{roundIn, pairsIn, mapIn, mapsIn, noPair, IsRow}
 
@@ -164,20 +164,14 @@ maps-few presence = few (eqb presence 3)
 -- ---- versions
 
 module _ (p : PointInfo) (i : PointId) where
-  pub version-round : (i .round ≡ p .id .round - 1 → ⊥) → isVersion p i ≡ false
+  pub version-other : isBy (p .id .round - 1) (p .id .author) i ≡ false → isVersion p i ≡ false
   unfolding isVersion
-  version-round d = last-false (not (isSome (prevDigest p))) _ (rw (ne-eqb (i .round) (p .id .round - 1) d))
-
-  pub version-author : eqb (i .author) (p .id .author) ≡ false → isVersion p i ≡ false
-  unfolding isVersion
-  version-author h = last-false (not (isSome (prevDigest p))) _ (last-false (eqb (i .round) (p .id .round - 1)) _ h)
+  version-other h = last-false (not (isSome (prevDigest p))) _ h
 
   pub version-referenced : (d : ℕ) → prevDigest p ≡ some d → isVersion p i ≡ false
   unfolding isVersion
-  version-referenced d h = ap (λ (o : Option ℕ). not (isSome o) && (eqb (i .round) (p .id .round - 1) && eqb (i .author) (p .id .author))) h
+  version-referenced d h = ap (λ (o : Option ℕ). not (isSome o) && isBy (p .id .round - 1) (p .id .author) i) h
 
-  pub version-is : i .round ≡ p .id .round - 1 → eqb (i .author) (p .id .author) ≡ true → prevDigest p ≡ none → isVersion p i ≡ true
+  pub version-is : isBy (p .id .round - 1) (p .id .author) i ≡ true → prevDigest p ≡ none → isVersion p i ≡ true
   unfolding isVersion
-  version-is r a h =
-      ap (λ (o : Option ℕ). not (isSome o) && (eqb (i .round) (p .id .round - 1) && eqb (i .author) (p .id .author))) h
-      ∙ rw (eq-eqb (i .round) (p .id .round - 1) r) a
+  version-is b h = ap (λ (o : Option ℕ). not (isSome o) && isBy (p .id .round - 1) (p .id .author) i) h ∙ b

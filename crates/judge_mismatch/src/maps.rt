@@ -68,10 +68,7 @@ pub fn is_version(rec: &[u8], info: PointInfo, id: PointId) -> bool
     ensures { λ r. ⌜ r ≡ isVersion (pointOf (now (rec .entry)) info) (pointIdOf id) ⌝ }
 {
     let own = info.id;
-    if id.round != parts::rounds_back(own.round, 1) {
-        return false;
-    }
-    if !parts::same(id.author, own.author) {
+    if !judge_entries::is_own_before(own, id) {
         return false;
     }
     let prev_digest = point::prev_digest(rec, info);

@@ -13,7 +13,7 @@ ghost use Prim.Native.Nat.{ℕ};
 ghost use Rattle.base.specs.Base.{lastOf};
 ghost use Rattle.point.specs.Code.{pointIdOf};
 ghost use Rattle.schedule.specs.Code.{settingsOf};
-ghost use Rattle.rules.specs.Validate.{pointRows, taken, dependencyTrail, versionTrail, foundAs, indirectPointRows};
+ghost use Rattle.rules.specs.Validate.{pointRows, taken, dependencyTrail, versionTrail, findingsAs, indirectPointRows};
 ghost use Rattle.judge_entries.specs.Code.{dagPointOf, entryOf, ReadFrom};
 ghost use Rattle.judge_valid.specs.Code.{pointViewOf, optionOf};
 ghost use Rattle.judge_reason.specs.Code.{takenOf};
@@ -30,10 +30,7 @@ pub fn how_taken(p: PointView, id: PointId) -> Taken
     ensures { λ r. ⌜ takenOf r ≡ taken (pointViewOf p) (pointIdOf id) ⌝ }
 {
     let own = p.id;
-    if id.round != parts::rounds_back(own.round, 1) {
-        return Taken::AsDependency;
-    }
-    if !parts::same(id.author, own.author) {
+    if !judge_entries::is_own_before(own, id) {
         return Taken::AsDependency;
     }
     let prev_digest = p.prev_digest;
@@ -139,7 +136,7 @@ pub fn entry_reason(
 ) -> Reason
     requires { ⌜ ReadFrom (now rec) point ⌝ }
     ensures { λ r. ⌜ optionOf r
-        ≡ lastOf (foundAs (settingsOf conf) required (pointViewOf p) (takenOf how)
+        ≡ lastOf (findingsAs (settingsOf conf) required (pointViewOf p) (takenOf how)
         (entryOf (now (rec .entry)) point certified «first_valid») .trail) ⌝ }
 {
     match how {

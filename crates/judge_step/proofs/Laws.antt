@@ -12,7 +12,7 @@ use Rattle.point.specs.declared.data.AnchorStageRole.{AnchorStageRole}
 use Rattle.schedule.specs.Settings.{Settings}
 use Rattle.reasons.specs.Invalid.{InvalidReason, DependencyRoundDropped, InvalidDependency}
 use Rattle.rules.specs.DagPoint.{Entry, IndirectEntry, isDropped, PointView, pointView}
-use Rattle.rules.specs.Validate.{join, entryFound, indirectFound, resultWith, overLists}
+use Rattle.rules.specs.Validate.{join, entryFindings, indirectFindings, resultWith, overLists}
 use Rattle.rules.proofs.Folds.{directTrail, directRecord, indirectTrail, indirectRecord, lists-apart}
 use Rattle.rules.specs.List.{Listed, isInOrder, listFrom, directs, indirects}
 use Rattle.judge_entries.proofs.Order.{inOrder, in-order, after-target}
@@ -57,7 +57,7 @@ set-later (x ∷ l) (some r) = ap isSome (later-last l x (some r)) ∙ some-last
 -- ---- the lists, entry by entry
 
 -- what judging has found
-record Found (d i : Option InvalidReason) (w : Option InvalidDependency) (j : Judging) : Type 0 where
+record HasFound (d i : Option InvalidReason) (w : Option InvalidDependency) (j : Judging) : Type 0 where
   pub direct : j .direct ≡ d
   pub indirect : j .indirect ≡ i
   pub recorded : j .recorded ≡ w
@@ -89,8 +89,8 @@ module _ (c : Settings) (required : Bool) (p : PointView) where
 
   -- one more entry, dropped or not, that gives the reasons t
   one-more : (b : Bool) (l : List Entry) (t : List InvalidReason) (after : Bool → List InvalidReason) (d i : Option InvalidReason) (w joined all : Option InvalidDependency) →
-      Found (laterOf (laterOf d (lastOf t)) (lastOf (after (isSome (laterOf d (lastOf t)))))) i all (directFold c required p (judging (laterOf d (lastOf t)) i joined false) l) →
-      Found
+      HasFound (laterOf (laterOf d (lastOf t)) (lastOf (after (isSome (laterOf d (lastOf t)))))) i all (directFold c required p (judging (laterOf d (lastOf t)) i joined false) l) →
+      HasFound
       (laterOf d (lastOf (pick b (when (not (isSome d)) DependencyRoundDropped) (t ++ after (isSome d || not (isEmpty t))))))
       i
       (pick b w all)
@@ -106,29 +106,29 @@ module _ (c : Settings) (required : Bool) (p : PointView) where
       record { direct = f .direct ∙ later-after t d after; indirect = f .indirect; recorded = f .recorded }
 
   directs-judged : (es : List Entry) (d i : Option InvalidReason) (w : Option InvalidDependency) →
-      Found (laterOf d (lastOf (directTrail c required p (isSome d) es))) i (directRecord c required p w es) (directFold c required p (judging d i w false) es)
+      HasFound (laterOf d (lastOf (directTrail c required p (isSome d) es))) i (directRecord c required p w es) (directFold c required p (judging d i w false) es)
   unfolding directFold directStep directTrail directRecord lastOf
   directs-judged [] d i w = record { direct = refl; indirect = refl; recorded = refl }
   directs-judged (e ∷ l) d i w =
       one-more
       (isDropped (e .state))
       l
-      (entryFound c required p e .trail)
+      (entryFindings c required p e .trail)
       (λ (set : Bool). directTrail c required p set l)
       d
       i
       w
-      (join w (entryFound c required p e .root))
-      (directRecord c required p (join w (entryFound c required p e .root)) l)
-      (directs-judged l (laterOf d (lastOf (entryFound c required p e .trail))) i (join w (entryFound c required p e .root)))
+      (join w (entryFindings c required p e .root))
+      (directRecord c required p (join w (entryFindings c required p e .root)) l)
+      (directs-judged l (laterOf d (lastOf (entryFindings c required p e .trail))) i (join w (entryFindings c required p e .root)))
 
 module _ (c : Settings) (p : PointInfo) where
   indirects-judged : (ts : List IndirectEntry) (j : Judging) →
-      Found (j .direct) (laterOf (j .indirect) (lastOf (indirectTrail c p ts))) (indirectRecord c p (j .recorded) ts) (indirectFold c p j ts)
-  unfolding indirectFold indirectStep indirectTrail indirectRecord indirectFound pointView lastOf
+      HasFound (j .direct) (laterOf (j .indirect) (lastOf (indirectTrail c p ts))) (indirectRecord c p (j .recorded) ts) (indirectFold c p j ts)
+  unfolding indirectFold indirectStep indirectTrail indirectRecord indirectFindings pointView lastOf
   indirects-judged [] j = record { direct = refl; indirect = refl; recorded = refl }
   indirects-judged (a ∷ l) j =
-      let t = indirectFound c p a .trail in
+      let t = indirectFindings c p a .trail in
       let f = indirects-judged l (targetStep c p (a .role) j (a .entry)) in
       record {
         direct = f .direct;
@@ -139,7 +139,7 @@ module _ (c : Settings) (p : PointInfo) where
         recorded = f .recorded;
       }
 
-result-found : (d i : Option InvalidReason) (w : Option InvalidDependency) (j : Judging) → Found d i w j → resultOf j ≡ resultWith (laterOf i d) w
+result-found : (d i : Option InvalidReason) (w : Option InvalidDependency) (j : Judging) → HasFound d i w j → resultOf j ≡ resultWith (laterOf i d) w
 result-found d i w j f = rw (f .direct, f .indirect, f .recorded)
 
 first-of-both : (a b : List InvalidReason) → laterOf (lastOf b) (lastOf a) ≡ lastOf (pick (isEmpty a) b a)

@@ -11,7 +11,8 @@ use Rattle.schedule.specs.Settings.{Settings}
 use Rattle.reasons.specs.Invalid.{InvalidReason, DependencyRoundDropped, InvalidDependency}
 use Rattle.reasons.specs.Verdict.{Verdict}
 use Rattle.rules.specs.DagPoint.{Entry, IndirectEntry, entryId, isDropped, PointView, pointView}
-use Rattle.rules.specs.Validate.{Taken, asDependency, asPrevPoint, asVersion, aside, recordOf, directThrough, join, dependency, entryFound, indirectPointRows}
+use Rattle.rules.specs.Validate.{Taken, asDependency, asPrevPoint, asVersion, aside, recordOf, directThrough, join, dependency}
+use Rattle.rules.specs.Validate.{entryFindings, indirectPointRows}
 use Rattle.rules.specs.Validate.{resultWith}
 use Rattle.judge_valid.specs.Code.{optionOf}
 use Rattle.judge_dependency.specs.Code.{recordedOf}
@@ -37,7 +38,7 @@ orDropped (some reason) = some reason
 abbrev pub start : Judging
 start = record { direct = none; indirect = none; recorded = none; ended = false }
 
--- what a direct entry would have recorded, by how it is taken
+-- what a direct entry records, by how it is taken
 abbrev pub recordAs : Settings → ℕ → Taken → Entry → Option InvalidDependency
 recordAs c round asDependency e = recordOf c round (e .certified) (directThrough round (entryId (e .state))) (e .state)
 recordAs c round asPrevPoint e = recordOf c round (e .certified) (directThrough round (entryId (e .state))) (e .state)
@@ -46,15 +47,15 @@ recordAs c round aside e = none
 
 -- the step of a direct entry: one step of checkValid
 unfoldable pub directStep : Settings → Bool → PointView → Judging → Entry → Judging
-unfolding lastOf join entryFound
+unfolding lastOf join entryFindings
 directStep c required p j e =
     pick (j .ended) j
     (pick (isDropped (e .state))
     (record { direct = orDropped (j .direct); indirect = j .indirect; recorded = j .recorded; ended = true })
     (record {
-      direct = laterOf (j .direct) (lastOf (entryFound c required p e .trail));
+      direct = laterOf (j .direct) (lastOf (entryFindings c required p e .trail));
       indirect = j .indirect;
-      recorded = join (j .recorded) (entryFound c required p e .root);
+      recorded = join (j .recorded) (entryFindings c required p e .root);
       ended = false;
     }))
 

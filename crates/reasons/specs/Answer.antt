@@ -1,4 +1,4 @@
--- What a caller is told of a verdict: document 01's numbers.
+-- What a caller is told of a verdict, by numbers (docs/FORMAT.md, "Answers").
 use Prim.Native.Nat.{ℕ}
 use mathlib.Core.Bool.{Bool, true, false}
 use Rattle.point.specs.Point.{PointId}
@@ -35,13 +35,13 @@ answer k n i m g a b r x u =
       unknown = u;
     }
 
--- "0 evidence, 1 includes, 2 witness, 255 none"
+-- 255 stands for none
 abbrev pub mapNumber : PointMap → ℕ
 mapNumber map.Evidence = 0
 mapNumber map.Includes = 1
 mapNumber map.Witness = 2
 
--- "0 proof, 1 trigger, 255 none"
+-- 255 stands for none
 abbrev pub roleNumber : AnchorStageRole → ℕ
 roleNumber Proof = 0
 roleNumber Trigger = 1

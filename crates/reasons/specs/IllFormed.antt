@@ -1,4 +1,5 @@
--- Document 01: "Reason numbers count the variants as declared: 1 to 16 for `IllFormedReason`", and the values of each.
+-- Document 01: "Reason numbers count the variants as declared: 1 to 16 for `IllFormedReason`". The values of each
+-- are docs/FORMAT.md's ("Answers").
 use Prim.Native.Nat.{ℕ}
 use Rattle.point.specs.Point.{noPoint}
 use Rattle.reasons.specs.Answer.{Answer, answer, mapNumber, roleNumber, flag}
@@ -16,7 +17,7 @@ use Rattle.reasons.specs.declared.ill_formed.VerifyError.the-variants.{F
 abbrev pub ill : ℕ → ℕ → ℕ → ℕ → ℕ → ℕ → Answer
 ill n m g a b u = answer 3 n noPoint m g a b 0 0 u
 
--- "7 StructureIssue as declared 1 to 7"; "7 the flag of ExpectedGenesis"
+-- the issues count as declared, 1 to 7; ExpectedGenesis has its flag too
 abbrev pub issueAnswer : StructureIssue → Answer
 issueAnswer (ExpectedGenesis b) = ill 7 255 255 1 (flag b) 0
 issueAnswer BadGenesisPrevPoint = ill 7 255 255 2 0 0
@@ -27,7 +28,7 @@ issueAnswer AnchorTime = ill 7 255 255 6 0 0
 issueAnswer NoPrevPoint = ill 7 255 255 7 0 0
 
 -- 1 and 2, AfterLoadFromDb and EvidenceSigError, have no case: nothing here gives them.
--- "6 payload bytes, .. 8 seq_no, 14 length, 16 leader flag"; "14 F of the peer count"
+-- 6 has the payload bytes, 8 the seq_no, 14 the length and F of the peer count, 16 the leader flag
 abbrev pub illFormedAnswer : IllFormedReason → Answer
 illFormedAnswer BeforeGenesis = ill 3 255 255 0 0 0
 illFormedAnswer UnknownAuthor = ill 4 255 255 0 0 0
@@ -47,7 +48,7 @@ illFormedAnswer (BadWaveLink b) = ill 16 255 255 (flag b) 0 0
 abbrev pub illFormedNumber : IllFormedReason → ℕ
 illFormedNumber r = illFormedAnswer r .reason
 
--- of a Fail "the peer count" and "the round"
+-- a Fail has the peer count and the round
 abbrev pub errorAnswer : VerifyError → Answer
 errorAnswer (Fail u) = answer 4 0 noPoint (mapNumber (u .map)) 255 (u .len) (u .round) 0 0 0
 errorAnswer (IllFormed r) = illFormedAnswer r

@@ -34,14 +34,14 @@ pub data InvalidReason : Type 0 where
 abbrev pub named : ℕ → PointId → ℕ → ℕ → ℕ → ℕ → Answer
 named n i m g a b = answer 2 n i m g a b 0 0 0
 
--- "the previous seq_no or 2^32−1"
+-- 2^32−1 where there is none
 abbrev pub prevSeqNo : Option ℕ → ℕ
 prevSeqNo none = 4294967295
 prevSeqNo (some n) = n
 
 -- "Reason numbers count the variants as declared: .. 1 to 19 for `InvalidReason`, where 1 is `AfterLoadFromDb` with a DAG
--- round and 20 without"; "the point id that the reason names"; "invalid 16 seq_no, 17 1 if target, 18 the dependency's ill-formed
--- number"; "invalid 16 the previous seq_no .."
+-- round and 20 without". Each has the point id that it names; 16 the seq_no and the previous one, 17 a 1 if it is of the target, 18
+-- the dependency's ill-formed number.
 abbrev pub invalidAnswer : InvalidReason → Answer
 invalidAnswer (NoRoundInDag m) = named 2 noPoint (mapNumber m) 255 0 0
 invalidAnswer DependencyRoundDropped = named 3 noPoint 255 255 0 0

@@ -6,11 +6,11 @@ use Rattle.point.specs.Point.{digestSafe, prevDigest, source, target, top, same
 use Rattle.rules.specs.Verify.{linksOwn, targetTooNew, badLink, ownPointRows, linkRows, structureRows, genesisStructureRows, stickyFault}
 use Rattle.reasons.specs.Invalid.{dagRound}
 use Rattle.rules.specs.DagPoint.{linkIds, pointView, depView}
-use Rattle.rules.specs.Validate.{proofRow, triggerProofRow, timeRow, newerRow, stickyRow, reachedRow, targetRow, anchorTimeRow, carriedRow, sourceRow, anchorRows, pointRows, taken, dependencyTrail, recordOf, isNewer, join, dependency, entryFound, checkValid, checkIndirectLinks, overLists}
+use Rattle.rules.specs.Validate.{proofRow, triggerProofRow, timeRow, newerRow, stickyRow, reachedRow, targetRow, anchorTimeRow, carriedRow, sourceRow, anchorRows, pointRows, taken, dependencyTrail, recordOf, isNewer, join, dependency, entryFindings, checkValid, checkIndirectLinks, overLists}
 use Rattle.rules.specs.Edges.{Edges, conf}
 
 pub edges : Edges
-unfolding concat firstOf lastOf get find findFrom has peers digestSafe prevDigest linksOwn targetTooNew badLink ownPointRows linkRows structureRows genesisStructureRows stickyFault conf source target top dagRound sameId proofRow triggerProofRow timeRow newerRow stickyRow reachedRow targetRow anchorTimeRow carriedRow sourceRow pointRows taken dependencyTrail recordOf isNewer join dependency entryFound checkValid checkIndirectLinks overLists anchorRows linkIds pointView depView
+unfolding concat firstOf lastOf get find findFrom has peers digestSafe prevDigest linksOwn targetTooNew badLink ownPointRows linkRows structureRows genesisStructureRows stickyFault conf source target top dagRound sameId proofRow triggerProofRow timeRow newerRow stickyRow reachedRow targetRow anchorTimeRow carriedRow sourceRow pointRows taken dependencyTrail recordOf isNewer join dependency entryFindings checkValid checkIndirectLinks overLists anchorRows linkIds pointView depView
 edges =
     record {
       near = refl;

@@ -10,33 +10,33 @@ use Rattle.schedule.specs.Settings.{Settings}
 use Rattle.reasons.specs.Invalid.{InvalidReason, DependencyRoundDropped, InvalidDependency}
 use Rattle.reasons.specs.Verdict.{Verdict}
 use Rattle.rules.specs.DagPoint.{Entry, IndirectEntry, isDropped, PointView, pointView}
-use Rattle.rules.specs.Validate.{Found, nothing, joined, join, entryFound, checkValid, indirectFound, checkIndirectLinks, resultWith, overLists}
+use Rattle.rules.specs.Validate.{Findings, nothing, joined, join, entryFindings, checkValid, indirectFindings, checkIndirectLinks, resultWith, overLists}
 
 -- the reasons of the direct list; `set` says that one is set
 unfoldable pub directTrail : Settings → Bool → PointView → Bool → List Entry → List InvalidReason
-unfolding entryFound
+unfolding entryFindings
 directTrail c required p set [] = []
 directTrail c required p set (e ∷ l) =
     pick (isDropped (e .state))
     (when (not set) DependencyRoundDropped)
-    (entryFound c required p e .trail ++ directTrail c required p (set || not (isEmpty (entryFound c required p e .trail))) l)
+    (entryFindings c required p e .trail ++ directTrail c required p (set || not (isEmpty (entryFindings c required p e .trail))) l)
 
 -- the root cause that it records, after an old one
 unfoldable pub directRecord : Settings → Bool → PointView → Option InvalidDependency → List Entry → Option InvalidDependency
-unfolding join entryFound
+unfolding join entryFindings
 directRecord c required p old [] = old
 directRecord c required p old (e ∷ l) =
-    pick (isDropped (e .state)) old (directRecord c required p (join old (entryFound c required p e .root)) l)
+    pick (isDropped (e .state)) old (directRecord c required p (join old (entryFindings c required p e .root)) l)
 
 unfoldable pub indirectTrail : Settings → PointInfo → List IndirectEntry → List InvalidReason
-unfolding indirectFound
+unfolding indirectFindings
 indirectTrail c p [] = []
-indirectTrail c p (a ∷ l) = indirectFound c p a .trail ++ indirectTrail c p l
+indirectTrail c p (a ∷ l) = indirectFindings c p a .trail ++ indirectTrail c p l
 
 unfoldable pub indirectRecord : Settings → PointInfo → Option InvalidDependency → List IndirectEntry → Option InvalidDependency
-unfolding join indirectFound
+unfolding join indirectFindings
 indirectRecord c p old [] = old
-indirectRecord c p old (a ∷ l) = indirectRecord c p (join old (indirectFound c p a .root)) l
+indirectRecord c p old (a ∷ l) = indirectRecord c p (join old (indirectFindings c p a .root)) l
 
 set-append : (a b : List InvalidReason) → not (isEmpty (a ++ b)) ≡ (not (isEmpty a) || not (isEmpty b))
 set-append [] b = refl
@@ -44,55 +44,55 @@ set-append (x ∷ a) b = refl
 
 module _ (c : Settings) (required : Bool) (p : PointView) where
   -- the loop's reasons, after those that were set
-  pub direct-trail : (es : List Entry) (old : Found) →
+  pub direct-trail : (es : List Entry) (old : Findings) →
       checkValid c required p old es .trail ≡ old .trail ++ directTrail c required p (not (isEmpty (old .trail))) es
   unfolding checkValid directTrail
   direct-trail [] old = sym (append-nil (old .trail))
-  direct-trail (e ∷ l) old = go (isDropped (e .state)) (direct-trail l (joined old (entryFound c required p e)))
+  direct-trail (e ∷ l) old = go (isDropped (e .state)) (direct-trail l (joined old (entryFindings c required p e)))
     where
       go : (b : Bool) →
-          checkValid c required p (joined old (entryFound c required p e)) l .trail
-          ≡ (old .trail ++ entryFound c required p e .trail) ++ directTrail c required p (not (isEmpty (old .trail ++ entryFound c required p e .trail))) l →
+          checkValid c required p (joined old (entryFindings c required p e)) l .trail
+          ≡ (old .trail ++ entryFindings c required p e .trail) ++ directTrail c required p (not (isEmpty (old .trail ++ entryFindings c required p e .trail))) l →
           pick b
           (record { trail = old .trail ++ when (isEmpty (old .trail)) DependencyRoundDropped; root = old .root })
-          (checkValid c required p (joined old (entryFound c required p e)) l) .trail
+          (checkValid c required p (joined old (entryFindings c required p e)) l) .trail
           ≡ old .trail
           ++ pick b
           (when (not (not (isEmpty (old .trail)))) DependencyRoundDropped)
-          (entryFound c required p e .trail ++ directTrail c required p (not (isEmpty (old .trail)) || not (isEmpty (entryFound c required p e .trail))) l)
+          (entryFindings c required p e .trail ++ directTrail c required p (not (isEmpty (old .trail)) || not (isEmpty (entryFindings c required p e .trail))) l)
       go true h = rw (Bool·not-not (isEmpty (old .trail)))
       go false h =
           h
           ∙ ap
-          (λ (set : Bool). (old .trail ++ entryFound c required p e .trail) ++ directTrail c required p set l)
-          (set-append (old .trail) (entryFound c required p e .trail))
-          ∙ append-assoc (old .trail) (entryFound c required p e .trail) _
+          (λ (set : Bool). (old .trail ++ entryFindings c required p e .trail) ++ directTrail c required p set l)
+          (set-append (old .trail) (entryFindings c required p e .trail))
+          ∙ append-assoc (old .trail) (entryFindings c required p e .trail) _
 
-  pub direct-record : (es : List Entry) (old : Found) → checkValid c required p old es .root ≡ directRecord c required p (old .root) es
+  pub direct-record : (es : List Entry) (old : Findings) → checkValid c required p old es .root ≡ directRecord c required p (old .root) es
   unfolding checkValid directRecord
   direct-record [] old = refl
-  direct-record (e ∷ l) old = go (isDropped (e .state)) (direct-record l (joined old (entryFound c required p e)))
+  direct-record (e ∷ l) old = go (isDropped (e .state)) (direct-record l (joined old (entryFindings c required p e)))
     where
       go : (b : Bool) →
-          checkValid c required p (joined old (entryFound c required p e)) l .root ≡ directRecord c required p (join (old .root) (entryFound c required p e .root)) l →
+          checkValid c required p (joined old (entryFindings c required p e)) l .root ≡ directRecord c required p (join (old .root) (entryFindings c required p e .root)) l →
           pick b
           (record { trail = old .trail ++ when (isEmpty (old .trail)) DependencyRoundDropped; root = old .root })
-          (checkValid c required p (joined old (entryFound c required p e)) l) .root
-          ≡ pick b (old .root) (directRecord c required p (join (old .root) (entryFound c required p e .root)) l)
+          (checkValid c required p (joined old (entryFindings c required p e)) l) .root
+          ≡ pick b (old .root) (directRecord c required p (join (old .root) (entryFindings c required p e .root)) l)
       go true h = refl
       go false h = h
 
 module _ (c : Settings) (p : PointInfo) where
-  pub indirect-trail : (ts : List IndirectEntry) (old : Found) → checkIndirectLinks c p old ts .trail ≡ old .trail ++ indirectTrail c p ts
+  pub indirect-trail : (ts : List IndirectEntry) (old : Findings) → checkIndirectLinks c p old ts .trail ≡ old .trail ++ indirectTrail c p ts
   unfolding checkIndirectLinks indirectTrail
   indirect-trail [] old = sym (append-nil (old .trail))
   indirect-trail (a ∷ l) old =
-      indirect-trail l (joined old (indirectFound c p a)) ∙ append-assoc (old .trail) (indirectFound c p a .trail) (indirectTrail c p l)
+      indirect-trail l (joined old (indirectFindings c p a)) ∙ append-assoc (old .trail) (indirectFindings c p a .trail) (indirectTrail c p l)
 
-  pub indirect-record : (ts : List IndirectEntry) (old : Found) → checkIndirectLinks c p old ts .root ≡ indirectRecord c p (old .root) ts
+  pub indirect-record : (ts : List IndirectEntry) (old : Findings) → checkIndirectLinks c p old ts .root ≡ indirectRecord c p (old .root) ts
   unfolding checkIndirectLinks indirectRecord
   indirect-record [] old = refl
-  indirect-record (a ∷ l) old = indirect-record l (joined old (indirectFound c p a))
+  indirect-record (a ∷ l) old = indirect-record l (joined old (indirectFindings c p a))
 
 -- where a reason is set, what is recorded is not asked
 reason-wins : (x : InvalidReason) (l : List InvalidReason) (d e : Option InvalidDependency) → resultWith (lastOf (x ∷ l)) d ≡ resultWith (lastOf (x ∷ l)) e
@@ -104,7 +104,7 @@ module _ (c : Settings) (p : PointInfo) (ts : List IndirectEntry) where
   -- the verdict on what the direct entries gave
   abbrev after : List InvalidReason → Option InvalidDependency → Verdict
   after t d =
-      let direct : Found = record { trail = t; root = d } in
+      let direct : Findings = record { trail = t; root = d } in
       let all = pick (isEmpty t) (checkIndirectLinks c p direct ts) direct in
       resultWith (lastOf (all .trail)) (all .root)
 

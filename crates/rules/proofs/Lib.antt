@@ -2,4 +2,13 @@ pub mod Folds
 pub mod Passed
 pub mod Records
 pub mod Mismatch
+pub mod Fits
+pub mod All
+pub mod AnswerBytes
+pub mod Decoded
+pub mod Faults
+pub mod Roots
+pub mod Reasons
+pub mod Entries
+pub mod Told
 pub mod Edges

@@ -17,7 +17,7 @@ use Rattle.schedule.specs.Settings.{Settings}
 use Rattle.reasons.specs.Invalid.{InvalidReason, NoRoundInDag, DependencyRoundDropped, InvalidDependency}
 use Rattle.reasons.specs.Verdict as verdict
 use Rattle.rules.specs.DagPoint.{DagPoint, Valid, TransInvalid, Invalid, IllFormed, NotFound, Dropped, depView, Entry, IndirectEntry, entryId, isDropped, PointView, pointView}
-use Rattle.rules.specs.Validate.{pointRows, Taken, asDependency, asPrevPoint, asVersion, aside, taken, dependencyTrail, dependency, foundAs, entryFound, indirectPointRows, indirectFound, resultWith, overLists, validate}
+use Rattle.rules.specs.Validate.{pointRows, Taken, asDependency, asPrevPoint, asVersion, aside, taken, dependencyTrail, dependency, findingsAs, entryFindings, indirectPointRows, indirectFindings, resultWith, overLists, validate}
 use Rattle.rules.proofs.Folds.{directTrail, indirectTrail, lists-apart}
 use Rattle.rules.specs.Passed.{hasReason, AllEmpty, RowsNone, EntryRowsNone, TargetRowsNone, Passed}
 
@@ -41,36 +41,36 @@ by-position (r ∷ l) f = (f r (List·Memᴰ·head refl), by-position l (λ row 
 module _ (c : Settings) (required : Bool) (p : PointView) where
   -- each direct entry
   entry-all : (es : List Entry) → directTrail c required p false es ≡ [] → (e : Entry) → List·Memᴰ e es →
-      (isDropped (e .state) ≡ false) × (entryFound c required p e .trail ≡ [])
+      (isDropped (e .state) ≡ false) × (entryFindings c required p e .trail ≡ [])
   unfolding directTrail
   entry-all [] h e m = absurd (List·Memᴰ·not-nil m)
   entry-all (x ∷ l) h e m = go (isDropped (x .state)) refl h (entry-all l) (List·Memᴰ·cases-cons m)
     where
       go : (b : Bool) → isDropped (x .state) ≡ b →
-          pick b (when true DependencyRoundDropped) (entryFound c required p x .trail ++ directTrail c required p (not (isEmpty (entryFound c required p x .trail))) l) ≡ [] →
-          (directTrail c required p false l ≡ [] → (e : Entry) → List·Memᴰ e l → (isDropped (e .state) ≡ false) × (entryFound c required p e .trail ≡ [])) →
+          pick b (when true DependencyRoundDropped) (entryFindings c required p x .trail ++ directTrail c required p (not (isEmpty (entryFindings c required p x .trail))) l) ≡ [] →
+          (directTrail c required p false l ≡ [] → (e : Entry) → List·Memᴰ e l → (isDropped (e .state) ≡ false) × (entryFindings c required p e .trail ≡ [])) →
           (e ≡ x) ⊎ List·Memᴰ e l →
-          (isDropped (e .state) ≡ false) × (entryFound c required p e .trail ≡ [])
+          (isDropped (e .state) ≡ false) × (entryFindings c required p e .trail ≡ [])
       go true b k f o = impossible (cc)
       go false b k f (inl q) =
-          let n = append-none (entryFound c required p x .trail) _ k in
-          (ap (λ (y : Entry). isDropped (y .state)) q ∙ b, ap (λ (y : Entry). entryFound c required p y .trail) q ∙ n .0)
+          let n = append-none (entryFindings c required p x .trail) _ k in
+          (ap (λ (y : Entry). isDropped (y .state)) q ∙ b, ap (λ (y : Entry). entryFindings c required p y .trail) q ∙ n .0)
       go false b k f (inr m′) =
-          let n = append-none (entryFound c required p x .trail) _ k in
+          let n = append-none (entryFindings c required p x .trail) _ k in
           f (subst (λ (t : List InvalidReason). directTrail c required p (not (isEmpty t)) l ≡ []) (n .0) (n .1)) e m′
 
 module _ (c : Settings) (p : PointInfo) where
   -- each indirect entry
-  target-all : (ts : List IndirectEntry) → indirectTrail c p ts ≡ [] → (a : IndirectEntry) → List·Memᴰ a ts → indirectFound c p a .trail ≡ []
+  target-all : (ts : List IndirectEntry) → indirectTrail c p ts ≡ [] → (a : IndirectEntry) → List·Memᴰ a ts → indirectFindings c p a .trail ≡ []
   unfolding indirectTrail
   target-all [] h a m = absurd (List·Memᴰ·not-nil m)
-  target-all (x ∷ l) h a m = go (append-none (indirectFound c p x .trail) (indirectTrail c p l) h) (target-all l) (List·Memᴰ·cases-cons m)
+  target-all (x ∷ l) h a m = go (append-none (indirectFindings c p x .trail) (indirectTrail c p l) h) (target-all l) (List·Memᴰ·cases-cons m)
     where
-      go : (indirectFound c p x .trail ≡ []) × (indirectTrail c p l ≡ []) →
-          (indirectTrail c p l ≡ [] → (a : IndirectEntry) → List·Memᴰ a l → indirectFound c p a .trail ≡ []) →
+      go : (indirectFindings c p x .trail ≡ []) × (indirectTrail c p l ≡ []) →
+          (indirectTrail c p l ≡ [] → (a : IndirectEntry) → List·Memᴰ a l → indirectFindings c p a .trail ≡ []) →
           (a ≡ x) ⊎ List·Memᴰ a l →
-          indirectFound c p a .trail ≡ []
-      go n f (inl q) = ap (λ (y : IndirectEntry). indirectFound c p y .trail) q ∙ n .0
+          indirectFindings c p a .trail ≡ []
+      go n f (inl q) = ap (λ (y : IndirectEntry). indirectFindings c p y .trail) q ∙ n .0
       go n f (inr m′) = f (n .1) a m′
 
 rows-none : (c : Settings) (required isPrevPoint : Bool) (p : PointView) (d : DagPoint) → dependencyTrail (pointRows c required isPrevPoint p) d ≡ [] → RowsNone c required isPrevPoint p d
@@ -91,7 +91,7 @@ target-rows-none c g p (IllFormed i n) h = impossible (cc)
 target-rows-none c g p (NotFound i) h = impossible (cc)
 target-rows-none c g p Dropped h = tt
 
-entry-rows-none : (c : Settings) (required : Bool) (p : PointView) (how : Taken) (e : Entry) → foundAs c required p how e .trail ≡ [] → EntryRowsNone c required p how e
+entry-rows-none : (c : Settings) (required : Bool) (p : PointView) (how : Taken) (e : Entry) → findingsAs c required p how e .trail ≡ [] → EntryRowsNone c required p how e
 unfolding dependency
 entry-rows-none c required p asDependency e h = rows-none c required false p (e .state) h
 entry-rows-none c required p asPrevPoint e h = rows-none c required true p (e .state) h
@@ -109,7 +109,7 @@ both-none (x ∷ a) b h = impossible (cc)
 module _ (c : Settings) (required : Bool) (p : PointInfo) (es : List Entry) (ts : List IndirectEntry) where
   -- Valid or TransInvalid: every check passed for every entry
   pub trail-all : hasReason (overLists c required p es ts) ≡ false → Passed c required (pointView p) es ts
-  unfolding entryFound indirectFound dependency
+  unfolding entryFindings indirectFindings dependency
   trail-all h =
       let direct = directTrail c required (pointView p) false es in
       let n = both-none direct (indirectTrail c p ts) (last-none _ (no-reason _ _ (ap hasReason (sym (lists-apart c p ts required es)) ∙ h))) in

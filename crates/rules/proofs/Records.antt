@@ -16,7 +16,7 @@ use Rattle.reasons.specs.Invalid.{InvalidReason, NoRoundInDag, InvalidDependenc
 use Rattle.reasons.specs.Verdict as verdict
 use Rattle.reasons.specs.Verdict.{Verdict}
 use Rattle.rules.specs.DagPoint.{Entry, IndirectEntry, entryId, isDropped, PointView, pointView}
-use Rattle.rules.specs.Validate.{Taken, asDependency, asPrevPoint, asVersion, aside, taken, recordOf, isNewer, join, directThrough, dependency, foundAs, entryFound, indirectFound, resultWith, overLists, validate}
+use Rattle.rules.specs.Validate.{Taken, asDependency, asPrevPoint, asVersion, aside, taken, recordOf, isNewer, join, directThrough, dependency, findingsAs, entryFindings, indirectFindings, resultWith, overLists, validate}
 use Rattle.rules.proofs.Folds.{directTrail, directRecord, indirectTrail, indirectRecord, lists-apart}
 use Rattle.rules.specs.Passed.{hasReason}
 use Rattle.rules.proofs.Passed.{validate-all}
@@ -94,20 +94,20 @@ abbrev pub IsRoot : Settings → PointInfo → List Entry → List IndirectEntry
 IsRoot c p es ts d = TakenIn c p es d ⊎ OneIn (targetRecord c p) ts d
 
 module _ (c : Settings) (required : Bool) (p : PointView) (e : Entry) where
-  taken-record : IsTaken p (entryId (e .state)) → entryFound c required p e .root ≡ takenRecord c (p .id .round) e
-  unfolding entryFound dependency
-  taken-record w = ap (λ (t : Taken). foundAs c required p t e .root) (w .1) ∙ go (w .0)
+  taken-record : IsTaken p (entryId (e .state)) → entryFindings c required p e .root ≡ takenRecord c (p .id .round) e
+  unfolding entryFindings dependency
+  taken-record w = ap (λ (t : Taken). findingsAs c required p t e .root) (w .1) ∙ go (w .0)
     where
-      go : (isPrevPoint : Bool) → foundAs c required p (takenAs isPrevPoint) e .root ≡ takenRecord c (p .id .round) e
+      go : (isPrevPoint : Bool) → findingsAs c required p (takenAs isPrevPoint) e .root ≡ takenRecord c (p .id .round) e
       go true = refl
       go false = refl
 
   -- others record nothing
-  record-taken : (d : InvalidDependency) → entryFound c required p e .root ≡ some d → IsTaken p (entryId (e .state))
-  unfolding entryFound dependency
+  record-taken : (d : InvalidDependency) → entryFindings c required p e .root ≡ some d → IsTaken p (entryId (e .state))
+  unfolding entryFindings dependency
   record-taken d h = go (taken p (entryId (e .state))) refl h
     where
-      go : (t : Taken) → taken p (entryId (e .state)) ≡ t → foundAs c required p t e .root ≡ some d → IsTaken p (entryId (e .state))
+      go : (t : Taken) → taken p (entryId (e .state)) ≡ t → findingsAs c required p t e .root ≡ some d → IsTaken p (entryId (e .state))
       go asDependency f k = (false, f)
       go asPrevPoint f k = (true, f)
       go asVersion f k = none-some k
@@ -118,7 +118,7 @@ module _ (c : Settings) (required : Bool) (p : PointView) (e : Entry) where
 module _ (c : Settings) (required : Bool) (p : PointView) where
   -- what a direct entry records
   abbrev rootOf : Entry → Option InvalidDependency
-  rootOf e = entryFound c required p e .root
+  rootOf e = entryFindings c required p e .root
 
   direct-none : (old : Option InvalidDependency) (es : List Entry) → ((e : Entry) → List·Memᴰ e es → isDropped (e .state) ≡ false) →
       directRecord c required p old es ≡ none → (old ≡ none) × NoneIn rootOf es
@@ -142,7 +142,7 @@ module _ (c : Settings) (required : Bool) (p : PointView) where
 
 module _ (c : Settings) (p : PointInfo) where
   indirect-none : (old : Option InvalidDependency) (ts : List IndirectEntry) → indirectRecord c p old ts ≡ none → (old ≡ none) × NoneIn (targetRecord c p) ts
-  unfolding indirectRecord indirectFound dependency
+  unfolding indirectRecord indirectFindings dependency
   indirect-none old [] h = (h, λ a m. absurd (List·Memᴰ·not-nil m))
   indirect-none old (x ∷ l) h =
       let r = indirect-none (join old (targetRecord c p x)) l h in
@@ -151,7 +151,7 @@ module _ (c : Settings) (p : PointInfo) where
 
   indirect-some : (old : Option InvalidDependency) (ts : List IndirectEntry) (d : InvalidDependency) → indirectRecord c p old ts ≡ some d →
       (old ≡ some d) ⊎ OneIn (targetRecord c p) ts d
-  unfolding indirectRecord indirectFound dependency
+  unfolding indirectRecord indirectFindings dependency
   indirect-some old [] d h = inl h
   indirect-some old (x ∷ l) d h = one-more (targetRecord c p) x l old d (indirect-some (join old (targetRecord c p x)) l d h)
 

@@ -15,7 +15,7 @@ use Rattle.reasons.specs.declared.ill_formed.VerifyAnswer.{VerifyAnswer}
 use Rattle.reasons.specs.declared.ill_formed.VerifyAnswer.the-variants.{Number, Verdict}
 use Rattle.rules.specs.Judge as judged
 
--- "3 ill-formed, 4 fail, 5 verification passed"
+-- 3 is ill-formed, 4 fail, 5 that verification passed
 abbrev pub verifiedAnswer : Verified → Answer
 verifiedAnswer Passed = answer 5 0 noPoint 255 255 0 0 0 0 0
 verifiedAnswer (Failed e) = errorAnswer e
@@ -24,8 +24,8 @@ abbrev pub throughNumber : Through → ℕ
 throughNumber (Includes x) = mapNumber map.Includes
 throughNumber (Witness x) = mapNumber map.Witness
 
--- "0 valid, 1 trans-invalid, 2 invalid, 3 ill-formed, 4 fail"; "for trans-invalid the map it came through", "the root's reason", "the
--- peer it came through", "0" as reason number
+-- 0 is valid, 1 trans-invalid, 2 invalid, 3 ill-formed, 4 fail; trans-invalid has the root's id and reason, and the map and the peer
+-- that it came through
 abbrev pub verdictAnswer : verdict.Verdict → Answer
 verdictAnswer (verdict.Fail u) = errorAnswer (Fail u)
 verdictAnswer (verdict.IllFormed r) = illFormedAnswer r

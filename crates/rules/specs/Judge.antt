@@ -35,11 +35,12 @@ pub record Input : Type 0 where
   pub schedule : Schedule
   pub point : PointInfo
 
--- the first of the numbers 1 to 5 that applies, or the input; `others` says that the call's own tests of 4 passed
+-- the first of the numbers 1 to 5 that applies, or the input
 pub data Tested : Type 0 where
   refused : ℕ → Tested
   admitted : Input → Tested
 
+-- `others` says that the call's own tests of 4 passed
 abbrev pub testedWith : Option Settings → Option Schedule → Option PointInfo → Bool → ℕ → Tested
 testedWith none s p others size = refused 1
 testedWith (some c) none p others size = refused 2

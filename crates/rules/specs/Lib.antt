@@ -7,5 +7,6 @@ pub mod Mismatch
 pub mod Validate
 pub mod Judge
 pub mod Answer
+pub mod Told
 pub mod Passed
 pub mod Edges

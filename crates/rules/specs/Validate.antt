@@ -145,7 +145,7 @@ pointRows c required isPrevPoint p q =
 -- ---- dependency
 
 -- what entries give: the reasons that they set, the last of which is `invalid_reason`, and `latest_invalid_dep`
-pub record Found : Type 0 where
+pub record Findings : Type 0 where
   pub trail : List InvalidReason
   pub root : Option InvalidDependency
 
@@ -159,7 +159,7 @@ dependencyTrail rows (IllFormed i n) = DepIllFormed i n ∷ []
 dependencyTrail rows (NotFound i) = DepNotFound i ∷ []
 dependencyTrail rows Dropped = []
 
--- what an entry would have recorded, reached through t from a point of a round. The window is of trans-invalid entries alone:
+-- what an entry records, reached through t from a point of a round. The window is of trans-invalid entries alone:
 -- "while r−1 is less than the root's round plus commit_history_rounds".
 unfoldable pub recordOf : Settings → ℕ → Bool → Through → DagPoint → Option InvalidDependency
 recordOf c round certified t (Valid q) = none
@@ -184,15 +184,15 @@ join none new = new
 join (some old) none = some old
 join (some old) (some new) = pick (isNewer old new) (some new) (some old)
 
-abbrev pub nothing : Found
+abbrev pub nothing : Findings
 nothing = record { trail = []; root = none }
 
 -- what entries gave, and then one more
-abbrev pub joined : Found → Found → Found
+abbrev pub joined : Findings → Findings → Findings
 joined old new = record { trail = old .trail ++ new .trail; root = join (old .root) (new .root) }
 
 -- what a dependency of a point of a round gives, reached through t
-unfoldable pub dependency : Settings → ℕ → Through → (DepView → List (List InvalidReason)) → Entry → Found
+unfoldable pub dependency : Settings → ℕ → Through → (DepView → List (List InvalidReason)) → Entry → Findings
 unfolding dependencyTrail recordOf
 dependency c round t rows e =
     record { trail = dependencyTrail rows (e .state); root = recordOf c round (e .certified) t (e .state) }
@@ -228,24 +228,24 @@ versionTrail e (IllFormed i n) = MustHaveSkippedRound i ∷ []
 versionTrail e (NotFound i) = when (e .certified) (MustHaveReferencedPrevPoint i)
 versionTrail e Dropped = []
 
-abbrev pub foundAs : Settings → Bool → PointView → Taken → Entry → Found
-foundAs c required p asDependency e = dependency c (p .id .round) (directThrough (p .id .round) (entryId (e .state))) (pointRows c required false p) e
-foundAs c required p asPrevPoint e = dependency c (p .id .round) (directThrough (p .id .round) (entryId (e .state))) (pointRows c required true p) e
-foundAs c required p asVersion e = record { trail = versionTrail e (e .state); root = none }
-foundAs c required p aside e = nothing
+abbrev pub findingsAs : Settings → Bool → PointView → Taken → Entry → Findings
+findingsAs c required p asDependency e = dependency c (p .id .round) (directThrough (p .id .round) (entryId (e .state))) (pointRows c required false p) e
+findingsAs c required p asPrevPoint e = dependency c (p .id .round) (directThrough (p .id .round) (entryId (e .state))) (pointRows c required true p) e
+findingsAs c required p asVersion e = record { trail = versionTrail e (e .state); root = none }
+findingsAs c required p aside e = nothing
 
-unfoldable pub entryFound : Settings → Bool → PointView → Entry → Found
+unfoldable pub entryFindings : Settings → Bool → PointView → Entry → Findings
 unfolding taken dependency pointRows
-entryFound c required p e = foundAs c required p (taken p (entryId (e .state))) e
+entryFindings c required p e = findingsAs c required p (taken p (entryId (e .state))) e
 
 -- the loop: "A dropped entry ends the direct list and sets its reason only if none is set"
-unfoldable pub checkValid : Settings → Bool → PointView → Found → List Entry → Found
-unfolding join entryFound
+unfoldable pub checkValid : Settings → Bool → PointView → Findings → List Entry → Findings
+unfolding join entryFindings
 checkValid c required p old [] = old
 checkValid c required p old (e ∷ l) =
     pick (isDropped (e .state))
     (record { trail = old .trail ++ when (isEmpty (old .trail)) DependencyRoundDropped; root = old .root })
-    (checkValid c required p (joined old (entryFound c required p e)) l)
+    (checkValid c required p (joined old (entryFindings c required p e)) l)
 
 -- ---- check_indirect_links
 
@@ -262,16 +262,16 @@ indirectPointRows c g p q =
     ∷ []
 
 -- an indirect entry came through its link's map and peer
-unfoldable pub indirectFound : Settings → PointInfo → IndirectEntry → Found
+unfoldable pub indirectFindings : Settings → PointInfo → IndirectEntry → Findings
 unfolding dependency indirectPointRows pointView
-indirectFound c p a =
+indirectFindings c p a =
     dependency c (p .id .round) (through (anchorLink (a .role) p)) (indirectPointRows c (a .role) (pointView p)) (a .entry)
 
 -- the loop: a dropped entry gives nothing, "one old link doesn't mean others are unreachable"
-unfoldable pub checkIndirectLinks : Settings → PointInfo → Found → List IndirectEntry → Found
-unfolding join indirectFound
+unfoldable pub checkIndirectLinks : Settings → PointInfo → Findings → List IndirectEntry → Findings
+unfolding join indirectFindings
 checkIndirectLinks c p old [] = old
-checkIndirectLinks c p old (a ∷ l) = checkIndirectLinks c p (joined old (indirectFound c p a)) l
+checkIndirectLinks c p old (a ∷ l) = checkIndirectLinks c p (joined old (indirectFindings c p a)) l
 
 -- ---- validate
 

@@ -19,7 +19,6 @@ use Rattle.tally.specs.declared.points.Turn as code-turn
 use Rattle.tally.specs.declared.points.Turn.the-variants as case-turn
 use Rattle.parts.specs.Bytes.{putAt}
 use Rattle.tally_line.specs.declared.Line.{Line}
-use Rattle.tally_feed.specs.declared.next.Next as code-next
 use Rattle.tally_feed.specs.declared.next.Next.the-variants as case-next
 use Rattle.tally_feed.specs.Tally.{Step, over, last, point}
 use Rattle.tally_feed.specs.Code.{nextOf}

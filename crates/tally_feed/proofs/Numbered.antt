@@ -3,10 +3,9 @@ use Prim.Native.Nat.{ℕ, suc}
 use mathlib.Core.Path.{_≡_, refl}
 use mathlib.Core.Option.{Option, none, some}
 use mathlib.Core.List.{List, [], _∷_}
-use lib.ListN.{length, take}
+use lib.ListN.{take}
 use Rattle.point.specs.Point.{PointInfo}
 use Rattle.point.specs.Reading.{readPoint}
-use Rattle.schedule.specs.Settings.{Settings}
 use Rattle.schedule.specs.Schedule.{Schedule, readSchedule}
 use Rattle.rules.specs.Judge.{Number}
 use Rattle.books.specs.Kept.{Opened}

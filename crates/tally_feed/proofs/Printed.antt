@@ -82,7 +82,7 @@ module _ (turns room : ℕ) (held : ℕ → ℕ) (feed : List ℕ) (long : lengt
       rw (take-take 47 room feed (omega arith), take-take n room feed (omega (arith, begin-most 65536 feed n e)))
       (printed-points held enough turns (drop 47 (take n feed)) 1 (openBytes (take 47 feed) book) peers (drop n feed) (omega (arith, length-drop n feed)))
 
-  -- a feed of at most as many bytes as there are turns; so what is printed is `output` of `tally`
+  -- a feed of at most as many bytes as there are turns
   pub printed-tally : printed turns room held feed ≡ tally feed
   unfolding printed tally
   printed-tally =

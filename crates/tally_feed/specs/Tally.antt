@@ -2,7 +2,7 @@
 -- standard input into a book of 65,536 bytes". A feed is all bytes of its standard input.
 use Prim.Native.Nat.{ℕ, zero, suc, _+_}
 use mathlib.Core.Option.{Option, none, some, Option·map, Option·getD}
-use mathlib.Core.List.{List, [], _∷_, _++_}
+use mathlib.Core.List.{List, [], _∷_}
 use lib.ListN.{length, take, drop, replicate}
 use Rattle.base.specs.Base.{pick, isSome}
 use Rattle.record.specs.Record.{fieldRow, fieldOk, nextAt, endFrom, recordEnd}
@@ -18,7 +18,6 @@ use Rattle.books.specs.Layout.{readBook}
 use Rattle.books.specs.Offer.{Result}
 use Rattle.books.specs.Calls.{openNumber, openBytes, offerBytes}
 use Rattle.tally_line.specs.declared.Line.{Line}
-use Rattle.tally_line.specs.Text.{linesBytes, endBytes}
 use Rattle.tally_feed.specs.declared.front.Front as code-front
 use Rattle.tally_feed.specs.declared.front.Front.the-variants as case-front
 
@@ -161,8 +160,3 @@ tally feed = tallyFrom (replicate 65536 0) (replicate 8160 0) feed (begin 65536 
 unfoldable pub keptIn : List ℕ → ℕ
 unfolding readBook
 keptIn s = Option·getD (Option·map (λ z. length (z .book)) (readBook s)) 0
-
--- its bytes
-unfoldable pub output : Tally → List ℕ
-unfolding linesBytes endBytes keptIn
-output t = linesBytes (t .lines) ++ endBytes (keptIn (t .book))

@@ -50,7 +50,7 @@ bytes-split (suc m) n x y h =
     rw (pow-add 256 m n, mul-comm (256 ^ m) (256 ^ n), ← div-div-eq-div-mul (x * 256 ^ n + y) (256 ^ n) (256 ^ m), digits-div x h) in
     rw (suc-add m n, e, bytes-split m n x y h)
 
-bytes-below : (n x : ℕ) → Bytes (bigBytes n x)
+pub bytes-below : (n x : ℕ) → Bytes (bigBytes n x)
 unfolding bigBytes
 bytes-below zero x k = omega arith
 bytes-below (suc n) x zero = omega arith

@@ -162,6 +162,7 @@ impl<'a> Points<'a> {
         let answer = oracle::judge(settings, schedule, record, LEADER, PRESENCE, list, PEER_BUFFER);
         matches!(answer, Answer::Verdict(verdict) if verdict.kind == VALID)
     }
+
     fn direct(&self, place: usize, judging: &Judging<'_>, round: &DagRound) -> bool {
         let (record, list) = (&black_box(self.bytes).records[place], &self.lists[place]);
         let read = (direct::record(record), direct::records(list));

@@ -17,9 +17,9 @@ const BOOKS: [(usize, usize); 9] =
     [(4, 100), (4, 1_000), (4, 4_095), (13, 100), (13, 1_000), (13, 4_095), (100, 300), (100, 1_000), (253, 600)];
 
 const ROUNDS: usize = 101;
-/// A round reads about n bytes in each way.
+/// Bytes that a round reads in each way, about.
 const BYTES: usize = 2_000_000;
-/// So many of the last entries are offered once, to see that the book is what offers leave.
+/// How many of the last entries are offered once, to see that the book is what offers leave.
 const CHECKED: usize = 100;
 
 /// No author leads its round.

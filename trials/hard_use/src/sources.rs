@@ -90,7 +90,7 @@ pub fn calls(source: Source, seed: u64, place: u64) -> Vec<Call> {
         Source::SharedFronts => return alike(&mut random, seed, place),
         Source::Opening => return vec![opening::opening(&mut random, seed, place)],
         Source::Dear => return vec![dear(&mut random)],
-        Source::Feed | Source::DamagedBook => unreachable!("their calls hang on one another"),
+        Source::Feed | Source::DamagedBook => unreachable!("their calls depend on one another"),
     };
     cases.into_iter().map(Call::Case).collect()
 }

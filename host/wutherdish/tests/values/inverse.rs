@@ -8,7 +8,7 @@ use crate::random::Random;
 
 const CASES: usize = 300;
 
-/// So many peers, in falling order.
+/// `count` peers, in falling order.
 fn peers(count: u16) -> impl Iterator<Item = PeerId> {
     (0..count).rev().map(|number| {
         let mut bytes = [0; 32];

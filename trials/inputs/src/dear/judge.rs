@@ -10,7 +10,7 @@ use super::{Made, Of, Shape, alike, shortest, without_prev};
 use crate::call::Call;
 use crate::points::{Bytes, ROUND, judged, list_of, set, with_records};
 
-/// Entries that a list has room for beside the dependencies of a point of four peers and its links' targets.
+/// Entries beside the point's own, which are at most nine, so that no list is too long.
 const LONGEST: usize = 65_535 - 9;
 /// Peers of the typical lists.
 const PEERS: usize = 100;

@@ -2,7 +2,6 @@
 use native.Mathlib.Omega.{arith}
 use mathlib.Core.Path.{_≡_, sym, _∙_, subst}
 use mathlib.Core.Option.{none}
-use lib.ListN.{length}
 use denote.Ref.{now}
 use Rattle.parts.specs.Bytes.{Bytes}
 use Rattle.rules.specs.Judge.{Input}

@@ -1,32 +1,30 @@
 -- `judge_version` meets its contract: an entry that is no version, and one that is.
-use mathlib.Core.Path.{_≡_, _∙_}
+use mathlib.Core.Path.{_≡_, ap, sym, _∙_}
 use Prim.Native.Nat.{_+_, _-_}
 use denote.Ref.{now}
 use borrow.Author.Tests.{not-true, not-false}
 use Rattle.judge_valid.specs.Code.{pointViewOf}
 use Rattle.parts.specs.Code.{number}
 use Rattle.point.specs.Reading.{pointIdAt}
-use Rattle.point.specs.Code.{pointIdOf}
 use Rattle.schedule.specs.Code.{settingsOf}
+use Rattle.rules.specs.DagPoint.{isBy}
 use Rattle.books.specs.Kept.{Kept}
 use Rattle.books.specs.Lists.{isOf}
 use Rattle.book_judge.specs.Code.{versionsOf}
-use Rattle.book_judge.proofs.Versions.{version-other, version-own, is-version}
+use Rattle.book_judge.proofs.Versions.{version-other, version-own}
 use borrow.Author.Needs.{needs}
 use Rattle.book_judge.proofs.direct.judge_version.Statement.{statement}
 use Rattle.book_judge.proofs.direct.judge_version.Tie as tie
 
-abbrev start : tie.After-is-of → tie.Start
-start c = c .before .before .before .before .before .before
+abbrev start : tie.After-is-own-before → tie.Start
+start c = c .before .before .before .before
 
 -- the test of the id
-tested : (c : tie.After-is-of) (k : Kept) →
+tested : (c : tie.After-is-own-before) (k : Kept) →
     let st = start c in
     pointIdAt (now (st .args .book)) (st .args .place + 3) ≡ k .point .id →
-    isOf (st .args .p .id .round - 1) (number (st .args .p .id .author)) k ≡ c .is-of .result
-tested c k i =
-    let b = c .before in
-    is-version (pointIdOf (b .before .point-id-at .result)) k (c .is-of .result) (b .rounds-back .result) _ _ (b .before .point-id-at .ensures ∙ i) (b .rounds-back .ensures) (c .is-of .ensures)
+    isOf (st .args .p .id .round - 1) (number (st .args .p .id .author)) k ≡ c .is-own-before .result
+tested c k i = sym (c .is-own-before .ensures ∙ ap (isBy _ _) (c .before .point-id-at .ensures ∙ i))
 
 add-point-id-at : tie.Need-add-point-id-at
 add-point-id-at c = search needs
@@ -34,11 +32,8 @@ add-point-id-at c = search needs
 point-id-at-requires : tie.Need-point-id-at-requires
 point-id-at-requires c κs = search needs
 
-rounds-back-requires : tie.Need-rounds-back-requires
-rounds-back-requires c κs = search needs
-
-is-of-requires : tie.Need-is-of-requires
-is-of-requires c κs = search needs
+is-own-before-requires : tie.Need-is-own-before-requires
+is-own-before-requires c κs = search needs
 
 returns : tie.Need-returns
 returns c =
@@ -76,8 +71,7 @@ judge-version-spec =
     (tie.spec
     add-point-id-at
     point-id-at-requires
-    rounds-back-requires
-    is-of-requires
+    is-own-before-requires
     returns
     kept-at-requires
     is-first-requires

@@ -20,13 +20,13 @@ use Rattle.rules.specs.List.{readList, directs}
 use Rattle.judge_mismatch.specs.Code.{codeHeadOf, listed, roundIn, pairsIn, mapsIn, noPair, isNewVersion}
 use Rattle.rules.specs.Mismatch.{pairId}
 use Rattle.judge_mismatch.proofs.Heads.{Front, Reads, reads-front, reads-head, reads-next}
-use Rattle.judge_mismatch.proofs.Laws.{Marking, marked-stood, marking-at, marking-absent, marking-whole, Walk, Going, direct-told, target-told, going-start, going-end, going-target, going-dropped, going-marking, going-twice, going-fails, going-placed, same-room}
+use Rattle.judge_mismatch.proofs.Laws.{Marking, marked-stood, marking-at, marking-absent, marking-whole, Walking, Going, direct-told, target-told, going-start, going-end, going-target, going-dropped, going-marking, going-twice, going-fails, going-placed, same-room}
 use Rattle.judge_mismatch.proofs.Rows.{Maps, maps-of, maps-few, row-some, row-none}
 use Rattle.judge_mismatch.proofs.walk.walk.Statement.{statement}
 use Rattle.judge_mismatch.proofs.walk.walk.Tie as tie
 
 abbrev Inv-loop : tie.InvT-loop
-Inv-loop presence rec info list seen₀ maps is-mismatch₀ dropped at head next found₀ m₀ seen is-mismatch found m = (w : Walk presence (pointOf rec info) (directs (listed list)) (directs (listed (drop at list))) seen₀ dropped) × Marking (mapsIn presence) (pointOf rec info) (pointIdOf (head .id)) (w .before) m found seen × (is-mismatch ≡ false)
+Inv-loop presence rec info list seen₀ maps is-mismatch₀ dropped at head next found₀ m₀ seen is-mismatch found m = (w : Walking presence (pointOf rec info) (directs (listed list)) (directs (listed (drop at list))) seen₀ dropped) × Marking (mapsIn presence) (pointOf rec info) (pointIdOf (head .id)) (w .before) m found seen × (is-mismatch ≡ false)
 
 abbrev μ-loop : tie.MeasureT-loop
 μ-loop presence rec info list seen₀ maps is-mismatch₀ dropped at head next found₀ m₀ seen is-mismatch found m = maps - m

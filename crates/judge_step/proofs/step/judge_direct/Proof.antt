@@ -9,7 +9,7 @@ use Rattle.schedule.specs.Settings.{Settings}
 use Rattle.schedule.specs.Code.{settingsOf}
 use Rattle.reasons.specs.Invalid.{InvalidReason, InvalidDependency}
 use Rattle.rules.specs.DagPoint.{Entry, entryId, isDropped, PointView}
-use Rattle.rules.specs.Validate.{Found, Taken, asDependency, asPrevPoint, asVersion, aside, taken, join, dependency, foundAs, entryFound}
+use Rattle.rules.specs.Validate.{Findings, Taken, asDependency, asPrevPoint, asVersion, aside, taken, join, dependency, findingsAs, entryFindings}
 use Rattle.judge_entries.specs.Code.{entryOf}
 use Rattle.judge_valid.specs.Code.{pointViewOf}
 use Rattle.judge_step.specs.Code.{Judging, laterOf, recordAs, directStep, judgingOf}
@@ -18,7 +18,7 @@ use Rattle.judge_step.proofs.step.judge_direct.Statement.{statement}
 use Rattle.judge_step.proofs.step.judge_direct.Tie as tie
 
 -- what an entry records does not depend on its reasons
-record-as : (c : Settings) (required : Bool) (p : PointView) (how : Taken) (e : Entry) → recordAs c (p .id .round) how e ≡ foundAs c required p how e .root
+record-as : (c : Settings) (required : Bool) (p : PointView) (how : Taken) (e : Entry) → recordAs c (p .id .round) how e ≡ findingsAs c required p how e .root
 unfolding dependency
 record-as c required p asDependency e = refl
 record-as c required p asPrevPoint e = refl
@@ -28,17 +28,17 @@ record-as c required p aside e = refl
 -- an entry that is not dropped, nor after a dropped one
 module _ (c : Settings) (required : Bool) (p : PointView) (j : Judging) (e : Entry) (goes-on : j .ended ≡ false) (there : isDropped (e .state) ≡ false) where
   module _ (how : Taken) (i : PointId) (told : how ≡ taken p i) (same : i ≡ entryId (e .state)) where
-    found : foundAs c required p how e ≡ entryFound c required p e
-    unfolding entryFound
-    found = ap (λ (w : Taken). foundAs c required p w e) (told ∙ ap (taken p) same)
+    found : findingsAs c required p how e ≡ entryFindings c required p e
+    unfolding entryFindings
+    found = ap (λ (w : Taken). findingsAs c required p w e) (told ∙ ap (taken p) same)
 
-    judged : (reason : Option InvalidReason) (w : Option InvalidDependency) → reason ≡ lastOf (foundAs c required p how e .trail) → w ≡ recordAs c (p .id .round) how e →
+    judged : (reason : Option InvalidReason) (w : Option InvalidDependency) → reason ≡ lastOf (findingsAs c required p how e .trail) → w ≡ recordAs c (p .id .round) how e →
         (direct : Option InvalidReason) (recorded : Option InvalidDependency) → direct ≡ laterOf (j .direct) reason → recorded ≡ join (j .recorded) w →
         record { direct = direct; indirect = j .indirect; recorded = recorded; ended = false } ≡ directStep c required p j e
     unfolding directStep
     judged reason w r v direct recorded d f =
-        let g : direct ≡ laterOf (j .direct) (lastOf (entryFound c required p e .trail)) = d ∙ ap (laterOf (j .direct)) (r ∙ ap (λ (f : Found). lastOf (f .trail)) found) in
-        let k : recorded ≡ join (j .recorded) (entryFound c required p e .root) = f ∙ ap (join (j .recorded)) (v ∙ record-as c required p how e ∙ ap (λ (x : Found). x .root) found) in
+        let g : direct ≡ laterOf (j .direct) (lastOf (entryFindings c required p e .trail)) = d ∙ ap (laterOf (j .direct)) (r ∙ ap (λ (f : Findings). lastOf (f .trail)) found) in
+        let k : recorded ≡ join (j .recorded) (entryFindings c required p e .root) = f ∙ ap (join (j .recorded)) (v ∙ record-as c required p how e ∙ ap (λ (x : Findings). x .root) found) in
         rw (goes-on, there, g, k)
 
 returns : tie.Need-returns

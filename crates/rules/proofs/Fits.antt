@@ -1,4 +1,4 @@
--- The numbers of a point that was read from bytes fit the bytes that the book's layout gives them.
+-- The numbers of a point that was read from bytes fit the bytes that they were read from.
 use Prim.Native.Nat.{ℕ, zero, suc, _+_, _-_, _*_, _/_, _^_, _≤_, _<_}
 use native.Mathlib.Omega.{arith}
 use mathlib.Core.Path.{_≡_, refl, ap, sym, _∙_, subst}
@@ -7,20 +7,21 @@ use mathlib.Core.Bool.{Bool, true, false, _&&_}
 use mathlib.Core.Option.{Option, none, some}
 use mathlib.Core.List.{List, List·Memᴰ, List·Memᴰ·not-nil, List·Memᴰ·cases-cons}
 use lib.ListN.{length, getD}
-use lib.Dec.{eqb}
+use lib.Dec.{leb, eqb}
 use borrow.Author.Tests.{eqb-true}
 use Rattle.base.specs.Base.{pick, tabulate}
 use Rattle.base.proofs.Bool.{and-left}
-use Rattle.base.proofs.Option.{none-some, and-then}
-use Rattle.parts.specs.Bytes.{idAt, Bytes}
+use Rattle.base.proofs.Option.{none-some, picked, and-then, IfSome, pick-has, has}
+use Rattle.parts.specs.Bytes.{littleAt, idAt, Bytes}
 use Rattle.parts.proofs.Laws.{at-bytes, big-fits}
 use Rattle.map.specs.Rows.{Pair, peerAt, digestAt, pairAt, pairsOf}
-use Rattle.record.specs.Record.{rows, rowOf, nextAt, contentAt, startOf, contentOf}
+use Rattle.record.specs.Record.{rows, rowOf, nextAt, contentAt, startOf, contentOf, wellShaped}
 use Rattle.record.proofs.Laws.{content-least}
 use Rattle.write.proofs.Numbers.{little-fits}
-use Rattle.point.specs.Point.{PointId, Through, Includes, Witness, AnchorLink, Direct, Indirect, PointInfo, throughPeer, through}
-use Rattle.point.specs.Reading.{pointIdAt, readThrough, readLink, readPoint}
-use Rattle.point.proofs.Laws.{readable, parts-of}
+use Rattle.point.specs.Point.{PointId, Through, Includes, Witness, AnchorLink, Direct, Indirect, PointInfo, Sticky, throughPeer, through, stickyAnchors}
+use Rattle.point.specs.Reading.{pointIdAt, readThrough, readLink, readRole, mapsOk, readPoint}
+use Rattle.point.specs.declared.data.PointRole.{PointRole}
+use Rattle.point.proofs.Laws.{readable, reads, parts-of}
 
 pub content-bytes : (s : List ℕ) (k : ℕ) → Bytes s → Bytes (contentOf s k)
 unfolding contentOf contentAt
@@ -34,13 +35,19 @@ pub record IdFits (i : PointId) : Type 0 where
   pub digest : i .digest < 256 ^ 32
   pub author : i .author < 256 ^ 32
 
--- a point's id, and the peers that its links go through
+-- a seq_no, if a role has one, fits its byte
+abbrev pub RoleFits : PointRole → Type 0
+RoleFits r = IfSome (λ (k : Sticky). k .seqNo < 256) (stickyAnchors r)
+
+-- a point's id, its payload's bytes, the peers that its links go through, and its seq_no
 pub record PointFits (p : PointInfo) : Type 0 where
   pub id : IdFits (p .id)
+  pub payload : p .payloadBytes < 256 ^ 4
+  pub role : RoleFits (p .role)
   pub proof : throughPeer (through (p .anchorProof)) < 256 ^ 32
   pub trigger : throughPeer (through (p .anchorTrigger)) < 256 ^ 32
 
-id-fits : (s : List ℕ) (at : ℕ) → Bytes s → at + 68 ≤ length s → IdFits (pointIdAt s at)
+pub id-fits : (s : List ℕ) (at : ℕ) → Bytes s → at + 68 ≤ length s → IdFits (pointIdAt s at)
 unfolding pointIdAt
 id-fits s at b h = record {
   round = little-fits 4 s at b (omega arith);
@@ -71,12 +78,35 @@ link-through s l e =
 link-fits : (s : List ℕ) (l : AnchorLink) → Bytes s → 34 ≤ length s → readLink s ≡ some l → throughPeer (through l) < 256 ^ 32
 link-fits s l b h e = rw (through-is s (through l) (link-through s l e)) (big-fits 32 s 2 b (omega arith))
 
+role-fits : (s : List ℕ) → Bytes s → IfSome RoleFits (readRole s)
+unfolding readRole
+role-fits s b =
+    pick-has RoleFits (eqb (length s) 1) _ _
+    (λ h. pick-has RoleFits (eqb (getD s 0 0) 0) _ _ (λ x. tt)
+    (pick-has RoleFits (eqb (getD s 0 0) 2) _ _ (λ x. tt) (pick-has RoleFits (eqb (getD s 0 0) 3) _ _ (λ x. tt) tt)))
+    (pick-has RoleFits (eqb (length s) 3 && (eqb (getD s 0 0) 1 && leb (getD s 2 0) 1)) _ _ (λ h. b 1) tt)
+
+rest-with : (s : List ℕ) (x y : Option AnchorLink) (r : Option PointRole) (p : PointInfo) → reads s x y r ≡ some p →
+    (p .payloadBytes ≡ littleAt 4 (contentOf s 1) 4) × (r ≡ some (p .role))
+rest-with s none y r p e = none-some e
+rest-with s (some x) none r p e = none-some e
+rest-with s (some x) (some y) none p e = none-some e
+rest-with s (some x) (some y) (some r) p e = (cc, cc)
+
+-- what a point has of its record besides `PartsOf`
+rest-of : (s : List ℕ) (p : PointInfo) → readPoint s ≡ some p → (p .payloadBytes ≡ littleAt 4 (contentOf s 1) 4) × (readRole (contentOf s 7) ≡ some (p .role))
+unfolding readPoint
+rest-of s p h = rest-with s (readLink (contentOf s 5)) (readLink (contentOf s 6)) (readRole (contentOf s 7)) p (picked (wellShaped s && mapsOk s) _ p h .1)
+
 pub point-fits : (s : List ℕ) (p : PointInfo) → Bytes s → readPoint s ≡ some p → PointFits p
 unfolding readPoint rowOf rows
 point-fits s p b h =
     let w = readable s p h .shaped in
     let m = parts-of s p h in
+    let n = rest-of s p h in
     record {
+      payload = rw (n .0) (little-fits 4 (contentOf s 1) 4 (content-bytes s 1 b) (content-least s w 1 (omega arith)));
+      role = has RoleFits (readRole (contentOf s 7)) (p .role) (role-fits (contentOf s 7) (content-bytes s 7 b)) (n .1);
       id = rw (m .id) (id-fits (contentOf s 0) 0 (content-bytes s 0 b) (content-least s w 0 (omega arith)));
       proof = link-fits (contentOf s 5) (p .anchorProof) (content-bytes s 5 b) (content-least s w 5 (omega arith)) (m .proof);
       trigger = link-fits (contentOf s 6) (p .anchorTrigger) (content-bytes s 6 b) (content-least s w 6 (omega arith)) (m .trigger);
