@@ -1,9 +1,7 @@
-// SHA-256 (FIPS 180-4): a case names the bytes of a book by it.
+// SHA-256 (FIPS 180-4): a case names the bytes of a book by it. No message longer than the longest book is taken.
 ghost use Prim.Native.Nat.{_≤_, _<_};
 ghost use lib.ListN.{length};
-
-// No longer message is taken.
-const LONGEST: usize = 16777216;
+ghost use Rattle.parts.specs.Limits.{longestBook};
 
 struct State {
     a: u32,
@@ -124,7 +122,7 @@ fn big_endian(s: &[u8], at: usize) -> u32 {
 
 // A length in bits.
 fn bits(n: usize) -> u32 {
-    if LONGEST < n {
+    if parts::LONGEST_BOOK < n {
         return 0;
     }
     8 * n as u32
@@ -219,7 +217,7 @@ fn add_block(start: State, s: &[u8], last: usize, at: usize) -> State {
 }
 
 fn digest(s: &[u8]) -> State
-    requires { ⌜ length (now s) ≤ 16777216 ⌝ }
+    requires { ⌜ length (now s) ≤ longestBook ⌝ }
 {
     let end = (s.len() + 8) / 64 * 64 + 64;
     let mut state = START;
@@ -241,7 +239,7 @@ fn is_state(s: State, want: &[u8]) -> bool {
 
 // Whether these 32 bytes are the digest of the message.
 pub fn is_digest(s: &[u8], want: &[u8]) -> bool {
-    if LONGEST < s.len() {
+    if parts::LONGEST_BOOK < s.len() {
         return false;
     }
     if want.len() != 32 {

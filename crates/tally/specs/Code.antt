@@ -5,6 +5,7 @@ use mathlib.Core.Bool.{true, false}
 use mathlib.Core.List.{List}
 use lib.ListN.{length, take, drop}
 use lib.IntN.{ℤ, pos, negsuc}
+use Rattle.parts.specs.Limits.{settingsLength}
 use Rattle.tally_feed.specs.Tally.{Step, over, last, point, step}
 use Rattle.tally.specs.declared.window.Window.{Window}
 use Rattle.tally.specs.declared.window.Got as code-got
@@ -65,7 +66,7 @@ pub record Refilled (buf : List ℕ) (w : Window) (buf' : List ℕ) (w' : Window
 
 -- the first turn's place is 1, and what is at hand begins after settings and a schedule, where the points begin
 abbrev pub firstState : Window → ℕ → State
-firstState w start = record { window = without w start; place = 1; «schedule_len» = start - 47 }
+firstState w start = record { window = without w start; place = 1; «schedule_len» = start - settingsLength }
 
 abbrev pub withWindow : State → Window → State
 withWindow s w = record { window = w; place = s .place; «schedule_len» = s .«schedule_len» }

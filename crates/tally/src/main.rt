@@ -10,11 +10,10 @@ use window::Window;
 ghost use mathlib.Core.Path.{_≡_};
 ghost use Prim.Native.Nat.{_≤_};
 ghost use lib.ListN.{length};
+ghost use Rattle.parts.specs.Limits.{settingsLength};
 ghost use Rattle.tally.specs.Code.{Stands};
 
 const BOOK: usize = 65536;
-
-const PEERS: usize = 8160;
 
 // The longest schedule: four spans of 255 peers, and the last known round.
 const SCHEDULE: usize = 32675;
@@ -61,7 +60,7 @@ fn print_after(
     w: Window,
     start: usize,
 ) -> bool
-    requires { ⌜ (47 ≤ start) × (start ≤ 32722) × (32675 ≤ length (now schedule)) ⌝ }
+    requires { ⌜ (settingsLength ≤ start) × (start ≤ 32722) × (32675 ≤ length (now schedule)) ⌝ }
     requires { ⌜ (w .start ≡ 0) × (start ≤ w .end) × (w .end ≤ length (now buf)) × (41127 ≤ length (now buf)) ⌝ }
 {
     let first = points::begin_points(schedule, buf, w, start);
@@ -97,7 +96,7 @@ fn tally(book: &mut [u8], schedule: &mut [u8], peers: &mut [u8], buf: &mut [u8])
 fn main() {
     let mut book = [0u8; BOOK];
     let mut schedule = [0u8; SCHEDULE];
-    let mut peers = [0u8; PEERS];
+    let mut peers = [0u8; parts::PEERS_ROOM];
     let mut buf = [0u8; window::ROOM];
     tally(&mut book, &mut schedule, &mut peers, &mut buf);
 }

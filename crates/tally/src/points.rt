@@ -6,6 +6,7 @@ use tally_line::Line;
 ghost use mathlib.Core.Path.{_≡_};
 ghost use Prim.Native.Nat.{_-_, _≤_, _<_};
 ghost use lib.ListN.{length, take, drop};
+ghost use Rattle.parts.specs.Limits.{settingsLength};
 ghost use Rattle.tally_feed.specs.Code.{bookAfter, peersAfter};
 ghost use Rattle.tally.specs.Code.{atHand, firstState, withWindow, turnOf, Stands, Leads, stepFrom};
 
@@ -26,17 +27,17 @@ pub enum Turn {
 // Where the first turn stands, of points that begin at a place of the first window, after settings and a schedule. The schedule's
 // bytes are copied, since the buffer will hold others.
 pub fn begin_points(schedule: &mut [u8], buf: &[u8], w: Window, start: usize) -> State
-    requires { ⌜ (47 ≤ start) × (start ≤ 32722) × (32675 ≤ length (now schedule)) ⌝ }
+    requires { ⌜ (settingsLength ≤ start) × (start ≤ 32722) × (32675 ≤ length (now schedule)) ⌝ }
     requires { ⌜ (w .start ≡ 0) × (start ≤ w .end) × (w .end ≤ length (now buf)) ⌝ }
     ensures { λ r. ⌜ r ≡ firstState w start ⌝ }
-    ensures { λ r. ⌜ take (start - 47) (now (schedule .exit)) ≡ drop 47 (take start (atHand (now (buf .entry)) w)) ⌝ }
+    ensures { λ r. ⌜ take (start - settingsLength) (now (schedule .exit)) ≡ drop settingsLength (take start (atHand (now (buf .entry)) w)) ⌝ }
     ensures { λ r. ⌜ Stands (length (now (buf .entry))) (length (now (schedule .exit))) r ⌝ }
 {
-    write::put_slice(schedule, 0, &buf[47..start]);
+    write::put_slice(schedule, 0, &buf[parts::SETTINGS_LENGTH..start]);
     State {
         window: window::after(w, start),
         place: 1,
-        schedule_len: start - 47,
+        schedule_len: start - parts::SETTINGS_LENGTH,
     }
 }
 

@@ -2,6 +2,7 @@
 use Prim.Native.Nat.{ℕ, _≤_}
 use mathlib.Core.List.{List}
 use lib.ListN.{length}
+use Rattle.parts.specs.Limits.{settingsLength}
 use Rattle.rules.specs.Judge.{Number}
 use Rattle.tally_feed.specs.Tally.{Step, over, last, point}
 use Rattle.tally_feed.specs.declared.front.Front as code-front
@@ -28,7 +29,7 @@ peersAfter peers (point l size r) = r .peers
 -- the points begin within a feed, after a schedule of at most 32,675 bytes
 abbrev pub Begins : List ℕ → code-front.Front → Type 0
 Begins feed (case-front.Number n) = Unit
-Begins feed (case-front.Points n) = (47 ≤ n) × (n ≤ length feed) × (n ≤ 32722)
+Begins feed (case-front.Points n) = (settingsLength ≤ n) × (n ≤ length feed) × (n ≤ 32722)
 
 -- a point ends within a feed
 abbrev pub Within : ℕ → code-next.Next → Type 0

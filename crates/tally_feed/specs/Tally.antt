@@ -4,6 +4,7 @@ use Prim.Native.Nat.{ℕ, zero, suc, _+_}
 use mathlib.Core.Option.{Option, none, some, Option·map, Option·getD}
 use mathlib.Core.List.{List, [], _∷_}
 use lib.ListN.{length, take, drop, replicate}
+use Rattle.parts.specs.Limits.{settingsLength, peersRoom}
 use Rattle.base.specs.Base.{pick, isSome}
 use Rattle.record.specs.Record.{fieldRow, fieldOk, nextAt, endFrom, recordEnd}
 use Rattle.point.specs.Point.{PointInfo}
@@ -59,7 +60,7 @@ scheduleEnd s = scheduleEndFrom 4 s 0
 
 abbrev pub scheduleTo : List ℕ → Option ℕ → code-front.Front
 scheduleTo s none = case-front.Number 2
-scheduleTo s (some n) = pick (isSome (readSchedule (take n s))) (case-front.Points (47 + n)) (case-front.Number 2)
+scheduleTo s (some n) = pick (isSome (readSchedule (take n s))) (case-front.Points (settingsLength + n)) (case-front.Number 2)
 
 abbrev pub frontWith : List ℕ → Option Settings → code-front.Front
 frontWith s none = case-front.Number 1
@@ -68,7 +69,7 @@ frontWith s (some c) = scheduleTo s (scheduleEnd s)
 -- the number of settings or a schedule that can't be read, or where the points begin
 unfoldable pub frontOf : List ℕ → code-front.Front
 unfolding readSettings scheduleEnd readSchedule
-frontOf feed = frontWith (drop 47 feed) (readSettings (take 47 feed))
+frontOf feed = frontWith (drop settingsLength feed) (readSettings (take settingsLength feed))
 
 abbrev pub openedWith : code-front.Front → ℕ → code-front.Front
 openedWith (case-front.Number n) number = case-front.Number n
@@ -78,7 +79,7 @@ openedWith (case-front.Points n) (suc k) = case-front.Number (suc k)
 -- what a feed begins with, for a book of len bytes: 1, 2, and last the 5 of opening the book, or where the points begin
 unfoldable pub begin : ℕ → List ℕ → code-front.Front
 unfolding frontOf openNumber
-begin len feed = openedWith (frontOf feed) (openNumber (take 47 feed) len)
+begin len feed = openedWith (frontOf feed) (openNumber (take settingsLength feed) len)
 
 -- the book: "A number comes without a verdict, with all lent bytes unchanged"
 abbrev pub begunBook : List ℕ → List ℕ → code-front.Front → List ℕ
@@ -144,17 +145,21 @@ points schedule book peers place feed = pointsFrom (length feed) schedule book p
 -- "Unreadable settings or schedule give place and round 0 with number 1 or 2"; a place counts from 1
 abbrev pub tallyWith : List ℕ → List ℕ → List ℕ → code-front.Front → Tally
 tallyWith book peers feed (case-front.Number n) = record { lines = refusedLine 0 0 n ∷ []; book = book }
-tallyWith book peers feed (case-front.Points n) = points (drop 47 (take n feed)) book peers 1 (drop n feed)
+tallyWith book peers feed (case-front.Points n) = points (drop settingsLength (take n feed)) book peers 1 (drop n feed)
 
 abbrev pub tallyFrom : List ℕ → List ℕ → List ℕ → code-front.Front → Tally
-tallyFrom book peers feed front = tallyWith (begunBook (take 47 feed) book front) peers feed front
+tallyFrom book peers feed front = tallyWith (begunBook (take settingsLength feed) book front) peers feed front
+
+-- "into a book of 65,536 bytes"
+abbrev pub tallyRoom : ℕ
+tallyRoom = 65536
 
 -- what the program is to print of its standard input. Proved of the code are the parts: `begin`, `step` and `keptIn`; `printed-tally`
 -- says that these parts, one after the other, give it. The program's own order of calls is not proved beyond its `take_turn`, which says
 -- where the next turn stands.
 unfoldable pub tally : List ℕ → Tally
 unfolding begin points openBytes
-tally feed = tallyFrom (replicate 65536 0) (replicate 8160 0) feed (begin 65536 feed)
+tally feed = tallyFrom (replicate tallyRoom 0) (replicate peersRoom 0) feed (begin tallyRoom feed)
 
 -- "then `end` and the kept count"
 unfoldable pub keptIn : List ℕ → ℕ

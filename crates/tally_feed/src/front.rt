@@ -5,6 +5,7 @@ use schedule::ReadSettings;
 ghost use mathlib.Core.Path.{_≡_};
 ghost use Prim.Native.Nat.{_≤_};
 ghost use lib.ListN.{length, take};
+ghost use Rattle.parts.specs.Limits.{settingsLength};
 ghost use Rattle.record.specs.Code.{endOf};
 ghost use Rattle.tally_feed.specs.Tally.{lastKnownEnd, scheduleEnd, frontOf, begin, begunBook};
 ghost use Rattle.tally_feed.specs.Code.{Begins};
@@ -14,8 +15,6 @@ pub enum Front {
     Number(u8),
     Points(usize),
 }
-
-const SETTINGS: usize = 47;
 
 const SPAN: Row = Row {
     tag: 34,
@@ -61,13 +60,13 @@ fn front_of(feed: &[u8]) -> Front
     ensures { λ r. ⌜ r ≡ frontOf (now (feed .entry)) ⌝ }
     ensures { λ r. ⌜ Begins (now (feed .entry)) r ⌝ }
 {
-    if feed.len() < SETTINGS {
+    if feed.len() < parts::SETTINGS_LENGTH {
         return Front::Number(1);
     }
-    let ReadSettings::Settings(_) = schedule::read_settings(&feed[0..47]) else {
+    let ReadSettings::Settings(_) = schedule::read_settings(&feed[0..parts::SETTINGS_LENGTH]) else {
         return Front::Number(1);
     };
-    let after = &feed[47..];
+    let after = &feed[parts::SETTINGS_LENGTH..];
     let End::At(n) = schedule_end(after) else {
         return Front::Number(2);
     };
@@ -75,20 +74,20 @@ fn front_of(feed: &[u8]) -> Front
     if !read.readable {
         return Front::Number(2);
     }
-    Front::Points(47 + n)
+    Front::Points(parts::SETTINGS_LENGTH + n)
 }
 
 // Opens the book with the settings of a feed, and says where its points begin. A number leaves the book as it was.
 pub fn begin(book: &mut [u8], feed: &[u8]) -> Front
     ensures { λ r. ⌜ r ≡ begin (length (now (book .entry))) (now (feed .entry)) ⌝ }
-    ensures { λ r. ⌜ now (book .exit) ≡ begunBook (take 47 (now (feed .entry))) (now (book .entry)) r ⌝ }
+    ensures { λ r. ⌜ now (book .exit) ≡ begunBook (take settingsLength (now (feed .entry))) (now (book .entry)) r ⌝ }
     ensures { λ r. ⌜ Begins (now (feed .entry)) r ⌝ }
 {
     let front = front_of(feed);
     match front {
         Front::Number(n) => Front::Number(n),
         Front::Points(start) => {
-            let number = book::open(book, &feed[0..47]);
+            let number = book::open(book, &feed[0..parts::SETTINGS_LENGTH]);
             if number != 0 {
                 return Front::Number(number);
             }
