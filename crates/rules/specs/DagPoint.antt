@@ -72,15 +72,8 @@ linkIds g p = record { target = target g p; source = source g p }
 unfoldable pub pointView : PointInfo → PointView
 unfolding prevDigest linkIds
 pointView p =
-    record {
-      id = p .id;
-      role = p .role;
-      time = p .time;
-      anchorTime = p .anchorTime;
-      prevDigest = prevDigest p;
-      proof = linkIds Proof p;
-      trigger = linkIds Trigger p;
-    }
+    record { id = p .id; role = p .role; time = p .time; anchorTime = p .anchorTime; prevDigest = prevDigest p;
+             proof = linkIds Proof p; trigger = linkIds Trigger p }
 
 abbrev pub linksIn : AnchorStageRole → PointView → LinkIds
 linksIn Proof p = p .proof
@@ -99,14 +92,7 @@ pub record DepView : Type 0 where
 unfoldable pub depView : PointInfo → DepView
 unfolding top
 depView q =
-    record {
-      id = q .id;
-      role = q .role;
-      time = q .time;
-      anchorTime = q .anchorTime;
-      proofTop = top Proof q;
-      triggerTop = top Trigger q;
-    }
+    record { id = q .id; role = q .role; time = q .time; anchorTime = q .anchorTime; proofTop = top Proof q; triggerTop = top Trigger q }
 
 abbrev pub topIn : AnchorStageRole → DepView → PointId
 topIn Proof q = q .proofTop
