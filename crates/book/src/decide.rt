@@ -12,14 +12,12 @@ use schedule::Schedule;
 use schedule::Settings;
 ghost use mathlib.Core.Path.{_≡_};
 ghost use mathlib.Core.Bool.{_||_};
-ghost use mathlib.Core.Option.{some};
 ghost use Prim.Native.Nat.{_+_, _-_, _≤_};
 ghost use lib.ListN.{length};
 ghost use lib.Dec.{leb, ltb};
 ghost use Rattle.parts.specs.Limits.{tag33Length, mostKept};
 ghost use Rattle.point.specs.Point.{prevId};
-ghost use Rattle.point.specs.Code.{pointOf};
-ghost use Rattle.point.specs.Reading.{readPoint};
+ghost use Rattle.point.specs.Code.{pointOf, Reads};
 ghost use Rattle.schedule.specs.Code.{settingsOf};
 ghost use Rattle.rules.specs.Judge.{admitted, Number};
 ghost use Rattle.judge.specs.Code.{judgeAnswerOf};
@@ -83,7 +81,7 @@ fn mark_at(
     next: &[u16],
     heads: &[u16],
 ) -> usize
-    requires { ⌜ readPoint (now rec) ≡ some (pointOf (now rec) info) ⌝ }
+    requires { ⌜ Reads (now rec) info ⌝ }
     requires { ⌜ Index (now book) n (now at) (now next) (now heads) ⌝ }
     ensures { λ r. ⌜ MarkPlace (now (book .entry)) n (now (at .entry)) (prevId (pointOf (now (rec .entry)) info)) r ⌝ }
 {
@@ -121,6 +119,7 @@ fn judge_offer(
     next: &[u16],
     heads: &[u16],
 ) -> Decided
+    requires { ⌜ Reads (now rec) info ⌝ }
     requires { ⌜ Ready (now book) (offerOf (now schedule) leader (now rec) (now peers)) (settingsOf conf) n end (now at) (now next) (now heads)
         (inputOf conf (now schedule) spans (now rec) info) ⌝ }
     ensures { λ r. ⌜ Decides (now (book .entry)) (offerOf (now (schedule .entry)) leader (now (rec .entry)) (now (peers .entry))) r (now (peers .exit)) ⌝ }
@@ -159,6 +158,7 @@ fn decide_point(
     next: &[u16],
     heads: &[u16],
 ) -> Decided
+    requires { ⌜ Reads (now rec) info ⌝ }
     requires { ⌜ IsRead (now book) (settingsOf conf) n end (now at) (now next) (now heads) ⌝ }
     requires { ⌜ inputTested (settingsOf conf) (offerOf (now schedule) leader (now rec) (now peers)) ≡ admitted
         (inputOf conf (now schedule) spans (now rec) info) ⌝ }

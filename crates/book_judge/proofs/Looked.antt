@@ -11,8 +11,7 @@ use Rattle.judge_valid.specs.Code.{pointViewOf}
 use Rattle.point.specs.Point.{PointId, Through, AnchorLink, Indirect, PointInfo, prevId, anchorLink}
 use Rattle.point.specs.declared.data.AnchorStageRole.{AnchorStageRole}
 use Rattle.schedule.specs.Settings.{Settings}
-use Rattle.point.specs.Code.{pointIdOf, pointOf}
-use Rattle.point.specs.Reading.{readPoint}
+use Rattle.point.specs.Code.{pointIdOf, pointOf, Reads}
 use Rattle.point.specs.declared.info.PointId as code-id
 use Rattle.rules.specs.DagPoint.{NotFound, Entry, PointView, pointView}
 use Rattle.judge_step.specs.Code.{Judging, directStep, indirectStep, indirectFold}
@@ -61,7 +60,7 @@ module _ (s : List ℕ) (place : ℕ) (part : List ℕ) (e : part ≡ drop place
 
     pub looked-some : (state : code-point.DagPoint) (certified : Bool) →
         ((t : List ℕ) → dagPointOf t state ≡ dagPoint (pointOf t (k .info)) (statusOf (k .status))) →
-        ((t : List ℕ) → readPoint t ≡ some (pointOf t (k .info)) → ReadFrom t state) →
+        ((t : List ℕ) → Reads t (k .info) → ReadFrom t state) →
         certified ≡ (k .certified || covered) →
         LookedAt s place covered (record { state = state; certified = certified; place = place; end = place + k .len })
     looked-some state certified dag from c =
@@ -70,7 +69,7 @@ module _ (s : List ℕ) (place : ℕ) (part : List ℕ) (e : part ≡ drop place
           record {
             ordered = omega arith;
             inside = kept-end;
-            read = from t (subst (λ (z : List ℕ). readPoint z ≡ some (pointOf z (k .info))) h (placed-kept part r k g placed .read));
+            read = from t (subst (λ (z : List ℕ). Reads z (k .info)) h (placed-kept part r k g placed .read));
           },
           λ y f first.
               let w : keptOf (take (k .len) part) k ≡ y .kept = let q = ap (readKeptOf part) (sym g) ∙ (front ∙ (ap keptFront e ∙ f)) in cc in

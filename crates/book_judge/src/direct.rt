@@ -6,6 +6,7 @@ use judge_step::Judging;
 use judge_valid::PointView;
 use map::Found;
 use point::PointId;
+use point::PointInfo;
 use schedule::Settings;
 ghost use mathlib.Core.Path.{_≡_};
 ghost use mathlib.Core.Bool.{not, _&&_};
@@ -13,7 +14,7 @@ ghost use mathlib.Core.List.{List};
 ghost use Prim.Native.Nat.{ℕ, _+_, _≤_, _<_};
 ghost use lib.ListN.{length, getD};
 ghost use Rattle.judge_valid.specs.Code.{pointViewOf};
-ghost use Rattle.point.specs.Code.{pointIdOf};
+ghost use Rattle.point.specs.Code.{pointIdOf, Reads};
 ghost use Rattle.schedule.specs.Code.{settingsOf};
 ghost use Rattle.judge_entries.specs.Code.{dagPointOf, EntryPlaced};
 ghost use Rattle.judge_step.specs.Code.{directStep, judgingOf};
@@ -179,6 +180,7 @@ pub fn judge_direct_list(
     conf: Settings,
     required: bool,
     rec: &[u8],
+    info: PointInfo,
     p: PointView,
     book: &[u8],
     n: usize,
@@ -186,14 +188,15 @@ pub fn judge_direct_list(
     next: &[u16],
     heads: &[u16],
 ) -> Judging
+    requires { ⌜ Reads (now rec) info ⌝ }
     requires { ⌜ Index (now book) n (now at) (now next) (now heads) ⌝ }
     ensures { λ r. ⌜ DirectListJudged (settingsOf conf) required p (now (rec .entry)) (now (book .entry)) n (now (at .entry)) (judgingOf r) ⌝ }
 {
     let own = p.id;
     let two = parts::rounds_back(own.round, 2);
     let one = parts::rounds_back(own.round, 1);
-    let far = point::witness(rec);
-    let near = point::includes(rec);
+    let far = point::witness(rec, info);
+    let near = point::includes(rec, info);
     let start = judge_step::START;
     let done = judge_map(conf, required, p, two, far, book, n, at, next, heads, start);
     let both = judge_map(conf, required, p, one, near, book, n, at, next, heads, done);

@@ -11,9 +11,7 @@ use point::PointInfo;
 use reasons::Verdict;
 use schedule::Settings;
 ghost use mathlib.Core.Path.{_≡_};
-ghost use mathlib.Core.Option.{some};
-ghost use Rattle.point.specs.Code.{linkOf, pointOf};
-ghost use Rattle.point.specs.Reading.{readPoint};
+ghost use Rattle.point.specs.Code.{linkOf, pointOf, Reads};
 ghost use Rattle.schedule.specs.Code.{settingsOf};
 ghost use Rattle.reasons.specs.Code.{verdictOf};
 ghost use Rattle.judge_step.specs.Code.{judgingOf};
@@ -138,11 +136,11 @@ pub fn judge_book(
     next: &[u16],
     heads: &[u16],
 ) -> Verdict
-    requires { ⌜ readPoint (now rec) ≡ some (pointOf (now rec) info) ⌝ }
+    requires { ⌜ Reads (now rec) info ⌝ }
     requires { ⌜ Index (now book) n (now at) (now next) (now heads) ⌝ }
     ensures { λ r. ⌜ BookJudged (settingsOf conf) required (pointOf (now (rec .entry)) info) (now (book .entry)) n (now (at .entry)) (verdictOf r) ⌝ }
 {
     let p = judge_valid::point_view(rec, info);
-    let direct = direct::judge_direct_list(conf, required, rec, p, book, n, at, next, heads);
+    let direct = direct::judge_direct_list(conf, required, rec, info, p, book, n, at, next, heads);
     judge_list::verdict(judge_targets(conf, p, info, book, n, at, next, heads, direct))
 }

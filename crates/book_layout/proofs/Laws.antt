@@ -19,7 +19,7 @@ use Rattle.record.specs.Record.{fieldRow, fieldOk, recordEnd}
 use Rattle.record.proofs.Laws.{fitting, end-within}
 use Rattle.point.specs.Point.{PointId, Through, Includes, Witness, PointInfo}
 use Rattle.point.specs.Reading.{pointIdAt, readPoint}
-use Rattle.point.specs.Code.{pointOf}
+use Rattle.point.specs.Code.{pointOf, Reads}
 use Rattle.point.specs.declared.info.PointInfo as code-info
 use Rattle.reasons.specs.Invalid.{dagRound}
 use Rattle.books.specs.Kept.{Status, Valid, TransInvalid, Invalid, IllFormed, Kept}
@@ -262,7 +262,7 @@ module _ (s part : List ℕ) (n : ℕ) (e : recordEnd s ≡ some n) (p : part �
   part-length : length part ≡ n
   part-length = rw p (length-take-le n s (end-within s n e))
 
-  module _ (i : code-info.PointInfo) (h : readPoint part ≡ some (pointOf part i)) (f : fieldOk (fieldRow 33 105 105) s n ≡ true) where
+  module _ (i : code-info.PointInfo) (h : Reads part i) (f : fieldOk (fieldRow 33 105 105) s n ≡ true) where
     kept-sized : (r : code-read-kept.ReadKept) → EntryFrom part i r → readKeptOf s r ≡ sized (n + 108) (keptEntryOf part r)
     kept-sized (case-read-kept.Kept k) w = let l : k .len ≡ n = w .len ∙ part-length in rw (l, ← p)
     kept-sized case-read-kept.Unreadable w = refl
@@ -276,7 +276,7 @@ module _ (s part : List ℕ) (n : ℕ) (e : recordEnd s ≡ some n) (p : part �
     pub front-entry : (tag : List ℕ) (r : code-read-kept.ReadKept) → tag ≡ take 105 (drop (n + 3) s) →
         (keptEntryOf part r ≡ readKept part (pointOf part i) tag) × EntryFrom part i r → (readKeptOf s r ≡ keptFront s) × KeptPlaced s r
     front-entry tag r g w = (
-      kept-sized r (w .1) ∙ (ap (sized (n + 108)) (w .0 ∙ ap (readKept part (pointOf part i)) g) ∙ sym (front-tagged (pointOf part i) h f)),
+      kept-sized r (w .1) ∙ (ap (sized (n + 108)) (w .0 ∙ ap (readKept part (pointOf part i)) g) ∙ sym (front-tagged (pointOf part i) (h .read) f)),
       kept-placed r (w .1),
     )
 

@@ -9,7 +9,7 @@ use Rattle.record.specs.declared.End.{End}
 use Rattle.record.specs.declared.End.the-variants.{At, Unreadable}
 use Rattle.point.specs.Point.{PointInfo}
 use Rattle.point.specs.Reading.{readPoint}
-use Rattle.point.specs.Code.{pointOf}
+use Rattle.point.specs.Code.{pointOf, Reads}
 use Rattle.reasons.specs.Code.{dependencyOf}
 use Rattle.books.specs.Kept.{Status, Valid, TransInvalid, Invalid, IllFormed, Kept}
 use Rattle.books.specs.Offer.{keptAs}
@@ -67,7 +67,7 @@ readKeptOf s case-read-kept.Unreadable = none
 -- the record and tag 33 lie in the slice, and the point is what the record says
 pub record KeptAt (s : List ℕ) (k : code-kept.Kept) : Type 0 where
   pub inside : k .len + tag33Length ≤ length s
-  pub read : readPoint (take (k .len) s) ≡ some (pointOf (take (k .len) s) (k .info))
+  pub read : Reads (take (k .len) s) (k .info)
 
 abbrev pub KeptPlaced : List ℕ → code-read-kept.ReadKept → Type 0
 KeptPlaced s (case-read-kept.Kept k) = KeptAt s k

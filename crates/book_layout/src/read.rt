@@ -8,12 +8,10 @@ use reasons::InvalidDependency;
 use record::End;
 use record::Row;
 ghost use mathlib.Core.Path.{_≡_};
-ghost use mathlib.Core.Option.{some};
 ghost use Prim.Native.Nat.{_+_, _≤_};
 ghost use lib.ListN.{length, getD};
 ghost use Rattle.base.specs.Base.{isSome};
-ghost use Rattle.point.specs.Code.{throughOf, pointOf};
-ghost use Rattle.point.specs.Reading.{readPoint};
+ghost use Rattle.point.specs.Code.{throughOf, pointOf, Reads};
 ghost use Rattle.books.specs.Layout.{throughAt, isRootOk, readStatus, isKeepable, readKept, keptFront};
 ghost use Rattle.book_layout.specs.Code.{statusOf, readStatusOf, keptEntryOf, EntryFrom, readKeptOf, KeptPlaced, KeptEnd};
 
@@ -146,7 +144,7 @@ fn read_status(t: &[u8]) -> ReadStatus
 
 // Whether a point may be kept with a status.
 fn is_keepable(rec: &[u8], info: PointInfo, status: Status) -> bool
-    requires { ⌜ readPoint (now rec) ≡ some (pointOf (now rec) info) ⌝ }
+    requires { ⌜ Reads (now rec) info ⌝ }
     ensures { λ r. ⌜ r ≡ isKeepable (pointOf (now (rec .entry)) info) (statusOf status) ⌝ }
 {
     match status {
@@ -159,7 +157,7 @@ fn is_keepable(rec: &[u8], info: PointInfo, status: Status) -> bool
 
 // The entry of a record and the 105 bytes of tag 33.
 fn entry_of(rec: &[u8], info: PointInfo, t: &[u8]) -> ReadKept
-    requires { ⌜ readPoint (now rec) ≡ some (pointOf (now rec) info) ⌝ }
+    requires { ⌜ Reads (now rec) info ⌝ }
     requires { ⌜ 105 ≤ length (now t) ⌝ }
     ensures { λ r. ⌜ keptEntryOf (now (rec .entry)) r ≡ readKept (now (rec .entry)) (pointOf (now (rec .entry)) info) (now (t .entry)) ⌝ }
     ensures { λ r. ⌜ EntryFrom (now (rec .entry)) info r ⌝ }
@@ -184,7 +182,7 @@ fn entry_of(rec: &[u8], info: PointInfo, t: &[u8]) -> ReadKept
 
 // Whether a record and the 105 bytes of tag 33 are an entry.
 fn is_entry(rec: &[u8], info: PointInfo, t: &[u8]) -> bool
-    requires { ⌜ readPoint (now rec) ≡ some (pointOf (now rec) info) ⌝ }
+    requires { ⌜ Reads (now rec) info ⌝ }
     requires { ⌜ 105 ≤ length (now t) ⌝ }
     ensures { λ r. ⌜ r ≡ isSome (readKept (now (rec .entry)) (pointOf (now (rec .entry)) info) (now (t .entry))) ⌝ }
 {

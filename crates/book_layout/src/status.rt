@@ -5,11 +5,9 @@ use reasons::InvalidDependency;
 use reasons::Verdict;
 ghost use mathlib.Core.Path.{_≡_};
 ghost use mathlib.Core.List.{List};
-ghost use mathlib.Core.Option.{some};
 ghost use Prim.Native.Nat.{ℕ};
 ghost use Rattle.point.specs.Point as point;
-ghost use Rattle.point.specs.Code.{pointOf};
-ghost use Rattle.point.specs.Reading.{readPoint};
+ghost use Rattle.point.specs.Code.{pointOf, Reads};
 ghost use Rattle.reasons.specs.Code.{verdictOf};
 ghost use Rattle.judge_entries.specs.Code.{dagPointOf, ReadFrom};
 ghost use Rattle.books.specs.Lists.{dagPoint};
@@ -45,7 +43,7 @@ pub fn of_verdict(verdict: Verdict) -> Left
 // What the judge is told of a kept point.
 pub fn dag_point(info: PointInfo, status: Status) -> DagPoint
     ensures { λ r. ⌜ ((s : List ℕ) → dagPointOf s r ≡ dagPoint (pointOf s info) (statusOf status)) ⌝ }
-    ensures { λ r. ⌜ ((s : List ℕ) → readPoint s ≡ some (pointOf s info) → ReadFrom s r) ⌝ }
+    ensures { λ r. ⌜ ((s : List ℕ) → Reads s info → ReadFrom s r) ⌝ }
 {
     match status {
         Status::Valid => DagPoint::Valid(info),

@@ -13,8 +13,7 @@ ghost use Prim.Native.Nat.{ℕ, _≤_};
 ghost use lib.ListN.{length};
 ghost use lib.Dec.{eqb};
 ghost use Rattle.parts.specs.Limits.{peersRoom};
-ghost use Rattle.point.specs.Code.{pointOf};
-ghost use Rattle.point.specs.Reading.{readPoint};
+ghost use Rattle.point.specs.Code.{pointOf, Reads};
 ghost use Rattle.schedule.specs.Code.{settingsOf, scheduleOf};
 ghost use Rattle.schedule.specs.Schedule.{readSchedule};
 ghost use Rattle.reasons.specs.Code.{verdictOf, verifiedOf};
@@ -63,7 +62,7 @@ fn before_verified(
     info: PointInfo,
     is_leader: bool,
 ) -> Before
-    requires { ⌜ readPoint (now rec) ≡ some (pointOf (now rec) info) ⌝ }
+    requires { ⌜ Reads (now rec) info ⌝ }
     ensures { λ r. ⌜ ((s : List ℕ) →
         beforeOf r ≡ beforeWith none (eqb (info .id .round) (settingsOf conf .genesisRound))
         (waveChecked (scheduleOf s spans) «is_leader» (pointOf (now (rec .entry)) info))) ⌝ }
@@ -93,7 +92,7 @@ pub fn before_list(
     peers: &mut [u8],
 ) -> Before
     requires { ⌜ readSchedule (now schedule) ≡ some (scheduleOf (now schedule) spans) ⌝ }
-    requires { ⌜ readPoint (now rec) ≡ some (pointOf (now rec) info) ⌝ }
+    requires { ⌜ Reads (now rec) info ⌝ }
     requires { ⌜ peersRoom ≤ length (now peers) ⌝ }
     ensures { λ r. ⌜ beforeOf r ≡ before (settingsOf conf) (scheduleOf (now (schedule .entry)) spans) «is_leader» (pointOf (now (rec .entry)) info) ⌝ }
     ensures { λ r. ⌜ BufferAfter conf (now (schedule .entry)) spans (now (rec .entry)) info

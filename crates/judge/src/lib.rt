@@ -14,14 +14,11 @@ use schedule::ReadSettings;
 use schedule::Settings;
 ghost use mathlib.Core.Path.{_≡_};
 ghost use mathlib.Core.Bool.{not, _&&_};
-ghost use mathlib.Core.Option.{some};
 ghost use Prim.Native.Nat.{_≤_};
 ghost use lib.ListN.{length};
 ghost use lib.Dec.{eqb};
 ghost use Rattle.base.specs.Base.{isEmpty};
-ghost use Rattle.point.specs.Code.{pointOf};
-ghost use Rattle.point.specs.Reading.{readPoint};
-ghost use Rattle.point.specs.declared.info.PointInfo as code-info;
+ghost use Rattle.point.specs.Code.{pointOf, Reads};
 ghost use Rattle.point.specs.Point.{inDomain};
 ghost use Rattle.schedule.specs.Code.{settingsOf};
 ghost use Rattle.reasons.specs.Invalid.{NoRoundInDag};
@@ -37,13 +34,14 @@ fn no_round(map: PointMap) -> JudgeAnswer
 }
 
 // Whether the point has a witness whose round is not in the DAG.
-fn lacks_witness(presence: u8, rec: &[u8]) -> bool
-    ensures { λ r. ⌜ ((info : code-info.PointInfo) → r ≡ (eqb presence 2 && not (isEmpty (pointOf (now (rec .entry)) info .witness)))) ⌝ }
+fn lacks_witness(presence: u8, rec: &[u8], info: PointInfo) -> bool
+    requires { ⌜ Reads (now rec) info ⌝ }
+    ensures { λ r. ⌜ r ≡ (eqb presence 2 && not (isEmpty (pointOf (now (rec .entry)) info .witness))) ⌝ }
 {
     if presence != 2 {
         return false;
     }
-    0 < map::count(point::witness(rec), 64)
+    0 < map::count(point::witness(rec, info), 64)
 }
 
 // Numbers 7 to 9, and the verdict over the list.
@@ -55,7 +53,7 @@ fn judge_over_list(
     info: PointInfo,
     list: &[u8],
 ) -> JudgeAnswer
-    requires { ⌜ readPoint (now rec) ≡ some (pointOf (now rec) info) ⌝ }
+    requires { ⌜ Reads (now rec) info ⌝ }
     requires { ⌜ 2 ≤ presence ⌝ }
     ensures { λ r. ⌜ judgeAnswerOf r ≡ overList (settingsOf conf) required presence (pointOf (now (rec .entry)) info) (readList (now (list .entry))) ⌝ }
 {
@@ -74,7 +72,7 @@ fn judge_over_list(
     if uncovered {
         return JudgeAnswer::Number(9);
     }
-    if lacks_witness(presence, rec) {
+    if lacks_witness(presence, rec, info) {
         return no_round(PointMap::Witness);
     }
     JudgeAnswer::Verdict(verdict)
@@ -89,7 +87,7 @@ fn judge_needed(
     info: PointInfo,
     list: &[u8],
 ) -> JudgeAnswer
-    requires { ⌜ readPoint (now rec) ≡ some (pointOf (now rec) info) ⌝ }
+    requires { ⌜ Reads (now rec) info ⌝ }
     ensures { λ r. ⌜ judgeAnswerOf r ≡ judgeFrom (settingsOf conf) presence (pointOf (now (rec .entry)) info) (now (list .entry)) (needed required) ⌝ }
 {
     match presence {

@@ -19,7 +19,7 @@ use Rattle.record.specs.Record.{fieldRow, fieldOk, recordEnd}
 use Rattle.record.proofs.Laws.{fitting}
 use Rattle.point.specs.Point.{PointId, PointInfo, digestSafe, inDomain}
 use Rattle.point.specs.Reading.{pointIdAt, readPoint}
-use Rattle.point.specs.Code.{throughOf, linkOf, pointOf}
+use Rattle.point.specs.Code.{throughOf, linkOf, pointOf, Reads}
 use Rattle.point.specs.declared.data.AnchorStageRole.{AnchorStageRole}
 use Rattle.point.specs.declared.data.AnchorStageRole.the-variants.{Proof, Trigger}
 use Rattle.point.specs.declared.link.Through as code-through
@@ -81,17 +81,17 @@ module _ (s part : List ℕ) (n : ℕ) (e : recordEnd s ≡ some n) (p : part �
   unfolding recordFront
   front-unread h = rw (e, ← p, h)
 
-  module _ (i : code-info.PointInfo) (h : readPoint part ≡ some (pointOf part i)) where
+  module _ (i : code-info.PointInfo) (h : Reads part i) where
     pub front-unlisted : isListable (pointOf part i) ≡ false → recordFront s ≡ none
     unfolding recordFront
-    front-unlisted g = rw (e, ← p, h, g)
+    front-unlisted g = rw (e, ← p, h .read, g)
 
-    pub front-from : readPoint (take n s) ≡ some (pointOf (take n s) i)
+    pub front-from : Reads (take n s) i
     front-from = rw p at h
 
     pub front-listed : isListable (pointOf part i) ≡ true → recordFront s ≡ some (record { point = pointOf (take n s) i; size = n })
     unfolding recordFront
-    front-listed g = rw (e, ← p, h, g)
+    front-listed g = rw (e, ← p, h .read, g)
 
 -- the parts of a record that was read at the front of a slice
 pub record Fronted (s : List ℕ) (x : RecordFront) : Type 0 where
@@ -209,7 +209,7 @@ module _ (s : List ℕ) (state : PointId → DagPoint) where
 pub record Back (s : List ℕ) (front size : ℕ) (i : code-info.PointInfo) : Type 0 where
   pub ordered : front ≤ size
   pub inside : size ≤ length s
-  pub from : readPoint (partOf s front size) ≡ some (pointOf (partOf s front size) i)
+  pub from : Reads (partOf s front size) i
   pub states : (state : PointInfo → DagPoint) → recordAt state front s ≡ some (record { point = state (pointOf (partOf s front size) i); size = size })
 
 module _ (s part : List ℕ) (front : ℕ) (r : code-read-record.ReadRecord) (p : part ≡ drop front s) (h : readRecordOf part r ≡ recordFront part) where

@@ -6,8 +6,7 @@ use mathlib.Core.Option.{Option, none, some}
 use mathlib.Core.List.{List}
 use lib.ListN.{length, take}
 use Rattle.parts.specs.Bytes.{bytesAt}
-use Rattle.point.specs.Reading.{readPoint}
-use Rattle.point.specs.Code.{pointIdOf, pointOf}
+use Rattle.point.specs.Code.{pointIdOf, pointOf, Reads}
 use Rattle.point.specs.declared.data.AnchorStageRole.{AnchorStageRole}
 use Rattle.rules.specs.DagPoint.{DagPoint, Valid, TransInvalid, Invalid, IllFormed, NotFound, Dropped, Entry}
 use Rattle.rules.specs.List.{Stated, RecordFront, Listed}
@@ -38,9 +37,9 @@ entryOf s d certified firstValid = record { state = dagPointOf s d; certified = 
 
 -- a point, if the entry has one, was read from this record
 abbrev pub ReadFrom : List ℕ → code-point.DagPoint → Type 0
-ReadFrom s (case-point.Valid i) = readPoint s ≡ some (pointOf s i)
-ReadFrom s (case-point.TransInvalid i root n) = readPoint s ≡ some (pointOf s i)
-ReadFrom s (case-point.Invalid i n) = readPoint s ≡ some (pointOf s i)
+ReadFrom s (case-point.Valid i) = Reads s i
+ReadFrom s (case-point.TransInvalid i root n) = Reads s i
+ReadFrom s (case-point.Invalid i n) = Reads s i
 ReadFrom s (case-point.IllFormed i n) = Unit
 ReadFrom s (case-point.NotFound i) = Unit
 ReadFrom s case-point.Dropped = Unit
@@ -59,7 +58,7 @@ readRecordOf s case-read-record.Unreadable = none
 
 -- the record that was read, at the front of a slice
 abbrev pub RecordPlaced : List ℕ → code-read-record.ReadRecord → Type 0
-RecordPlaced s (case-read-record.Record i n) = (n ≤ length s) × (readPoint (take n s) ≡ some (pointOf (take n s) i))
+RecordPlaced s (case-read-record.Record i n) = (n ≤ length s) × Reads (take n s) i
 RecordPlaced s case-read-record.Unreadable = Unit
 
 abbrev pub statedOf : List ℕ → code-stated.Stated → Stated

@@ -10,13 +10,11 @@ use record::End;
 use record::Row;
 ghost use mathlib.Core.Path.{_≡_};
 ghost use mathlib.Core.List.{List};
-ghost use mathlib.Core.Option.{some};
 ghost use Prim.Native.Nat.{ℕ, _-_, _≤_};
 ghost use lib.ListN.{drop};
 ghost use Rattle.base.specs.Base.{isSome};
 ghost use Rattle.parts.specs.Code.{number};
-ghost use Rattle.point.specs.Code.{pointIdOf, linkOf, pointOf};
-ghost use Rattle.point.specs.Reading.{readPoint};
+ghost use Rattle.point.specs.Code.{pointIdOf, linkOf, pointOf, Reads};
 ghost use Rattle.reasons.specs.Invalid.{dagRound};
 ghost use Rattle.rules.specs.DagPoint.{entryId, isDropped, isBy};
 ghost use Rattle.rules.specs.List.{isNamed, isListable, recordFront, isRoot, readState, entryAt, readEntry};
@@ -136,7 +134,7 @@ pub fn is_own_before(own: PointId, id: PointId) -> bool
 
 // Whether a link, if it is direct, names a peer of its map.
 fn is_named(rec: &[u8], info: PointInfo, link: AnchorLink) -> bool
-    requires { ⌜ readPoint (now rec) ≡ some (pointOf (now rec) info) ⌝ }
+    requires { ⌜ Reads (now rec) info ⌝ }
     ensures { λ r. ⌜ r ≡ isNamed (pointOf (now (rec .entry)) info) (linkOf link) ⌝ }
 {
     match link {
@@ -153,7 +151,7 @@ fn is_named(rec: &[u8], info: PointInfo, link: AnchorLink) -> bool
 
 // Whether a record that was read may be listed: it lies in the domain, and its direct links name peers.
 pub fn is_listable(rec: &[u8], info: PointInfo) -> bool
-    requires { ⌜ readPoint (now rec) ≡ some (pointOf (now rec) info) ⌝ }
+    requires { ⌜ Reads (now rec) info ⌝ }
     ensures { λ r. ⌜ r ≡ isListable (pointOf (now (rec .entry)) info) ⌝ }
 {
     if !point::is_in_domain(rec, info) {

@@ -8,10 +8,8 @@ use schedule::RequireRegularPoints;
 use schedule::Schedule;
 ghost use mathlib.Core.Path.{_≡_};
 ghost use mathlib.Core.List.{List};
-ghost use mathlib.Core.Option.{some};
 ghost use Prim.Native.Nat.{ℕ};
-ghost use Rattle.point.specs.Code.{pointOf};
-ghost use Rattle.point.specs.Reading.{readPoint};
+ghost use Rattle.point.specs.Code.{pointOf, Reads};
 ghost use Rattle.schedule.specs.Code.{scheduleOf};
 ghost use Rattle.rules.specs.CheckIllFormed.{isRegular, waveChecked};
 
@@ -36,7 +34,7 @@ pub fn check_ill_formed(
     info: PointInfo,
     is_leader: bool,
 ) -> WaveChecked
-    requires { ⌜ readPoint (now rec) ≡ some (pointOf (now rec) info) ⌝ }
+    requires { ⌜ Reads (now rec) info ⌝ }
     ensures { λ r. ⌜ ((s : List ℕ) → r ≡ waveChecked (scheduleOf s spans) «is_leader» (pointOf (now (rec .entry)) info)) ⌝ }
 {
     let id = info.id;

@@ -14,12 +14,11 @@ use schedule::Settings;
 ghost use mathlib.Core.Path.{_≡_};
 ghost use mathlib.Core.Bool.{_||_};
 ghost use mathlib.Core.List.{List};
-ghost use mathlib.Core.Option.{none, some};
+ghost use mathlib.Core.Option.{none};
 ghost use Prim.Native.Nat.{ℕ};
 ghost use lib.ListN.{length};
 ghost use Rattle.base.specs.Base.{isSome};
-ghost use Rattle.point.specs.Code.{pointIdOf, pointOf};
-ghost use Rattle.point.specs.Reading.{readPoint};
+ghost use Rattle.point.specs.Code.{pointIdOf, pointOf, Reads};
 ghost use Rattle.schedule.specs.Code.{settingsOf};
 ghost use Rattle.reasons.specs.Code.{verdictOf};
 ghost use Rattle.rules.specs.Validate.{resultWith};
@@ -202,7 +201,7 @@ fn judge_next(
 
 // Reads and judges a list, entry by entry.
 fn walk_list(conf: Settings, required: bool, rec: &[u8], info: PointInfo, list: &[u8]) -> WalkedList
-    requires { ⌜ readPoint (now rec) ≡ some (pointOf (now rec) info) ⌝ }
+    requires { ⌜ Reads (now rec) info ⌝ }
     ensures { λ r. ⌜ walkedListOf r ≡ walkWith (settingsOf conf) required (viewed (pointOf (now (rec .entry)) info)) walkStart
         (readList (now (list .entry))) ⌝ }
 {
@@ -266,7 +265,7 @@ pub fn judge_list(
     info: PointInfo,
     list: &[u8],
 ) -> JudgedList
-    requires { ⌜ readPoint (now rec) ≡ some (pointOf (now rec) info) ⌝ }
+    requires { ⌜ Reads (now rec) info ⌝ }
     ensures { λ r. ⌜ judgedListOf r ≡ judgedWith (settingsOf conf) required (pointOf (now (rec .entry)) info) (readList (now (list .entry))) ⌝ }
 {
     let walked = walk_list(conf, required, rec, info, list);

@@ -5,12 +5,10 @@ use point::PointId;
 use point::PointInfo;
 ghost use mathlib.Core.Path.{_≡_};
 ghost use mathlib.Core.List.{List};
-ghost use mathlib.Core.Option.{some};
 ghost use Prim.Native.Nat.{ℕ, _+_, _≤_};
 ghost use lib.ListN.{length};
 ghost use Rattle.map.specs.Code.{positionOf};
-ghost use Rattle.point.specs.Code.{pointIdOf, pointOf};
-ghost use Rattle.point.specs.Reading.{readPoint};
+ghost use Rattle.point.specs.Code.{pointIdOf, pointOf, Reads};
 ghost use Rattle.rules.specs.Mismatch.{isVersion};
 ghost use Rattle.judge_mismatch.specs.Code.{roundIn, pairsIn, mapIn, mapsIn, IsRow, zerosIn, zeros};
 
@@ -35,24 +33,25 @@ fn round_of(info: PointInfo, m: usize) -> u32
 }
 
 // The includes, or the witness.
-fn map_of(rec: &[u8], m: usize) -> &[u8]
+fn map_of(rec: &[u8], info: PointInfo, m: usize) -> &[u8]
+    requires { ⌜ Reads (now rec) info ⌝ }
     ensures { λ r. ⌜ now r ≡ mapIn (now (rec .entry)) m ⌝ }
 {
     if m == 0 {
-        return point::includes(rec);
+        return point::includes(rec, info);
     }
-    point::witness(rec)
+    point::witness(rec, info)
 }
 
 // The row of a map that has this id.
 pub fn row_of(rec: &[u8], info: PointInfo, m: usize, id: PointId) -> Position
-    requires { ⌜ readPoint (now rec) ≡ some (pointOf (now rec) info) ⌝ }
+    requires { ⌜ Reads (now rec) info ⌝ }
     ensures { λ r. ⌜ IsRow (roundIn (pointOf (now (rec .entry)) info) m) (pairsIn (pointOf (now (rec .entry)) info) m) (pointIdOf id) (positionOf r) ⌝ }
 {
     if id.round != round_of(info, m) {
         return Position::Absent;
     }
-    let map = map_of(rec, m);
+    let map = map_of(rec, info, m);
     let Position::At(i) = map::search(map, 64, id.author) else {
         return Position::Absent;
     };
@@ -64,7 +63,7 @@ pub fn row_of(rec: &[u8], info: PointInfo, m: usize, id: PointId) -> Position
 
 // Whether an id is a version of the author's point at the round before, of which the point references none.
 pub fn is_version(rec: &[u8], info: PointInfo, id: PointId) -> bool
-    requires { ⌜ readPoint (now rec) ≡ some (pointOf (now rec) info) ⌝ }
+    requires { ⌜ Reads (now rec) info ⌝ }
     ensures { λ r. ⌜ r ≡ isVersion (pointOf (now (rec .entry)) info) (pointIdOf id) ⌝ }
 {
     let own = info.id;
@@ -98,13 +97,13 @@ fn count_lacking(seen: &[u8], from: usize, n: usize) -> usize
 
 // How many rows of the maps no entry stood for; with presence 2 only includes can lack.
 pub fn lacking(presence: u8, rec: &[u8], info: PointInfo, seen: &[u8]) -> usize
-    requires { ⌜ readPoint (now rec) ≡ some (pointOf (now rec) info) ⌝ }
+    requires { ⌜ Reads (now rec) info ⌝ }
     requires { ⌜ length (now seen) ≡ 510 ⌝ }
     ensures { λ r. ⌜ r ≡ zeros presence (pointOf (now (rec .entry)) info) (now (seen .entry)) ⌝ }
 {
-    let includes = count_lacking(seen, 0, map::count(point::includes(rec), 64));
+    let includes = count_lacking(seen, 0, map::count(point::includes(rec, info), 64));
     if presence == 3 {
-        return includes + count_lacking(seen, HALF, map::count(point::witness(rec), 64));
+        return includes + count_lacking(seen, HALF, map::count(point::witness(rec, info), 64));
     }
     includes
 }

@@ -14,8 +14,7 @@ ghost use mathlib.Core.Option.{some};
 ghost use lib.Dec.{ltb, eqb};
 ghost use lib.ListN.{length, replicate};
 ghost use Rattle.base.specs.Base.{isSome};
-ghost use Rattle.point.specs.Code.{pointIdOf, pointOf};
-ghost use Rattle.point.specs.Reading.{readPoint};
+ghost use Rattle.point.specs.Code.{pointIdOf, pointOf, Reads};
 ghost use Rattle.rules.specs.List.{Listed, readList, directs, indirects};
 ghost use Rattle.judge_mismatch.specs.Code.{codeHeadOf, listed, standsFor, isNewVersion, DirectsFound};
 ghost use Rattle.rules.specs.Mismatch.{hasId, idsOf, mismatch};
@@ -60,7 +59,7 @@ fn stands_in(list: &[u8], id: PointId) -> bool
 // Whether an id is a version of the author's that stands not again in the rest of the list. Versions have no row to
 // mark, so the rest is walked.
 fn is_new_version(rec: &[u8], info: PointInfo, rest: &[u8], id: PointId) -> bool
-    requires { ⌜ readPoint (now rec) ≡ some (pointOf (now rec) info) ⌝ }
+    requires { ⌜ Reads (now rec) info ⌝ }
     requires { ⌜ isSome (readList (now rest)) ≡ true ⌝ }
     ensures { λ r. ⌜ r ≡ isNewVersion (pointOf (now (rec .entry)) info) (directs (listed (now (rest .entry)))) (pointIdOf id) ⌝ }
 {
@@ -72,7 +71,7 @@ fn is_new_version(rec: &[u8], info: PointInfo, rest: &[u8], id: PointId) -> bool
 
 // Whether an id has its place: a row of a map, or as a version.
 fn has_place(found: bool, rec: &[u8], info: PointInfo, rest: &[u8], id: PointId) -> bool
-    requires { ⌜ readPoint (now rec) ≡ some (pointOf (now rec) info) ⌝ }
+    requires { ⌜ Reads (now rec) info ⌝ }
     requires { ⌜ isSome (readList (now rest)) ≡ true ⌝ }
     ensures { λ r. ⌜ r ≡ (found || isNewVersion (pointOf (now (rec .entry)) info) (directs (listed (now (rest .entry)))) (pointIdOf id)) ⌝ }
 {
@@ -85,7 +84,7 @@ fn has_place(found: bool, rec: &[u8], info: PointInfo, rest: &[u8], id: PointId)
 // Walks the direct entries, and for each the point's maps, up to the first mismatch. A row that an entry stands for is
 // marked, so that a second entry for it is seen.
 fn walk(presence: u8, rec: &[u8], info: PointInfo, list: &[u8], seen: &mut [u8]) -> Walked
-    requires { ⌜ readPoint (now rec) ≡ some (pointOf (now rec) info) ⌝ }
+    requires { ⌜ Reads (now rec) info ⌝ }
     requires { ⌜ isSome (readList (now list)) ≡ true ⌝ }
     requires { ⌜ now seen ≡ replicate 510 0 ⌝ }
     ensures { λ r. ⌜ DirectsFound presence (pointOf (now (rec .entry)) info) (now (list .entry)) (now (seen .exit)) (r .«is_mismatch») (r .dropped) (r .end) ⌝ }
@@ -144,7 +143,7 @@ fn has_absent_targets(presence: u8, list: &[u8], end: usize) -> bool
 
 // Number 8 of a list that reads.
 pub fn is_mismatch(presence: u8, rec: &[u8], info: PointInfo, list: &[u8]) -> bool
-    requires { ⌜ readPoint (now rec) ≡ some (pointOf (now rec) info) ⌝ }
+    requires { ⌜ Reads (now rec) info ⌝ }
     requires { ⌜ isSome (readList (now list)) ≡ true ⌝ }
     ensures { λ r. ⌜ ((l : List Listed) → readList (now (list .entry)) ≡ some l →
         r ≡ mismatch presence (pointOf (now (rec .entry)) info) (directs l) (indirects l)) ⌝ }

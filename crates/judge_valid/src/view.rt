@@ -5,10 +5,8 @@ use point::PointId;
 use point::PointInfo;
 use point::PointRole;
 ghost use mathlib.Core.Path.{_≡_};
-ghost use mathlib.Core.Option.{some};
 ghost use Rattle.point.specs.Point.{top};
-ghost use Rattle.point.specs.Code.{pointIdOf, pointOf};
-ghost use Rattle.point.specs.Reading.{readPoint};
+ghost use Rattle.point.specs.Code.{pointIdOf, pointOf, Reads};
 ghost use Rattle.rules.specs.DagPoint.{linkIds, pointView, depView, linksIn, topIn};
 ghost use Rattle.judge_valid.specs.Code.{linkIdsOf, pointViewOf, depViewOf};
 
@@ -62,7 +60,7 @@ impl DepView {
 }
 
 fn link_ids(rec: &[u8], info: PointInfo, role: AnchorStageRole) -> LinkIds
-    requires { ⌜ readPoint (now rec) ≡ some (pointOf (now rec) info) ⌝ }
+    requires { ⌜ Reads (now rec) info ⌝ }
     ensures { λ r. ⌜ linkIdsOf r ≡ linkIds role (pointOf (now (rec .entry)) info) ⌝ }
 {
     let view = point::anchor(rec, info, role);
@@ -73,7 +71,7 @@ fn link_ids(rec: &[u8], info: PointInfo, role: AnchorStageRole) -> LinkIds
 
 // What judging asks of the point that it judges.
 pub fn point_view(rec: &[u8], info: PointInfo) -> PointView
-    requires { ⌜ readPoint (now rec) ≡ some (pointOf (now rec) info) ⌝ }
+    requires { ⌜ Reads (now rec) info ⌝ }
     ensures { λ r. ⌜ pointViewOf r ≡ pointView (pointOf (now (rec .entry)) info) ⌝ }
 {
     let id = info.id;
@@ -91,7 +89,7 @@ pub fn point_view(rec: &[u8], info: PointInfo) -> PointView
 
 // The point itself where it has the role, else its link's target.
 fn top(rec: &[u8], info: PointInfo, role: AnchorStageRole) -> PointId
-    requires { ⌜ readPoint (now rec) ≡ some (pointOf (now rec) info) ⌝ }
+    requires { ⌜ Reads (now rec) info ⌝ }
     ensures { λ r. ⌜ pointIdOf r ≡ top role (pointOf (now (rec .entry)) info) ⌝ }
 {
     let view = point::anchor(rec, info, role);
@@ -100,7 +98,7 @@ fn top(rec: &[u8], info: PointInfo, role: AnchorStageRole) -> PointId
 
 // What judging asks of a dependency.
 pub fn dep_view(rec: &[u8], info: PointInfo) -> DepView
-    requires { ⌜ readPoint (now rec) ≡ some (pointOf (now rec) info) ⌝ }
+    requires { ⌜ Reads (now rec) info ⌝ }
     ensures { λ r. ⌜ depViewOf r ≡ depView (pointOf (now (rec .entry)) info) ⌝ }
 {
     let id = info.id;

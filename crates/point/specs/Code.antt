@@ -4,8 +4,9 @@ use mathlib.Core.Option.{Option, none, some}
 use mathlib.Core.List.{List}
 use Rattle.parts.specs.Code.{number}
 use Rattle.map.specs.Rows.{peersOf, pairsOf}
-use Rattle.record.specs.Record.{contentOf}
+use Rattle.record.specs.Record.{startOf, contentOf}
 use Rattle.point.specs.Point.{PointId, Through, Includes, Witness, AnchorLink, Direct, Indirect, PointInfo, Sticky, AnchorView}
+use Rattle.point.specs.Reading.{readPoint}
 use Rattle.point.specs.declared.data.PointRole.{PointRole}
 use Rattle.point.specs.declared.data.AnchorStageRole.{AnchorStageRole}
 use Rattle.point.specs.declared.data.AnchorStageRole.the-variants.{Proof, Trigger}
@@ -78,9 +79,16 @@ abbrev pub readRoleOf : code-read-role.ReadRole → Option PointRole
 readRoleOf (case-read-role.Role r) = some r
 readRoleOf case-read-role.Unreadable = none
 
-abbrev pub readPointOf : List ℕ → code-read-point.ReadPoint → Option PointInfo
-readPointOf s (case-read-point.Point i) = some (pointOf s i)
-readPointOf s case-read-point.Unreadable = none
+-- what the reader gave for a record: the point that it says, and where its maps end
+pub record Reads (s : List ℕ) (i : code-info.PointInfo) : Type 0 where
+  pub read : readPoint s ≡ some (pointOf s i)
+  pub includes : i .«includes_end» ≡ startOf s 3
+  pub witness : i .«witness_end» ≡ startOf s 4
+  pub evidence : i .«evidence_end» ≡ startOf s 5
+
+abbrev pub PointRead : List ℕ → code-read-point.ReadPoint → Type 0
+PointRead s (case-read-point.Point i) = Reads s i
+PointRead s case-read-point.Unreadable = readPoint s ≡ none
 
 abbrev pub throughIdOf : code-through-id.ThroughId → Option PointId
 throughIdOf (case-through-id.Id i) = some (pointIdOf i)

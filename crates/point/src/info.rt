@@ -6,13 +6,12 @@ use crate::link::Through;
 use map::Found;
 use parts::Id;
 ghost use mathlib.Core.Path.{_≡_};
-ghost use mathlib.Core.Option.{some, Option·getD};
+ghost use mathlib.Core.Option.{Option·getD};
 ghost use Rattle.map.specs.Code.{foundOf};
 ghost use Rattle.record.specs.Record.{contentOf};
 ghost use Rattle.parts.specs.Code.{number};
 ghost use Rattle.point.specs.Point.{sameId, inDomain, isWaveLinkOk, digestSafe, throughId, prevDigest, stickyAnchors, source, targetOf, anchor};
-ghost use Rattle.point.specs.Code.{pointIdOf, throughOf, linkOf, linkIn, pointOf, viewOf, throughIdOf, stickyOf};
-ghost use Rattle.point.specs.Reading.{readPoint};
+ghost use Rattle.point.specs.Code.{pointIdOf, throughOf, linkOf, linkIn, pointOf, viewOf, throughIdOf, stickyOf, Reads};
 
 pub struct PointId {
     pub round: u32,
@@ -20,6 +19,7 @@ pub struct PointId {
     pub author: Id,
 }
 
+// What a record says, and where the fields of its maps end in it: they start one after the other.
 pub struct PointInfo {
     pub id: PointId,
     pub payload_len: u32,
@@ -29,6 +29,9 @@ pub struct PointInfo {
     pub role: PointRole,
     pub time: u64,
     pub anchor_time: u64,
+    pub includes_end: u16,
+    pub witness_end: u16,
+    pub evidence_end: u16,
 }
 
 pub enum StickyAnchors {
@@ -85,23 +88,39 @@ pub fn is_in_domain(rec: &[u8], info: PointInfo) -> bool
     info.anchor_time <= 9223372036854775807
 }
 
+// Where the field of the includes starts: the two fields before it have one length.
+const INCLUDES: usize = 82;
+
 // The includes, the witness and the evidence of a record, as parts of it.
-pub fn includes(rec: &[u8]) -> &[u8]
+pub fn includes(rec: &[u8], info: PointInfo) -> &[u8]
+    requires { ⌜ Reads (now rec) info ⌝ }
     ensures { λ r. ⌜ now r ≡ contentOf (now (rec .entry)) 2 ⌝ }
 {
-    record::content(rec, 2)
+    record::content_from(rec, INCLUDES, info.includes_end as usize, 2)
 }
 
-pub fn witness(rec: &[u8]) -> &[u8]
+pub fn witness(rec: &[u8], info: PointInfo) -> &[u8]
+    requires { ⌜ Reads (now rec) info ⌝ }
     ensures { λ r. ⌜ now r ≡ contentOf (now (rec .entry)) 3 ⌝ }
 {
-    record::content(rec, 3)
+    record::content_from(
+        rec,
+        info.includes_end as usize,
+        info.witness_end as usize,
+        3,
+    )
 }
 
-pub fn evidence(rec: &[u8]) -> &[u8]
+pub fn evidence(rec: &[u8], info: PointInfo) -> &[u8]
+    requires { ⌜ Reads (now rec) info ⌝ }
     ensures { λ r. ⌜ now r ≡ contentOf (now (rec .entry)) 4 ⌝ }
 {
-    record::content(rec, 4)
+    record::content_from(
+        rec,
+        info.witness_end as usize,
+        info.evidence_end as usize,
+        4,
+    )
 }
 
 impl PointInfo {
@@ -147,27 +166,27 @@ impl PointInfo {
 
 // The digest of the author's previous point, of a record and what was read of it.
 pub fn prev_digest(rec: &[u8], info: PointInfo) -> Found
-    requires { ⌜ readPoint (now rec) ≡ some (pointOf (now rec) info) ⌝ }
+    requires { ⌜ Reads (now rec) info ⌝ }
     ensures { λ r. ⌜ foundOf r ≡ prevDigest (pointOf (now (rec .entry)) info) ⌝ }
 {
     let id = info.id;
-    map::get(includes(rec), id.author)
+    map::get(includes(rec, info), id.author)
 }
 
 // The digest beside the peer that a link goes through.
 pub fn digest_safe(rec: &[u8], info: PointInfo, through: Through) -> Found
-    requires { ⌜ readPoint (now rec) ≡ some (pointOf (now rec) info) ⌝ }
+    requires { ⌜ Reads (now rec) info ⌝ }
     ensures { λ r. ⌜ foundOf r ≡ digestSafe (pointOf (now (rec .entry)) info) (throughOf through) ⌝ }
 {
     match through {
-        Through::Includes(peer) => map::get(includes(rec), peer),
-        Through::Witness(peer) => map::get(witness(rec), peer),
+        Through::Includes(peer) => map::get(includes(rec, info), peer),
+        Through::Witness(peer) => map::get(witness(rec, info), peer),
     }
 }
 
 // The point that a link goes through.
 pub fn through_id(rec: &[u8], info: PointInfo, through: Through) -> ThroughId
-    requires { ⌜ readPoint (now rec) ≡ some (pointOf (now rec) info) ⌝ }
+    requires { ⌜ Reads (now rec) info ⌝ }
     ensures { λ r. ⌜ throughIdOf r ≡ throughId (pointOf (now (rec .entry)) info) (throughOf through) ⌝ }
 {
     let id = info.id;
@@ -194,7 +213,7 @@ fn digest_or_zero(found: Found) -> Id
 
 // The source of a link.
 fn source(rec: &[u8], info: PointInfo, role: AnchorStageRole) -> PointId
-    requires { ⌜ readPoint (now rec) ≡ some (pointOf (now rec) info) ⌝ }
+    requires { ⌜ Reads (now rec) info ⌝ }
     ensures { λ r. ⌜ pointIdOf r ≡ source role (pointOf (now (rec .entry)) info) ⌝ }
 {
     let id = info.id;
@@ -218,7 +237,7 @@ fn target(source: PointId, link: AnchorLink) -> PointId
 
 // The view of an anchor link: where it goes through, where it leads, and the point itself where it has the role.
 pub fn anchor(rec: &[u8], info: PointInfo, role: AnchorStageRole) -> AnchorView
-    requires { ⌜ readPoint (now rec) ≡ some (pointOf (now rec) info) ⌝ }
+    requires { ⌜ Reads (now rec) info ⌝ }
     ensures { λ r. ⌜ viewOf r ≡ anchor role (pointOf (now (rec .entry)) info) ⌝ }
 {
     let source = source(rec, info, role);

@@ -11,8 +11,8 @@ ghost use mathlib.Core.Bool.{true};
 ghost use Prim.Native.Nat.{_+_, _≤_};
 ghost use lib.ListN.{length};
 ghost use Rattle.record.specs.Record.{startOf, wellShaped};
-ghost use Rattle.point.specs.Reading.{pointIdAt, readThrough, readLink, readRole, mapsOk, readPoint};
-ghost use Rattle.point.specs.Code.{pointIdOf, readThroughOf, readLinkOf, readRoleOf, readPointOf};
+ghost use Rattle.point.specs.Reading.{pointIdAt, readThrough, readLink, readRole, mapsOk};
+ghost use Rattle.point.specs.Code.{pointIdOf, readThroughOf, readLinkOf, readRoleOf, PointRead};
 
 pub enum ReadThrough {
     Through(Through),
@@ -131,7 +131,7 @@ fn are_maps_ok(rec: &[u8], at: Places) -> bool
 // What a record of the right shape says.
 pub fn read_shaped(rec: &[u8]) -> ReadPoint
     requires { ⌜ wellShaped (now rec) ≡ true ⌝ }
-    ensures { λ r. ⌜ readPointOf (now (rec .entry)) r ≡ readPoint (now (rec .entry)) ⌝ }
+    ensures { λ r. ⌜ PointRead (now (rec .entry)) r ⌝ }
 {
     let at = record::find_places(rec);
     if !are_maps_ok(rec, at) {
@@ -151,6 +151,9 @@ pub fn read_shaped(rec: &[u8]) -> ReadPoint
     let id = point_id_at(record::content_from(rec, 0, at.payload, 0), 0);
     let payload = record::content_from(rec, at.payload, at.includes, 1);
     let times = record::content_from(rec, at.times, rec.len(), 8);
+    let includes_end = at.witness as u16;
+    let witness_end = at.evidence as u16;
+    let evidence_end = at.anchor_proof as u16;
     ReadPoint::Point(PointInfo {
         id,
         payload_len: parts::u32_at(payload, 0),
@@ -160,12 +163,15 @@ pub fn read_shaped(rec: &[u8]) -> ReadPoint
         role,
         time: parts::u64_at(times, 0),
         anchor_time: parts::u64_at(times, 8),
+        includes_end,
+        witness_end,
+        evidence_end,
     })
 }
 
 // What a slice that holds one point record says.
 pub fn read_point(rec: &[u8]) -> ReadPoint
-    ensures { λ r. ⌜ readPointOf (now (rec .entry)) r ≡ readPoint (now (rec .entry)) ⌝ }
+    ensures { λ r. ⌜ PointRead (now (rec .entry)) r ⌝ }
 {
     if !record::is_well_shaped(rec) {
         return ReadPoint::Unreadable;

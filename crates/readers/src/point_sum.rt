@@ -15,9 +15,7 @@ use point::StickyAnchors;
 use point::Through;
 use point::ThroughId;
 ghost use mathlib.Core.Path.{_≡_};
-ghost use mathlib.Core.Option.{some};
-ghost use Rattle.point.specs.Code.{pointOf};
-ghost use Rattle.point.specs.Reading.{readPoint};
+ghost use Rattle.point.specs.Code.{Reads};
 
 fn mix_through(sum: u64, through: Through) -> u64 {
     match through {
@@ -84,16 +82,18 @@ fn is_found(found: Found) -> bool {
     }
 }
 
-fn mix_fields(rec: &[u8], p: PointInfo) -> u64 {
+fn mix_fields(rec: &[u8], p: PointInfo) -> u64
+    requires { ⌜ Reads (now rec) p ⌝ }
+{
     let id = p.id;
     let proof = p.anchor_proof;
     let trigger = p.anchor_trigger;
     let role = p.role;
     let length = mix(mix_point_id(0, id), p.payload_len as u64);
     let bytes = mix(length, p.payload_bytes as u64);
-    let includes = mix(bytes, sum_of_map(point::includes(rec)));
-    let witness = mix(includes, sum_of_map(point::witness(rec)));
-    let evidence = mix(witness, sum_of_set(point::evidence(rec)));
+    let includes = mix(bytes, sum_of_map(point::includes(rec, p)));
+    let witness = mix(includes, sum_of_map(point::witness(rec, p)));
+    let evidence = mix(witness, sum_of_set(point::evidence(rec, p)));
     let links = mix_link(mix_link(evidence, proof), trigger);
     mix(mix(mix_role(links, role), p.time), p.anchor_time)
 }
@@ -114,7 +114,7 @@ fn mix_previous(sum: u64, p: PointInfo, previous: Found) -> u64 {
 }
 
 fn mix_links(sum: u64, rec: &[u8], p: PointInfo) -> u64
-    requires { ⌜ readPoint (now rec) ≡ some (pointOf (now rec) p) ⌝ }
+    requires { ⌜ Reads (now rec) p ⌝ }
 {
     let proof = p.anchor_proof;
     let trigger = p.anchor_trigger;
@@ -125,7 +125,7 @@ fn mix_links(sum: u64, rec: &[u8], p: PointInfo) -> u64
 }
 
 pub fn sum_of_point(rec: &[u8], p: PointInfo) -> u64
-    requires { ⌜ readPoint (now rec) ≡ some (pointOf (now rec) p) ⌝ }
+    requires { ⌜ Reads (now rec) p ⌝ }
 {
     let role = p.role;
     let answers = mix_role_answers(mix_fields(rec, p), role);

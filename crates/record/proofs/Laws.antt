@@ -82,7 +82,6 @@ room n l at h = elim (decLt l (at + n)) [
 
 -- ---- a row of fields
 
--- where the second choice is nothing and something was chosen, the test holds
 -- the fields of some rows end after where they start
 pub end-after : (rs : List Row) (s : List ℕ) (at n : ℕ) → endFrom rs s at ≡ some n → at ≤ n
 unfolding endFrom
@@ -90,6 +89,19 @@ end-after [] s at n h = let e : at ≡ n = cc in omega arith
 end-after (r ∷ rs) s at n h =
     let p = picked (fieldOk r s at) (endFrom rs s (nextAt s at)) n h in
     omega (arith, fitting r s at (p .0) .next, end-after rs s (nextAt s at) n (p .1))
+
+-- the most bytes that fields of some rows take
+abbrev pub most : List Row → ℕ
+most [] = 0
+most (r ∷ rs) = 3 + r .greatest + most rs
+
+pub end-most : (rs : List Row) (s : List ℕ) (at n : ℕ) → endFrom rs s at ≡ some n → n ≤ at + most rs
+unfolding endFrom
+end-most [] s at n h = let e : at ≡ n = cc in omega arith
+end-most (r ∷ rs) s at n h =
+    let p = picked (fieldOk r s at) (endFrom rs s (nextAt s at)) n h in
+    let f = fitting r s at (p .0) in
+    omega (arith, f .next, f .greatest, end-most rs s (nextAt s at) n (p .1))
 
 pub start-within : (s : List ℕ) (k : ℕ) → startOf s k ≤ length s
 unfolding startOf
@@ -102,6 +114,10 @@ start-within s (suc k) = next-within s (startOf s k)
 pub end-start : (s : List ℕ) → recordEnd s ≡ endFrom (drop 0 rows) s 0
 unfolding recordEnd
 end-start s = refl
+
+pub record-most : (s : List ℕ) (n : ℕ) → recordEnd s ≡ some n → n ≤ 41126
+unfolding recordEnd rows
+record-most s n h = end-most rows s 0 n h
 
 nine : (k : ℕ) → k < 9 → k < length rows
 unfolding rows
@@ -167,6 +183,18 @@ module _ (s : List ℕ) (w : wellShaped s ≡ true) (k : ℕ) (h : k < 9) where
   pub content-greatest : length (contentOf s k) ≤ rowOf k .greatest
   unfolding contentOf
   content-greatest = omega (arith, field .greatest, field .content)
+
+module _ (s : List ℕ) (w : wellShaped s ≡ true) where
+  -- the first two fields of a record have one length
+  pub third-start : startOf s 2 ≡ 82
+  unfolding startOf rowOf rows
+  third-start =
+      let a = field s w 0 (omega arith) in
+      let b = field s w 1 (omega arith) in
+      omega (arith, a .next, a .least, a .greatest, b .next, b .least, b .greatest)
+
+  pub start-most : (k : ℕ) → startOf s k ≤ 41126
+  start-most k = omega (arith, start-within s k, record-most s (length s) (shaped-end s w))
 
 -- ---- what stands in the first e elements depends on those alone
 

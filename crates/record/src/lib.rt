@@ -167,27 +167,7 @@ pub fn is_well_shaped(rec: &[u8]) -> bool
     }
 }
 
-// Where field k starts.
-fn start(rec: &[u8], k: usize) -> usize
-    ensures { λ r. ⌜ r ≡ startOf (now (rec .entry)) k ⌝ }
-{
-    let mut i = 0;
-    let mut at = 0;
-    while i < k {
-        at = next(rec, at);
-        i += 1;
-    }
-    at
-}
-
-// The content of field k, counted from 0, as a part of the record.
-pub fn content(rec: &[u8], k: usize) -> &[u8]
-    ensures { λ r. ⌜ now r ≡ contentOf (now (rec .entry)) k ⌝ }
-{
-    content_at(rec, start(rec, k))
-}
-
-// The same, of a field of a whole record whose start and end are known.
+// The content of field k of a whole record, counted from 0, whose start and end are known, as a part of the record.
 pub fn content_from(rec: &[u8], at: usize, end: usize, k: usize) -> &[u8]
     requires { ⌜ (wellShaped (now rec) ≡ true) × (k < 9) ⌝ }
     requires { ⌜ (at ≡ startOf (now rec) k) × (end ≡ startOf (now rec) (k + 1)) ⌝ }

@@ -11,7 +11,7 @@ use lib.ListN.{length, take, drop, length-drop}
 use lib.Seq.{take-all, take-length, take-nil, drop-nil, take-take, length-take-le}
 use Rattle.base.proofs.Option.{picked}
 use Rattle.record.specs.Record.{lengthAt, nextAt, fieldOk, endFrom, recordEnd, wellShaped}
-use Rattle.record.proofs.Laws.{fitting, end-after, shaped-end, Agree, front-agrees, field-same, next-same, ends-same, end-same, end-within}
+use Rattle.record.proofs.Laws.{fitting, end-after, shaped-end, Agree, front-agrees, field-same, next-same, ends-same, end-same, end-within, record-most}
 use Rattle.point.specs.Point.{PointInfo}
 use Rattle.point.specs.Reading.{readPoint}
 use Rattle.schedule.specs.Settings.{Settings, readSettings}
@@ -22,7 +22,7 @@ use Rattle.books.specs.Layout.{readBook}
 use Rattle.books.specs.Calls.{openNumber, inBytes, offerTo, offerBytes}
 use Rattle.tally_feed.specs.declared.front.Front as code-front
 use Rattle.tally_feed.specs.Tally.{lastKnownEnd, scheduleEndFrom, scheduleEnd, scheduleTo, frontWith, frontOf, openedWith, begin, recordSize, offeredAs, offered, step, Tally, stepThen, pointsFrom, points}
-use Rattle.tally_feed.proofs.Laws.{span, lastKnown, by-test, schedule-after, schedule-most, schedule-inside, record-most, size-of}
+use Rattle.tally_feed.proofs.Laws.{span, lastKnown, by-test, schedule-after, schedule-most, schedule-inside, size-of}
 
 -- ---- an end that lies in a part of a list is the whole list's
 

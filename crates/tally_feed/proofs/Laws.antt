@@ -12,8 +12,8 @@ use borrow.Author.Tests.{ne-eqb}
 use Rattle.base.specs.Base.{pick}
 use Rattle.base.proofs.Option.{picked}
 use Rattle.record.specs.declared.Row.{Row}
-use Rattle.record.specs.Record.{nextAt, fieldRow, fieldOk, endFrom, rows, recordEnd}
-use Rattle.record.proofs.Laws.{next-within, fitting, end-after, end-within}
+use Rattle.record.specs.Record.{nextAt, fieldRow, fieldOk, endFrom, recordEnd}
+use Rattle.record.proofs.Laws.{next-within, fitting, end-after, end-most, end-within}
 use Rattle.point.specs.Point.{PointInfo}
 use Rattle.schedule.specs.Settings.{Settings, readSettings}
 use Rattle.schedule.specs.Schedule.{Schedule, readSchedule}
@@ -35,29 +35,12 @@ span = fieldRow 34 4 8164
 abbrev pub lastKnown : Row
 lastKnown = fieldRow 35 4 4
 
--- the most bytes that fields of some rows take
-abbrev most : List Row → ℕ
-most [] = 0
-most (r ∷ rs) = 3 + r .greatest + most rs
-
-end-most : (rs : List Row) (s : List ℕ) (at n : ℕ) → endFrom rs s at ≡ some n → n ≤ at + most rs
-unfolding endFrom
-end-most [] s at n h = let e : at ≡ n = cc in omega arith
-end-most (r ∷ rs) s at n h =
-    let p = picked (fieldOk r s at) (endFrom rs s (nextAt s at)) n h in
-    let f = fitting r s at (p .0) in
-    omega (arith, f .next, f .greatest, end-most rs s (nextAt s at) n (p .1))
-
 end-inside : (rs : List Row) (s : List ℕ) (at n : ℕ) → at ≤ length s → endFrom rs s at ≡ some n → n ≤ length s
 unfolding endFrom
 end-inside [] s at n b h = let e : at ≡ n = cc in omega arith
 end-inside (r ∷ rs) s at n b h =
     let p = picked (fieldOk r s at) (endFrom rs s (nextAt s at)) n h in
     end-inside rs s (nextAt s at) n (next-within s at) (p .1)
-
-pub record-most : (s : List ℕ) (n : ℕ) → recordEnd s ≡ some n → n ≤ 41126
-unfolding recordEnd rows
-record-most s n h = end-most rows s 0 n h
 
 -- ---- where a schedule ends
 

@@ -12,8 +12,7 @@ ghost use mathlib.Core.Option.{some};
 ghost use Prim.Native.Nat.{_≤_};
 ghost use lib.ListN.{length};
 ghost use Rattle.parts.specs.Limits.{peersRoom};
-ghost use Rattle.point.specs.Code.{pointOf};
-ghost use Rattle.point.specs.Reading.{readPoint};
+ghost use Rattle.point.specs.Code.{pointOf, Reads};
 ghost use Rattle.schedule.specs.Code.{settingsOf, scheduleOf};
 ghost use Rattle.schedule.specs.Schedule.{readSchedule};
 ghost use Rattle.rules.specs.Verify.{verify};
@@ -31,7 +30,7 @@ pub fn verify_point(
     peers: &mut [u8],
 ) -> Verified
     requires { ⌜ readSchedule (now schedule) ≡ some (scheduleOf (now schedule) spans) ⌝ }
-    requires { ⌜ readPoint (now rec) ≡ some (pointOf (now rec) info) ⌝ }
+    requires { ⌜ Reads (now rec) info ⌝ }
     requires { ⌜ peersRoom ≤ length (now peers) ⌝ }
     ensures { λ r. ⌜ verifiedOf r ≡ verify (settingsOf conf) (scheduleOf (now (schedule .entry)) spans) (pointOf (now (rec .entry)) info) ⌝ }
     ensures { λ r. ⌜ BufferAfter conf (now (schedule .entry)) spans (now (rec .entry)) info (verifiedOf r) (now (peers .entry)) (now (peers .exit)) ⌝ }
@@ -40,10 +39,9 @@ pub fn verify_point(
     let Verified::Passed = new else {
         return new;
     };
-    let at = record::find_places(rec);
-    let includes = record::content_from(rec, at.includes, at.witness, 2);
-    let witness = record::content_from(rec, at.witness, at.evidence, 3);
-    let evidence = record::content_from(rec, at.evidence, at.anchor_proof, 4);
+    let includes = point::includes(rec, info);
+    let witness = point::witness(rec, info);
+    let evidence = point::evidence(rec, info);
     let well_formed = verify_well_formed::check_well_formed(
         conf,
         includes,

@@ -16,8 +16,7 @@ ghost use Rattle.base.specs.Base.{concat, firstOf};
 ghost use Rattle.parts.specs.Parts.{oneF};
 ghost use Rattle.parts.specs.Limits.{peersRoom};
 ghost use Rattle.map.specs.Rows.{peersOf, pairsOf, rising};
-ghost use Rattle.point.specs.Code.{pointOf, MapsOf};
-ghost use Rattle.point.specs.Reading.{readPoint};
+ghost use Rattle.point.specs.Code.{pointOf, MapsOf, Reads};
 ghost use Rattle.schedule.specs.Code.{settingsOf, scheduleOf};
 ghost use Rattle.schedule.specs.Schedule.{readSchedule};
 ghost use Rattle.rules.specs.Verify.{Scheduled, includesRound, evidenceRows, includesRows, witnessRows, bufferWith};
@@ -41,7 +40,7 @@ fn check_evidence_peers(
     known: &[u8],
     peers: &mut [u8],
 ) -> Verified
-    requires { ⌜ readPoint (now rec) ≡ some (pointOf (now rec) info) ⌝ }
+    requires { ⌜ Reads (now rec) info ⌝ }
     requires { ⌜ peersOf 32 (now evidence) ≡ pointOf (now rec) info .evidence ⌝ }
     requires { ⌜ rising (peersOf 32 (now known)) ≡ true ⌝ }
     requires { ⌜ length (peersOf 32 (now known)) ≤ 255 ⌝ }
@@ -80,7 +79,7 @@ fn check_includes_peers(
     known: &[u8],
     peers: &mut [u8],
 ) -> Verified
-    requires { ⌜ readPoint (now rec) ≡ some (pointOf (now rec) info) ⌝ }
+    requires { ⌜ Reads (now rec) info ⌝ }
     requires { ⌜ pairsOf (now includes) ≡ pointOf (now rec) info .includes ⌝ }
     requires { ⌜ rising (peersOf 32 (now known)) ≡ true ⌝ }
     requires { ⌜ length (peersOf 32 (now known)) ≤ 255 ⌝ }
@@ -112,7 +111,7 @@ fn check_witness_peers(
     known: &[u8],
     peers: &mut [u8],
 ) -> Verified
-    requires { ⌜ readPoint (now rec) ≡ some (pointOf (now rec) info) ⌝ }
+    requires { ⌜ Reads (now rec) info ⌝ }
     requires { ⌜ pairsOf (now witness) ≡ pointOf (now rec) info .witness ⌝ }
     requires { ⌜ rising (peersOf 32 (now known)) ≡ true ⌝ }
     requires { ⌜ peersRoom ≤ length (now peers) ⌝ }
@@ -159,7 +158,7 @@ pub fn check_peers(
     peers: &mut [u8],
 ) -> Verified
     requires { ⌜ readSchedule (now schedule) ≡ some (scheduleOf (now schedule) spans) ⌝ }
-    requires { ⌜ readPoint (now rec) ≡ some (pointOf (now rec) info) ⌝ }
+    requires { ⌜ Reads (now rec) info ⌝ }
     requires { ⌜ MapsOf (pointOf (now rec) info) (now includes) (now witness) (now evidence) ⌝ }
     requires { ⌜ peersRoom ≤ length (now peers) ⌝ }
     ensures { λ r. ⌜ PeersChecked conf (now (schedule .entry)) spans (now (rec .entry)) info (verifiedOf r) ⌝ }

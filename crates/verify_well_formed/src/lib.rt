@@ -15,14 +15,12 @@ use reasons::VerifyError;
 use schedule::Settings;
 ghost use mathlib.Core.Path.{_≡_};
 ghost use mathlib.Core.Bool.{not, _&&_};
-ghost use mathlib.Core.Option.{some};
 ghost use Rattle.parts.specs.Code.{number};
 ghost use Rattle.base.specs.Base.{concat, firstOf, isSome};
 ghost use Rattle.map.specs.Rows.{pairsOf};
 ghost use Rattle.map.specs.Code.{foundOf};
 ghost use Rattle.point.specs.Point.{isAnchorTrigger, requiresPrevPoint, digestSafe, prevDigest, stickyAnchors, targetRoundOf};
-ghost use Rattle.point.specs.Code.{throughOf, linkOf, pointOf, MapsOf};
-ghost use Rattle.point.specs.Reading.{readPoint};
+ghost use Rattle.point.specs.Code.{throughOf, linkOf, pointOf, MapsOf, Reads};
 ghost use Rattle.schedule.specs.Code.{settingsOf};
 ghost use Rattle.rules.specs.Verify.{linksOwn, isGenesis, isZero, genesisStructureRows, pointMap, targetTooNew, badLink, equal, ownPointRows, linkRows};
 ghost use Rattle.rules.specs.Verify.{structureRows, genesisRows, stickyFault, aboveRows, wellFormedRows};
@@ -75,7 +73,7 @@ pub fn is_found(digest: Found) -> bool
 
 // check_structure of genesis.
 fn check_genesis_structure(rec: &[u8], info: PointInfo) -> Checked
-    requires { ⌜ readPoint (now rec) ≡ some (pointOf (now rec) info) ⌝ }
+    requires { ⌜ Reads (now rec) info ⌝ }
     ensures { λ r. ⌜ checkedOf r ≡ firstOf (concat (genesisStructureRows (pointOf (now (rec .entry)) info))) ⌝ }
 {
     let id = info.id;
@@ -126,7 +124,7 @@ fn is_target_too_new(round: u32, link: AnchorLink) -> bool
 
 // point::prev_digest, of includes that were found already.
 fn prev_digest(includes: &[u8], rec: &[u8], info: PointInfo) -> Found
-    requires { ⌜ readPoint (now rec) ≡ some (pointOf (now rec) info) ⌝ }
+    requires { ⌜ Reads (now rec) info ⌝ }
     requires { ⌜ pairsOf (now includes) ≡ pointOf (now rec) info .includes ⌝ }
     ensures { λ r. ⌜ foundOf r ≡ prevDigest (pointOf (now (rec .entry)) info) ⌝ }
 {
@@ -142,7 +140,7 @@ fn digest_safe(
     info: PointInfo,
     through: Through,
 ) -> Found
-    requires { ⌜ readPoint (now rec) ≡ some (pointOf (now rec) info) ⌝ }
+    requires { ⌜ Reads (now rec) info ⌝ }
     requires { ⌜ (pairsOf (now includes) ≡ pointOf (now rec) info .includes) × (pairsOf (now witness) ≡ pointOf (now rec) info .witness) ⌝ }
     ensures { λ r. ⌜ foundOf r ≡ digestSafe (pointOf (now (rec .entry)) info) (throughOf through) ⌝ }
 {
@@ -160,7 +158,7 @@ fn is_bad_link(
     info: PointInfo,
     link: AnchorLink,
 ) -> bool
-    requires { ⌜ readPoint (now rec) ≡ some (pointOf (now rec) info) ⌝ }
+    requires { ⌜ Reads (now rec) info ⌝ }
     requires { ⌜ (pairsOf (now includes) ≡ pointOf (now rec) info .includes) × (pairsOf (now witness) ≡ pointOf (now rec) info .witness) ⌝ }
     ensures { λ r. ⌜ r ≡ badLink (pointOf (now (rec .entry)) info) (linkOf link) ⌝ }
 {
@@ -208,7 +206,7 @@ fn check_own_points(
     rec: &[u8],
     info: PointInfo,
 ) -> Checked
-    requires { ⌜ readPoint (now rec) ≡ some (pointOf (now rec) info) ⌝ }
+    requires { ⌜ Reads (now rec) info ⌝ }
     requires { ⌜ MapsOf (pointOf (now rec) info) (now includes) (now witness) (now evidence) ⌝ }
     ensures { λ r. ⌜ checkedOf r ≡ firstOf (concat (ownPointRows (pointOf (now (rec .entry)) info))) ⌝ }
 {
@@ -232,7 +230,7 @@ fn check_own_points(
 
 // The anchor links and the times.
 fn check_links(includes: &[u8], witness: &[u8], rec: &[u8], info: PointInfo) -> Checked
-    requires { ⌜ readPoint (now rec) ≡ some (pointOf (now rec) info) ⌝ }
+    requires { ⌜ Reads (now rec) info ⌝ }
     requires { ⌜ (pairsOf (now includes) ≡ pointOf (now rec) info .includes) × (pairsOf (now witness) ≡ pointOf (now rec) info .witness) ⌝ }
     ensures { λ r. ⌜ checkedOf r ≡ firstOf (concat (linkRows (pointOf (now (rec .entry)) info))) ⌝ }
 {
@@ -263,7 +261,7 @@ fn check_structure(
     rec: &[u8],
     info: PointInfo,
 ) -> Checked
-    requires { ⌜ readPoint (now rec) ≡ some (pointOf (now rec) info) ⌝ }
+    requires { ⌜ Reads (now rec) info ⌝ }
     requires { ⌜ MapsOf (pointOf (now rec) info) (now includes) (now witness) (now evidence) ⌝ }
     ensures { λ r. ⌜ checkedOf r ≡ firstOf (concat (structureRows (pointOf (now (rec .entry)) info))) ⌝ }
 {
@@ -279,7 +277,7 @@ fn check_structure(
 }
 
 fn check_genesis(conf: Settings, rec: &[u8], info: PointInfo) -> Verified
-    requires { ⌜ readPoint (now rec) ≡ some (pointOf (now rec) info) ⌝ }
+    requires { ⌜ Reads (now rec) info ⌝ }
     ensures { λ r. ⌜ verifiedOf r ≡ firstOf (concat (genesisRows (settingsOf conf) (pointOf (now (rec .entry)) info))) ⌝ }
 {
     let id = info.id;
@@ -341,7 +339,7 @@ fn check_above_genesis(
     rec: &[u8],
     info: PointInfo,
 ) -> Verified
-    requires { ⌜ readPoint (now rec) ≡ some (pointOf (now rec) info) ⌝ }
+    requires { ⌜ Reads (now rec) info ⌝ }
     requires { ⌜ MapsOf (pointOf (now rec) info) (now includes) (now witness) (now evidence) ⌝ }
     ensures { λ r. ⌜ verifiedOf r ≡ firstOf (concat (aboveRows (settingsOf conf) (pointOf (now (rec .entry)) info))) ⌝ }
 {
@@ -379,7 +377,7 @@ pub fn check_well_formed(
     rec: &[u8],
     info: PointInfo,
 ) -> Verified
-    requires { ⌜ readPoint (now rec) ≡ some (pointOf (now rec) info) ⌝ }
+    requires { ⌜ Reads (now rec) info ⌝ }
     requires { ⌜ MapsOf (pointOf (now rec) info) (now includes) (now witness) (now evidence) ⌝ }
     ensures { λ r. ⌜ verifiedOf r ≡ firstOf (concat (wellFormedRows (settingsOf conf) (pointOf (now (rec .entry)) info))) ⌝ }
 {

@@ -1,14 +1,13 @@
 -- `judge` meets its contract: a lemma for each test that passed says what it told, and each `return` cites the law of its number.
 use native.Mathlib.Omega.{arith}
-use mathlib.Core.Path.{_≡_, refl, ap, sym, _∙_}
+use mathlib.Core.Path.{_≡_, refl, ap, sym, _∙_, subst}
 use mathlib.Core.Bool.{Bool, true, false, _&&_}
 use mathlib.Core.Option.{some}
 use lib.ListN.{length}
 use denote.Ref.{now}
 use borrow.Author.Tests.{not-true, not-false}
 use Rattle.point.specs.Point.{PointInfo, inDomain}
-use Rattle.point.specs.Reading.{readPoint}
-use Rattle.point.specs.Code.{pointOf, readPointOf}
+use Rattle.point.specs.Code.{pointOf, Reads, PointRead}
 use Rattle.schedule.specs.Settings.{Settings, readSettings}
 use Rattle.schedule.specs.Code.{settingsOf, readSettingsOf, scheduleOf}
 use Rattle.schedule.specs.Schedule.{Schedule, readSchedule}
@@ -47,8 +46,8 @@ second c = c .before .before .before .before
 abbrev point : tie.After-known-told2 → PointInfo
 point c = pointOf (now (start (first (second c)) .args .rec)) (c .before .info .given .0 .0)
 
-has-point : (c : tie.After-known-told2) → readPoint (now (start (first (second c)) .args .rec)) ≡ some (point c)
-has-point c = sym (c .before .before .before .read-point .ensures) ∙ ap (readPointOf (now (start (first (second c)) .args .rec))) (c .before .info .given .1)
+has-point : (c : tie.After-known-told2) → Reads (now (start (first (second c)) .args .rec)) (c .before .info .given .0 .0)
+has-point c = subst (PointRead _) (c .before .info .given .1) (c .before .before .before .read-point .ensures)
 
 -- the domain
 abbrev flags : tie.Start → Bool
@@ -76,7 +75,7 @@ has-input c =
     let d = passed c in
     let p = d .before .before in
     let s = second p in
-    all-taken _ _ _ _ _ _ (has-settings (first s)) _ (has-schedule s) _ (has-point p) (in-domain d)
+    all-taken _ _ _ _ _ _ (has-settings (first s)) _ (has-schedule s) _ (has-point p .read) (in-domain d)
     (omega (arith, c .before .before .before .before .if3 .left))
 
 read-settings-requires : tie.Need-read-settings-requires
@@ -118,7 +117,7 @@ returns-3 c =
     let r = c .before .before in
     let s = r .before in
     let k = first s in
-    answer-number _ _ _ (all (start k)) 3 _ (no-point _ _ _ _ _ _ (has-settings k) _ (has-schedule s) (sym (r .read-point .ensures) ∙ ap (readPointOf _) (c .enum-told2 .given .1)))
+    answer-number _ _ _ (all (start k)) 3 _ (no-point _ _ _ _ _ _ (has-settings k) _ (has-schedule s) (subst (PointRead _) (c .enum-told2 .given .1) (r .read-point .ensures)))
 
 are-in-domain-requires : tie.Need-are-in-domain-requires
 are-in-domain-requires c κs = search needs
@@ -128,7 +127,7 @@ returns-4 c =
     let p = c .before .before in
     let s = second p in
     let k = first s in
-    answer-number _ _ _ (all (start k)) 4 _ (no-domain _ _ _ _ _ _ (has-settings k) _ (has-schedule s) _ (has-point p) (out-of-domain c))
+    answer-number _ _ _ (all (start k)) 4 _ (no-domain _ _ _ _ _ _ (has-settings k) _ (has-schedule s) _ (has-point p .read) (out-of-domain c))
 
 returns-5 : tie.Need-returns-5
 returns-5 c =
@@ -136,7 +135,7 @@ returns-5 c =
     let p = d .before .before in
     let s = second p in
     let k = first s in
-    answer-number _ _ _ (all (start k)) 5 _ (no-room _ _ _ _ _ _ (has-settings k) _ (has-schedule s) _ (has-point p) (in-domain d) (omega (arith, c .if3 .taken)))
+    answer-number _ _ _ (all (start k)) 5 _ (no-room _ _ _ _ _ _ (has-settings k) _ (has-schedule s) _ (has-point p .read) (in-domain d) (omega (arith, c .if3 .taken)))
 
 before-list-requires : tie.Need-before-list-requires
 before-list-requires c κs =

@@ -86,14 +86,14 @@ returns-4 c =
     let k = u .before .before .before in
     c .no-round .ensures
     ∙ answer-witness _ _ _ _ (start k .pre .1) _ (judged k) (was-judged k) (no-mismatch (u .before)) (u .if2 .left)
-    (sym (t .if3 .taken) ∙ t .before .lacks-witness .ensures (start k .args .info))
+    (sym (t .if3 .taken) ∙ t .before .lacks-witness .ensures)
 
 returns-5 : tie.Need-returns-5
 returns-5 c =
     let u = c .before .before in
     let k = u .before .before .before in
     answer-verdict _ _ _ _ (start k .pre .1) _ (judged k) (was-judged k) (no-mismatch (u .before)) (u .if2 .left)
-    (sym (c .if3 .left) ∙ c .before .lacks-witness .ensures (start k .args .info))
+    (sym (c .if3 .left) ∙ c .before .lacks-witness .ensures)
 
 pub judge-over-list-spec : {M : Type 1} → statement M
 judge-over-list-spec =

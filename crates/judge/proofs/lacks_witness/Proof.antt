@@ -13,7 +13,7 @@ use Rattle.judge.proofs.lacks_witness.Statement.{statement}
 use Rattle.judge.proofs.lacks_witness.Tie as tie
 
 returns : tie.Need-returns
-returns c = λ i. rw (ne-eqb _ _ (c .if1 .taken))
+returns c = rw (ne-eqb _ _ (c .if1 .taken))
 
 witness-requires : tie.Need-witness-requires
 witness-requires c κs = search needs
@@ -22,7 +22,7 @@ count-requires : tie.Need-count-requires
 count-requires c κs = search needs
 
 returns-2 : tie.Need-returns-2
-returns-2 c = λ i.
+returns-2 c =
     let w = c .before in
     let f = w .before in
     let s = contentOf (now (f .before .before .args .rec)) 3 in

@@ -1,7 +1,7 @@
 -- `read_record` meets its contract: where the record ends, then what its part of the slice says.
 use Prim.Native.Nat.{ℕ, _-_}
 use native.Mathlib.Omega.{arith}
-use mathlib.Core.Path.{_≡_, ap, sym, _∙_}
+use mathlib.Core.Path.{_≡_, ap, sym, _∙_, subst}
 use mathlib.Core.Option.{some}
 use mathlib.Core.List.{List}
 use lib.ListN.{take}
@@ -12,8 +12,7 @@ use Rattle.base.proofs.Lists.{up-to}
 use Rattle.record.specs.Record.{recordEnd}
 use Rattle.record.specs.Code.{endOf}
 use Rattle.record.proofs.Laws.{end-within, front-shaped}
-use Rattle.point.specs.Reading.{readPoint}
-use Rattle.point.specs.Code.{pointOf, readPointOf}
+use Rattle.point.specs.Code.{Reads, PointRead}
 use Rattle.point.specs.declared.info.PointInfo as code-info
 use Rattle.judge_entries.proofs.Laws.{front-endless, front-unread, front-unlisted, front-from, front-listed}
 use Rattle.judge_entries.proofs.read_record.Statement.{statement}
@@ -39,8 +38,8 @@ known c = c .before .before .before .before .before
 abbrev info : tie.After-known-told2 → code-info.PointInfo
 info c = c .before .info .given .0 .0
 
-read : (c : tie.After-known-told2) → let k = known c in readPoint (part k) ≡ some (pointOf (part k) (info c))
-read c = sym (c .before .before .before .read-shaped .ensures) ∙ ap (readPointOf (part (known c))) (c .before .info .given .1)
+read : (c : tie.After-known-told2) → let k = known c in Reads (part k) (info c)
+read c = subst (PointRead (part (known c))) (c .before .info .given .1) (c .before .before .before .read-shaped .ensures)
 
 record-end-requires : tie.Need-record-end-requires
 record-end-requires c κs = search needs
@@ -78,7 +77,7 @@ returns-2 : tie.Need-returns-2
 returns-2 c =
     let r = c .before .before in
     let k = r .before .before in (
-      sym (front-unread (slice k) (part k) (end k) (ended k) (up-to (end k) (slice k)) (sym (r .read-shaped .ensures) ∙ ap (readPointOf (part k)) (c .enum-told2 .given .1))),
+      sym (front-unread (slice k) (part k) (end k) (ended k) (up-to (end k) (slice k)) (subst (PointRead (part k)) (c .enum-told2 .given .1) (r .read-shaped .ensures))),
       tt,
     )
 

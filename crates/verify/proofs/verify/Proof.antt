@@ -1,14 +1,13 @@
 -- `verify` meets its contract: a lemma for each test that passed says what it told, and each `return` cites the law of its number.
 use native.Mathlib.Omega.{arith}
-use mathlib.Core.Path.{_≡_, ap, sym, _∙_}
+use mathlib.Core.Path.{_≡_, ap, sym, _∙_, subst}
 use mathlib.Core.Bool.{Bool, true, _&&_}
 use mathlib.Core.Option.{some}
 use lib.ListN.{length}
 use denote.Ref.{now}
 use borrow.Author.Tests.{not-true, not-false}
 use Rattle.point.specs.Point.{PointInfo, inDomain}
-use Rattle.point.specs.Reading.{readPoint}
-use Rattle.point.specs.Code.{pointOf, readPointOf}
+use Rattle.point.specs.Code.{pointOf, Reads, PointRead}
 use Rattle.schedule.specs.Settings.{Settings, readSettings}
 use Rattle.schedule.specs.Code.{settingsOf, readSettingsOf, scheduleOf}
 use Rattle.schedule.specs.Schedule.{Schedule, readSchedule}
@@ -45,8 +44,8 @@ second c = c .before .before .before .before
 abbrev point : tie.After-known-told2 → PointInfo
 point c = pointOf (now (start (first (second c)) .args .rec)) (c .before .info .given .0 .0)
 
-has-point : (c : tie.After-known-told2) → readPoint (now (start (first (second c)) .args .rec)) ≡ some (point c)
-has-point c = sym (c .before .before .before .read-point .ensures) ∙ ap (readPointOf (now (start (first (second c)) .args .rec))) (c .before .info .given .1)
+has-point : (c : tie.After-known-told2) → Reads (now (start (first (second c)) .args .rec)) (c .before .info .given .0 .0)
+has-point c = subst (PointRead _) (c .before .info .given .1) (c .before .before .before .read-point .ensures)
 
 -- the domain
 in-domain : (c : tie.Else2) → (inDomain (point (c .before .before)) && true) ≡ true
@@ -93,7 +92,7 @@ returns-3 c =
     let r = c .before .before in
     let s = r .before in
     let k = first s in
-    answer-number (all (start k)) 3 _ (no-point _ _ _ _ _ _ (has-settings k) _ (has-schedule s) (sym (r .read-point .ensures) ∙ ap (readPointOf _) (c .enum-told2 .given .1)))
+    answer-number (all (start k)) 3 _ (no-point _ _ _ _ _ _ (has-settings k) _ (has-schedule s) (subst (PointRead _) (c .enum-told2 .given .1) (r .read-point .ensures)))
 
 is-in-domain-requires : tie.Need-is-in-domain-requires
 is-in-domain-requires c κs = search needs
@@ -104,7 +103,7 @@ returns-4 c =
     let s = second p in
     let k = first s in
     answer-number (all (start k)) 4 _
-    (no-domain _ _ _ _ _ _ (has-settings k) _ (has-schedule s) _ (has-point p) (ap (λ (b : Bool). b && true) (sym (c .before .is-in-domain .ensures) ∙ not-true _ (c .if2 .taken))))
+    (no-domain _ _ _ _ _ _ (has-settings k) _ (has-schedule s) _ (has-point p .read) (ap (λ (b : Bool). b && true) (sym (c .before .is-in-domain .ensures) ∙ not-true _ (c .if2 .taken))))
 
 returns-5 : tie.Need-returns-5
 returns-5 c =
@@ -112,7 +111,7 @@ returns-5 c =
     let p = d .before .before in
     let s = second p in
     let k = first s in
-    answer-number (all (start k)) 5 _ (no-room _ _ _ _ _ _ (has-settings k) _ (has-schedule s) _ (has-point p) (in-domain d) (omega (arith, c .if3 .taken)))
+    answer-number (all (start k)) 5 _ (no-room _ _ _ _ _ _ (has-settings k) _ (has-schedule s) _ (has-point p .read) (in-domain d) (omega (arith, c .if3 .taken)))
 
 verify-point-requires : tie.Need-verify-point-requires
 verify-point-requires c κs =
@@ -129,7 +128,7 @@ returns-6 c =
     let p = d .before .before in
     let s = second p in
     let k = first s in
-    answer-verdict (all (start k)) _ _ _ _ (all-taken _ _ _ _ _ _ (has-settings k) _ (has-schedule s) _ (has-point p) (in-domain d) (omega (arith, v .before .before .if3 .left))) (v .verify-point .ensures .0) (v .verify-point .ensures .1)
+    answer-verdict (all (start k)) _ _ _ _ (all-taken _ _ _ _ _ _ (has-settings k) _ (has-schedule s) _ (has-point p .read) (in-domain d) (omega (arith, v .before .before .if3 .left))) (v .verify-point .ensures .0) (v .verify-point .ensures .1)
 
 pub verify-spec : {M : Type 1} → statement M
 verify-spec =

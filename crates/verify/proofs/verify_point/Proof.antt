@@ -1,14 +1,10 @@
 -- `verify_point` meets its contract: a lemma for each call says what it told, and each `return` joins those on its way.
-use native.Mathlib.Omega.{arith}
 use mathlib.Core.Path.{_≡_, ap}
-use mathlib.Core.Bool.{true}
 use mathlib.Core.Option.{none}
 use denote.Ref.{now}
 use Rattle.map.specs.Rows.{peersOf, pairsOf}
-use Rattle.record.specs.Record.{wellShaped}
 use Rattle.point.specs.Point.{PointInfo}
 use Rattle.point.specs.Code.{pointOf}
-use Rattle.point.proofs.Laws.{readable}
 use Rattle.schedule.specs.Settings.{Settings}
 use Rattle.schedule.specs.Code.{settingsOf, scheduleOf}
 use Rattle.schedule.specs.Schedule.{Schedule}
@@ -44,10 +40,10 @@ new c =
     told-new (settings b) (schedule b) (point b) (sets b) _ _ (c .check-new .ensures)
 
 abbrev first : tie.After-check-well-formed → tie.After-check-new
-first c = c .before .before .before .before .before .before .before
+first c = c .before .before .before .before .before .before
 
 passed : (c : tie.After-check-well-formed) → verifiedOf (first c .check-new .result) ≡ none
-passed c = ap verifiedOf (c .before .before .before .before .before .enum-told .given .1)
+passed c = ap verifiedOf (c .before .before .before .before .enum-told .given .1)
 
 formed : (c : tie.After-check-well-formed) →
     let b = start (first c) in
@@ -73,41 +69,25 @@ returns c =
     told-first (sets b) (point b) (newRows (settings b) (schedule b) (point b)) (wellFormedRows (settings b) (point b)) (peerRows (settings b) (sets b) (point b))
     _ (c .enum-told2 .given .0 .0) _ _ (ap verifiedOf (c .enum-told2 .given .1)) (new n)
 
--- the record has the right shape, and its fields were found
-shaped : (b : tie.Start) → wellShaped (now (b .args .rec)) ≡ true
-shaped b = readable _ _ (b .pre .1 .0) .shaped
+includes-requires : tie.Need-includes-requires
+includes-requires c κs = search needs
 
-abbrev found : tie.After-find-places → tie.Start
-found c = c .before .before .before .before .before .before .before
+witness-requires : tie.Need-witness-requires
+witness-requires c κs = search needs
 
-find-places-requires : tie.Need-find-places-requires
-find-places-requires c κs = shaped (c .before .before .before .before .before .before)
-
-content-from-requires : tie.Need-content-from-requires
-content-from-requires c κs =
-    let f = c .find-places .ensures in
-    ((shaped (found c), omega arith), (f .includes, f .witness))
-
-content-from-requires-2 : tie.Need-content-from-requires-2
-content-from-requires-2 c κs =
-    let f = c .before .find-places .ensures in
-    ((shaped (found (c .before)), omega arith), (f .witness, f .evidence))
-
-content-from-requires-3 : tie.Need-content-from-requires-3
-content-from-requires-3 c κs =
-    let f = c .before .before .find-places .ensures in
-    ((shaped (found (c .before .before)), omega arith), (f .evidence, f .anchorProof))
+evidence-requires : tie.Need-evidence-requires
+evidence-requires c κs = search needs
 
 -- the maps that were looked up are the point's
-abbrev handed : tie.After-content-from3 → tie.Start
-handed c = c .before .before .before .before .before .before .before .before .before .before
+abbrev handed : tie.After-evidence → tie.Start
+handed c = c .before .before .before .before .before .before .before .before .before
 
-maps : (c : tie.After-content-from3) →
+maps : (c : tie.After-evidence) →
     let p = point (handed c) in
-    (pairsOf (now (c .before .before .content-from .result)) ≡ p .includes)
-    × (pairsOf (now (c .before .content-from2 .result)) ≡ p .witness)
-    × (peersOf 32 (now (c .content-from3 .result)) ≡ p .evidence)
-maps c = (ap pairsOf (c .before .before .content-from .ensures), ap pairsOf (c .before .content-from2 .ensures), ap (peersOf 32) (c .content-from3 .ensures))
+    (pairsOf (now (c .before .before .includes .result)) ≡ p .includes)
+    × (pairsOf (now (c .before .witness .result)) ≡ p .witness)
+    × (peersOf 32 (now (c .evidence .result)) ≡ p .evidence)
+maps c = (ap pairsOf (c .before .before .includes .ensures), ap pairsOf (c .before .witness .ensures), ap (peersOf 32) (c .evidence .ensures))
 
 check-well-formed-requires : tie.Need-check-well-formed-requires
 check-well-formed-requires c κs = (handed c .pre .1 .0, maps c)
@@ -152,10 +132,9 @@ verify-point-spec =
     enum-told
     enum-told-2
     returns
-    find-places-requires
-    content-from-requires
-    content-from-requires-2
-    content-from-requires-3
+    includes-requires
+    witness-requires
+    evidence-requires
     check-well-formed-requires
     enum-told-3
     enum-told-4

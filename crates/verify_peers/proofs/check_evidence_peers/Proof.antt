@@ -34,7 +34,7 @@ counted : (c : tie.After-count) → c .count .result ≡ length (point (start (c
 counted c = c .count .ensures ∙ sym (ap length (rows (c .before)))
 
 read : (c : tie.Start) → Readable (now (c .args .rec)) (point c)
-read c = readable _ _ (c .pre .0)
+read c = readable _ _ (c .pre .0 .read)
 
 some-are : (c : tie.Else1) → length (point (start (c .before .before)) .evidence) ≡ 0 → ⊥
 some-are c z = c .if1 .left (counted (c .before) ∙ z)
@@ -87,7 +87,7 @@ count-requires-2 : tie.Need-count-requires-2
 count-requires-2 c κs = search needs
 
 one-f-requires : tie.Need-one-f-requires
-one-f-requires c κs = search needs
+one-f-requires c κs = omega (arith, c .count2 .ensures, start (taken (c .before .before .before .before)) .pre .1 .1 .1 .0)
 
 majority-of-others-requires : tie.Need-majority-of-others-requires
 majority-of-others-requires c κs = search needs

@@ -34,7 +34,7 @@ many : (c : tie.After-slice-known) → length (peersOf 64 (now (start c .args .i
 many c = sym (ap length (rows c)) ∙ peers-length _
 
 read : (c : tie.Start) → Readable (now (c .args .rec)) (point c)
-read c = readable _ _ (c .pre .0)
+read c = readable _ _ (c .pre .0 .read)
 
 told : (c : tie.After-unknown-peers) (k : Scheduled) → k .includes ≡ peersOf 32 (now (start (taken c) .args .known)) →
     Compared (unknownIn (k .includes) (peers (point (start (taken c)) .includes))) (now (start (taken c) .args .peers)) (c .unknown-peers .last .1 .1 .1 .0) (c .unknown-peers .result)

@@ -35,7 +35,7 @@ many : (c : tie.After-id) → length (peersOf 64 (now (start c .args .witness)))
 many c = sym (ap length (rows c)) ∙ peers-length _
 
 read : (c : tie.Start) → Readable (now (c .args .rec)) (point c)
-read c = readable _ _ (c .pre .0)
+read c = readable _ _ (c .pre .0 .read)
 
 some-are : (c : tie.Else1) → length (point (start (c .before .before)) .witness) ≡ 0 → ⊥
 some-are c z = c .if1 .left (c .before .count .ensures ∙ (many (c .before .before) ∙ z))

@@ -108,7 +108,7 @@ returns-2 c = sym (has-prev (c .before .before .before) ∙ row-here _ _ _ (uneq
 contains-requires : tie.Need-contains-requires
 contains-requires c κs =
     let b = start (c .before .before .before .before .before) in
-    (omega arith, ap rising (b .pre .1 .2) ∙ readable _ _ (b .pre .0) .evidence .rise)
+    (omega arith, ap rising (b .pre .1 .2) ∙ readable _ _ (b .pre .0 .read) .evidence .rise)
 
 returns-3 : tie.Need-returns-3
 unfolding ownPointRows
@@ -117,7 +117,7 @@ returns-3 c = sym (proven (c .before .before) ∙ row-here _ _ _ (among-evidence
 contains-requires-2 : tie.Need-contains-requires-2
 contains-requires-2 c κs =
     let b = start (c .before .before .before .before .before .before .before) in
-    (omega arith, ap rising (sym (peers-pairsOf (now (b .args .witness))) ∙ ap peers (b .pre .1 .1)) ∙ readable _ _ (b .pre .0) .witness .rise)
+    (omega arith, ap rising (sym (peers-pairsOf (now (b .args .witness))) ∙ ap peers (b .pre .1 .1)) ∙ readable _ _ (b .pre .0 .read) .witness .rise)
 
 returns-4 : tie.Need-returns-4
 unfolding ownPointRows

@@ -11,7 +11,7 @@ enum-known-through c = search needs
 get-requires : tie.Need-get-requires
 get-requires c κs =
     let b = c .before .before .before .before .before .before in
-    rw (b .pre .1 .0) (readable _ _ (b .pre .0) .includes .rise)
+    rw (b .pre .1 .0) (readable _ _ (b .pre .0 .read) .includes .rise)
 
 enum-known-through-2 : tie.Need-enum-known-through-2
 enum-known-through-2 c = search needs
@@ -19,7 +19,7 @@ enum-known-through-2 c = search needs
 get-requires-2 : tie.Need-get-requires-2
 get-requires-2 c κs =
     let b = c .before .before .before .before .before .before in
-    rw (b .pre .1 .1) (readable _ _ (b .pre .0) .witness .rise)
+    rw (b .pre .1 .1) (readable _ _ (b .pre .0 .read) .witness .rise)
 
 returns : tie.Need-returns
 unfolding digestSafe

@@ -13,7 +13,7 @@ returns : tie.Need-returns
 returns c = rw (← c .before .before .is-anchor-trigger .ensures, c .before .if1 .taken, c .links-own .ensures)
 
 returns-2 : tie.Need-returns-2
-returns-2 c = search needs
+returns-2 c = rw (← c .before .is-anchor-trigger .ensures, c .if1 .left)
 
 pub is-bad-proof-link-spec : {M : Type 1} → statement M
 is-bad-proof-link-spec =

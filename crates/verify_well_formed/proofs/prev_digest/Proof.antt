@@ -7,7 +7,7 @@ use Rattle.verify_well_formed.proofs.prev_digest.Tie as tie
 get-requires : tie.Need-get-requires
 get-requires c κs =
     let b = c .before .before .before in
-    rw (b .pre .1) (readable _ _ (b .pre .0) .includes .rise)
+    rw (b .pre .1) (readable _ _ (b .pre .0 .read) .includes .rise)
 
 returns : tie.Need-returns
 unfolding prevDigest

@@ -1,7 +1,7 @@
 -- `decide_in` meets its contract: a lemma for each test that passed says what it told, and each `return` cites the law of its number.
 use Prim.Native.Nat.{ℕ}
 use native.Mathlib.Omega.{arith}
-use mathlib.Core.Path.{_≡_, ap, sym, _∙_}
+use mathlib.Core.Path.{_≡_, ap, sym, _∙_, subst}
 use mathlib.Core.Bool.{true}
 use mathlib.Core.Option.{some}
 use mathlib.Core.List.{List}
@@ -9,8 +9,7 @@ use denote.Ref.{now}
 use borrow.Author.Tests.{not-true, not-false}
 use Rattle.parts.specs.Bytes.{Bytes}
 use Rattle.point.specs.Point.{PointInfo, inDomain}
-use Rattle.point.specs.Reading.{readPoint}
-use Rattle.point.specs.Code.{pointOf, readPointOf}
+use Rattle.point.specs.Code.{pointOf, Reads, PointRead}
 use Rattle.schedule.specs.Settings.{Settings}
 use Rattle.schedule.specs.Code.{settingsOf, scheduleOf}
 use Rattle.schedule.specs.Schedule.{Schedule, readSchedule}
@@ -55,8 +54,8 @@ second c = c .before .before .before .before
 abbrev point : tie.After-known-told → PointInfo
 point c = pointOf (now (start (first (second c)) .args .rec)) (c .before .info .given .0 .0)
 
-has-point : (c : tie.After-known-told) → readPoint (now (start (first (second c)) .args .rec)) ≡ some (point c)
-has-point c = sym (c .before .before .before .read-point .ensures) ∙ ap (readPointOf _) (c .before .info .given .1)
+has-point : (c : tie.After-known-told) → Reads (now (start (first (second c)) .args .rec)) (c .before .info .given .0 .0)
+has-point c = subst (PointRead _) (c .before .info .given .1) (c .before .before .before .read-point .ensures)
 
 -- the domain
 abbrev third : tie.Else2 → tie.After-known-told
@@ -98,7 +97,7 @@ returns-2 c =
     let s = p .before in
     let r = first s in
     refused-decides (start r .pre) (bytes r) (offer r) 3 _
-    (input-refused _ _ (start r .pre .settings) (offer r) _ (no-point _ (offer r) _ (has-schedule s) (sym (p .read-point .ensures) ∙ ap (readPointOf _) (t .enum-told .given .1))))
+    (input-refused _ _ (start r .pre .settings) (offer r) _ (no-point _ (offer r) _ (has-schedule s) (subst (PointRead _) (t .enum-told .given .1) (p .read-point .ensures))))
     (c .refused2 .ensures .0) (c .refused2 .ensures .1)
 
 is-in-domain-requires : tie.Need-is-in-domain-requires
@@ -114,7 +113,7 @@ returns-3 c =
     let s = second p in
     let r = first s in
     refused-decides (start r .pre) (bytes r) (offer r) 4 _
-    (input-refused _ _ (start r .pre .settings) (offer r) _ (no-domain _ (offer r) _ (has-schedule s) _ (has-point p) (sym (t .before .is-in-domain .ensures) ∙ not-true _ (t .if2 .taken))))
+    (input-refused _ _ (start r .pre .settings) (offer r) _ (no-domain _ (offer r) _ (has-schedule s) _ (has-point p .read) (sym (t .before .is-in-domain .ensures) ∙ not-true _ (t .if2 .taken))))
     (c .refused3 .ensures .0) (c .refused3 .ensures .1)
 
 refused-requires-4 : tie.Need-refused-requires-4
@@ -127,7 +126,7 @@ returns-4 c =
     let s = second p in
     let r = first s in
     refused-decides (start r .pre) (bytes r) (offer r) 4 _
-    (input-refused _ _ (start r .pre .settings) (offer r) _ (no-leader _ (offer r) _ (has-schedule s) _ (has-point p) (in-domain (t .before)) (t .if3 .taken)))
+    (input-refused _ _ (start r .pre .settings) (offer r) _ (no-leader _ (offer r) _ (has-schedule s) _ (has-point p .read) (in-domain (t .before)) (t .if3 .taken)))
     (c .refused4 .ensures .0) (c .refused4 .ensures .1)
 
 refused-requires-5 : tie.Need-refused-requires-5
@@ -141,7 +140,7 @@ returns-5 c =
     let s = second p in
     let r = first s in
     refused-decides (start r .pre) (bytes r) (offer r) 5 _
-    (input-refused _ _ (start r .pre .settings) (offer r) _ (no-buffer _ (offer r) _ (has-schedule s) _ (has-point p) (in-domain (l .before)) (l .if3 .left) (t .if4 .taken)))
+    (input-refused _ _ (start r .pre .settings) (offer r) _ (no-buffer _ (offer r) _ (has-schedule s) _ (has-point p .read) (in-domain (l .before)) (l .if3 .left) (t .if4 .taken)))
     (c .refused5 .ensures .0) (c .refused5 .ensures .1)
 
 decide-point-requires : tie.Need-decide-point-requires
@@ -151,7 +150,7 @@ decide-point-requires c κs =
     let p = third (l .before) in
     let s = second p in
     let r = first s in
-    (start r .pre, all-passed (settings r) (offer r) (schedule s) (has-schedule s) (point p) (has-point p) (in-domain (l .before)) (l .if3 .left) (m .if4 .left))
+    (has-point p, (start r .pre, all-passed (settings r) (offer r) (schedule s) (has-schedule s) (point p) (has-point p .read) (in-domain (l .before)) (l .if3 .left) (m .if4 .left)))
 
 same-length : tie.Need-same-length
 same-length c = search needs

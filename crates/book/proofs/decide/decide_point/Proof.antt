@@ -24,7 +24,7 @@ bytes : (c : tie.After-find) → Bytes (now (start c .args .book))
 bytes c k = omega (arith, c .before .before .before .before .before .shared-slice-known3 .given k)
 
 abbrev book : tie.After-find → Book
-book c = start c .pre .0 .opened .book
+book c = start c .pre .1 .0 .opened .book
 
 abbrev offer : tie.After-find → Offer
 offer c = let a = start c .args in offerOf (now (a .schedule)) (a .leader) (now (a .rec)) (now (a .peers))
@@ -36,13 +36,13 @@ input c = let a = start c .args in inputOf (a .conf) (now (a .schedule)) (a .spa
 is-new : (c : tie.After-enum-told) → let f = c .before .before in findKept (book f) (input f .point .id) ≡ none
 is-new c =
     let f = c .before .before in
-    absent-kept (start f .pre .0 .holds) _ (subst (FoundAt _ _ _ _) (c .enum-told .given .1) (f .find .ensures))
+    absent-kept (start f .pre .1 .0 .holds) _ (subst (FoundAt _ _ _ _) (c .enum-told .given .1) (f .find .ensures))
 
 is-full-or-not : (c : tie.After-is-full) →
     let f = c .before .before .before in
-    c .is-full .result ≡ isFull (start f .pre .0 .opened) (now (start f .args .rec))
+    c .is-full .result ≡ isFull (start f .pre .1 .0 .opened) (now (start f .args .rec))
 is-full-or-not c =
-    let h = start (c .before .before .before) .pre .0 in
+    let h = start (c .before .before .before) .pre .1 .0 in
     c .is-full .ensures ∙ full-is (h .opened) _ _ _ _ (h .whole) (h .holds .count) (h .ends)
 
 find-requires : tie.Need-find-requires
@@ -61,14 +61,14 @@ returns : tie.Need-returns
 returns c =
     let t = c .before in
     let f = t .before .before in
-    let h = start f .pre in
+    let h = start f .pre .1 in
     let x = found-kept (h .0 .holds) (input f .point .id) _ (subst (FoundAt _ _ _ _) (t .enum-told2 .given .1) (f .find .ensures)) in
     refused-decides (h .0) (bytes f) (offer f) 11 _ (is-there _ _ (h .0 .settings) (offer f) _ (h .1) (x .kept) (x .found)) (c .refused .ensures .0) (c .refused .ensures .1)
 
 is-full-requires : tie.Need-is-full-requires
 is-full-requires c κs =
     let f = c .before .before in
-    end-within (start f .pre .0) (bytes f)
+    end-within (start f .pre .1 .0) (bytes f)
 
 refused-requires-2 : tie.Need-refused-requires-2
 refused-requires-2 c κs = search needs
@@ -79,7 +79,7 @@ returns-2 c =
     let k = t .before in
     let e = k .before in
     let f = e .before .before in
-    let h = start f .pre in
+    let h = start f .pre .1 in
     refused-decides (h .0) (bytes f) (offer f) 12 _ (no-room _ _ (h .0 .settings) (offer f) _ (h .1) (is-new e) (sym (is-full-or-not k) ∙ t .if1 .taken)) (c .refused2 .ensures .0) (c .refused2 .ensures .1)
 
 judge-offer-requires : tie.Need-judge-offer-requires
@@ -87,8 +87,9 @@ judge-offer-requires c κs =
     let t = c .before in
     let k = t .before in
     let e = k .before in
-    let h = start (e .before .before) .pre in
-    record { read = h .0; passed = h .1; new = is-new e; room = sym (is-full-or-not k) ∙ t .if1 .left }
+    let r = start (e .before .before) .pre in
+    let h = r .1 in
+    (r .0, record { read = h .0; passed = h .1; new = is-new e; room = sym (is-full-or-not k) ∙ t .if1 .left })
 
 same-length : tie.Need-same-length
 same-length c = search needs

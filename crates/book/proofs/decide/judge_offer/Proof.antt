@@ -17,8 +17,7 @@ bytes c k = omega (arith, c .before .before .before .before .shared-slice-known3
 before-list-requires : tie.Need-before-list-requires
 before-list-requires c κs =
     let h = start c .pre in
-    let a = ready-accepted h in
-    (a .schedule, (a .read, ready-buffer h))
+    (ready-accepted (h .1) .schedule, (h .0, ready-buffer (h .1)))
 
 enum-known-before : tie.Need-enum-known-before
 enum-known-before c = search needs
@@ -29,12 +28,12 @@ enum-known-before-2 c = search needs
 judge-book-requires : tie.Need-judge-book-requires
 judge-book-requires c κs =
     let h = start (c .before .before .before .before .before .before) .pre in
-    (ready-accepted h .read, h .read .index)
+    (h .0, h .1 .read .index)
 
 mark-at-requires : tie.Need-mark-at-requires
 mark-at-requires c κs =
     let h = start (c .before .before .before .before .before .before .before) .pre in
-    (ready-accepted h .read, h .read .index)
+    (h .0, h .1 .read .index)
 
 same-length : tie.Need-same-length
 same-length c = search needs
@@ -44,7 +43,7 @@ returns c =
     let k = c .before in
     let b = k .before .before .before .before in
     let a = b .before in
-    ready-answered (start a .pre) (bytes a) _ _ (b .before-list .ensures .1) refl (b .before-list .result) (b .before-list .ensures .0) (k .before2 .given .1) refl
+    ready-answered (start a .pre .1) (bytes a) _ _ (b .before-list .ensures .1) refl (b .before-list .result) (b .before-list .ensures .0) (k .before2 .given .1) refl
 
 same-length-2 : tie.Need-same-length-2
 same-length-2 c = search needs
@@ -55,7 +54,7 @@ returns-2 c =
     let k = j .before .before in
     let b = k .before .before .before .before in
     let a = b .before in
-    ready-needed (start a .pre) (bytes a) _ _ (b .before-list .ensures .1) refl _ (b .before-list .result) (b .before-list .ensures .0) (k .before3 .given .1) _ refl (j .judge-book .ensures) (c .mark-at .ensures)
+    ready-needed (start a .pre .1) (bytes a) _ _ (b .before-list .ensures .1) refl _ (b .before-list .result) (b .before-list .ensures .0) (k .before3 .given .1) _ refl (j .judge-book .ensures) (c .mark-at .ensures)
 
 pub judge-offer-spec : {M : Type 1} → statement M
 judge-offer-spec =

@@ -68,7 +68,7 @@ enum-told-2 : tie.Need-enum-told-2
 enum-told-2 c = search needs
 
 judge-versions-requires : tie.Need-judge-versions-requires
-judge-versions-requires c κs = let st = begin (c .before .before) in (omega (arith, st .pre .room, st .pre .places), st .pre .inside)
+judge-versions-requires c κs = let st = begin (c .before .before) in (omega (arith, st .pre .1 .room, st .pre .1 .places), st .pre .1 .inside)
 
 returns : tie.Need-returns
 returns c =

@@ -1,7 +1,7 @@
 -- `kept_end` meets its contract: where the record ends, what it says, and tag 33 after it.
 use Prim.Native.Nat.{ℕ, _-_, _+_, _≤_}
 use native.Mathlib.Omega.{arith}
-use mathlib.Core.Path.{_≡_, ap, sym, _∙_}
+use mathlib.Core.Path.{_≡_, ap, sym, _∙_, subst}
 use mathlib.Core.Bool.{true}
 use mathlib.Core.Option.{some}
 use mathlib.Core.List.{List}
@@ -12,8 +12,7 @@ use Rattle.base.proofs.Lists.{up-to}
 use Rattle.record.specs.Record.{fieldRow, fieldOk, recordEnd}
 use Rattle.record.specs.Code.{endOf}
 use Rattle.record.proofs.Laws.{end-within, front-shaped}
-use Rattle.point.specs.Reading.{readPoint}
-use Rattle.point.specs.Code.{pointOf, readPointOf}
+use Rattle.point.specs.Code.{Reads, PointRead}
 use Rattle.point.specs.declared.info.PointInfo as code-info
 use Rattle.book_layout.proofs.Laws.{front-endless, front-unread, front-tagless, tag-inside, tag-part, tag-length, front-no-entry, front-entry-to}
 use borrow.Author.Needs.{needs}
@@ -40,8 +39,8 @@ known c = c .before .before .before .before .before
 abbrev info : tie.After-known-told2 → code-info.PointInfo
 info c = c .before .info .given .0 .0
 
-read : (c : tie.After-known-told2) → let k = known c in readPoint (part k) ≡ some (pointOf (part k) (info c))
-read c = sym (c .before .before .before .read-shaped .ensures) ∙ ap (readPointOf (part (known c))) (c .before .info .given .1)
+read : (c : tie.After-known-told2) → let k = known c in Reads (part k) (info c)
+read c = subst (PointRead (part (known c))) (c .before .info .given .1) (c .before .before .before .read-shaped .ensures)
 
 -- tag 33 after the part
 tagged : (c : tie.Else1) → let k = known (c .before .before) in fieldOk (fieldRow 33 105 105) (slice k) (end k) ≡ true
@@ -86,7 +85,7 @@ returns-2 : tie.Need-returns-2
 returns-2 c =
     let r = c .before .before in
     let k = r .before .before in
-    front-unread (slice k) (part k) (end k) (ended k) (up-to (end k) (slice k)) (sym (r .read-shaped .ensures) ∙ ap (readPointOf (part k)) (c .enum-told2 .given .1))
+    front-unread (slice k) (part k) (end k) (ended k) (up-to (end k) (slice k)) (subst (PointRead (part k)) (c .enum-told2 .given .1) (r .read-shaped .ensures))
 
 field-ok-requires : tie.Need-field-ok-requires
 field-ok-requires c κs = let k = known c in end-within (slice k) (end k) (ended k)
@@ -95,7 +94,7 @@ returns-3 : tie.Need-returns-3
 returns-3 c =
     let f = c .before in
     let k = known (f .before) in
-    front-tagless (slice k) (part k) (end k) (ended k) (up-to (end k) (slice k)) _ (read (f .before)) (sym (f .field-ok .ensures) ∙ not-true _ (c .if1 .taken))
+    front-tagless (slice k) (part k) (end k) (ended k) (up-to (end k) (slice k)) _ (read (f .before) .read) (sym (f .field-ok .ensures) ∙ not-true _ (c .if1 .taken))
 
 add-is-entry : tie.Need-add-is-entry
 add-is-entry c = let k = known (c .before .before) in omega (arith, long c, k .before .before .before .before .before .good)
@@ -121,14 +120,14 @@ returns-4 : tie.Need-returns-4
 returns-4 c =
     let e = c .before .before .before in
     let k = known (e .before .before) in
-    front-no-entry (slice k) (part k) (end k) (ended k) (up-to (end k) (slice k)) _ (read (e .before .before)) (tagged e) _ (tag-part (end k) (slice k))
+    front-no-entry (slice k) (part k) (end k) (ended k) (up-to (end k) (slice k)) _ (read (e .before .before) .read) (tagged e) _ (tag-part (end k) (slice k))
     (sym (c .before .is-entry .ensures) ∙ not-true _ (c .if2 .taken))
 
 returns-5 : tie.Need-returns-5
 returns-5 c =
     let e = c .before .before .before in
     let k = known (e .before .before) in
-    front-entry-to (slice k) (part k) (end k) (ended k) (up-to (end k) (slice k)) _ (read (e .before .before)) (tagged e) _ (tag-part (end k) (slice k))
+    front-entry-to (slice k) (part k) (end k) (ended k) (up-to (end k) (slice k)) _ (read (e .before .before) .read) (tagged e) _ (tag-part (end k) (slice k))
     (sym (c .before .is-entry .ensures) ∙ not-false _ (c .if2 .left))
 
 pub kept-end-spec : {M : Type 1} → statement M

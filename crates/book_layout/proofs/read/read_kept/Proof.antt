@@ -1,7 +1,7 @@
 -- `read_kept` meets its contract: where the record ends, what it says, and the entry with tag 33 after it.
 use Prim.Native.Nat.{ℕ, _-_, _+_, _≤_}
 use native.Mathlib.Omega.{arith}
-use mathlib.Core.Path.{_≡_, ap, sym, _∙_}
+use mathlib.Core.Path.{_≡_, ap, sym, _∙_, subst}
 use mathlib.Core.Bool.{true}
 use mathlib.Core.Option.{some}
 use mathlib.Core.List.{List}
@@ -12,8 +12,7 @@ use Rattle.base.proofs.Lists.{up-to}
 use Rattle.record.specs.Record.{fieldRow, fieldOk, recordEnd}
 use Rattle.record.specs.Code.{endOf}
 use Rattle.record.proofs.Laws.{end-within, front-shaped}
-use Rattle.point.specs.Reading.{readPoint}
-use Rattle.point.specs.Code.{pointOf, readPointOf}
+use Rattle.point.specs.Code.{Reads, PointRead}
 use Rattle.point.specs.declared.info.PointInfo as code-info
 use Rattle.book_layout.proofs.Laws.{front-endless, front-unread, front-tagless, tag-inside, tag-part, tag-length, front-entry}
 use borrow.Author.Needs.{needs}
@@ -40,8 +39,8 @@ known c = c .before .before .before .before .before
 abbrev info : tie.After-known-told2 → code-info.PointInfo
 info c = c .before .info .given .0 .0
 
-read : (c : tie.After-known-told2) → let k = known c in readPoint (part k) ≡ some (pointOf (part k) (info c))
-read c = sym (c .before .before .before .read-shaped .ensures) ∙ ap (readPointOf (part (known c))) (c .before .info .given .1)
+read : (c : tie.After-known-told2) → let k = known c in Reads (part k) (info c)
+read c = subst (PointRead (part (known c))) (c .before .info .given .1) (c .before .before .before .read-shaped .ensures)
 
 -- tag 33 after the part
 tagged : (c : tie.Else1) → let k = known (c .before .before) in fieldOk (fieldRow 33 105 105) (slice k) (end k) ≡ true
@@ -86,7 +85,7 @@ returns-2 : tie.Need-returns-2
 returns-2 c =
     let r = c .before .before in
     let k = r .before .before in (
-      sym (front-unread (slice k) (part k) (end k) (ended k) (up-to (end k) (slice k)) (sym (r .read-shaped .ensures) ∙ ap (readPointOf (part k)) (c .enum-told2 .given .1))),
+      sym (front-unread (slice k) (part k) (end k) (ended k) (up-to (end k) (slice k)) (subst (PointRead (part k)) (c .enum-told2 .given .1) (r .read-shaped .ensures))),
       tt,
     )
 
@@ -97,7 +96,7 @@ returns-3 : tie.Need-returns-3
 returns-3 c =
     let f = c .before in
     let k = known (f .before) in (
-      sym (front-tagless (slice k) (part k) (end k) (ended k) (up-to (end k) (slice k)) _ (read (f .before)) (sym (f .field-ok .ensures) ∙ not-true _ (c .if1 .taken))),
+      sym (front-tagless (slice k) (part k) (end k) (ended k) (up-to (end k) (slice k)) _ (read (f .before) .read) (sym (f .field-ok .ensures) ∙ not-true _ (c .if1 .taken))),
       tt,
     )
 

@@ -16,14 +16,14 @@ use Rattle.judge_mismatch.proofs.maps.lacking.Tie as tie
 includes : (c : tie.After-count) →
     let a = c .before .before .before .before .args in
     c .count .result ≡ length (pairsIn (pointOf (now (a .rec)) (a .info)) 0)
-includes c = let s = c .before .before .before .before in c .count .ensures ∙ rows-count _ _ _ (c .before .includes .ensures) (map-at _ _ (readable _ _ (s .pre .0)) 0)
+includes c = let s = c .before .before .before .before in c .count .ensures ∙ rows-count _ _ _ (c .before .includes .ensures) (map-at _ _ (readable _ _ (s .pre .0 .read)) 0)
 
 witness : (c : tie.After-count2) →
     let a = c .before .before .before .before .before .before .before .before .args in
     c .count2 .result ≡ length (pairsIn (pointOf (now (a .rec)) (a .info)) 1)
 witness c =
     let s = c .before .before .before .before .before .before .before .before in
-    c .count2 .ensures ∙ rows-count _ _ _ (c .before .witness .ensures) (map-at _ _ (readable _ _ (s .pre .0)) 1)
+    c .count2 .ensures ∙ rows-count _ _ _ (c .before .witness .ensures) (map-at _ _ (readable _ _ (s .pre .0 .read)) 1)
 
 includes-requires : tie.Need-includes-requires
 includes-requires c κs = search needs
@@ -35,7 +35,7 @@ count-lacking-requires : tie.Need-count-lacking-requires
 count-lacking-requires c κs =
     let e = includes c in
     let s = c .before .before .before .before in
-    omega (arith, s .pre .1, map-at _ _ (readable _ _ (s .pre .0)) 0 .few)
+    omega (arith, s .pre .1, map-at _ _ (readable _ _ (s .pre .0 .read)) 0 .few)
 
 witness-requires : tie.Need-witness-requires
 witness-requires c κs = search needs
@@ -47,7 +47,7 @@ count-lacking-requires-2 : tie.Need-count-lacking-requires-2
 count-lacking-requires-2 c κs =
     let e = witness c in
     let s = c .before .before .before .before .before .before .before .before in
-    omega (arith, s .pre .1, map-at _ _ (readable _ _ (s .pre .0)) 1 .few)
+    omega (arith, s .pre .1, map-at _ _ (readable _ _ (s .pre .0 .read)) 1 .few)
 
 add-result : tie.Need-add-result
 add-result c =
@@ -56,7 +56,7 @@ add-result c =
     let seen = now (s .args .seen) in
     let i = zeros-few (l .before .count .result) 0 seen in
     let w = zeros-few (c .before .count2 .result) 255 seen in
-    omega (arith, includes (l .before), witness (c .before), c .count-lacking2 .ensures, l .count-lacking .ensures, map-at _ _ (readable _ _ (s .pre .0)) 0 .few, map-at _ _ (readable _ _ (s .pre .0)) 1 .few)
+    omega (arith, includes (l .before), witness (c .before), c .count-lacking2 .ensures, l .count-lacking .ensures, map-at _ _ (readable _ _ (s .pre .0 .read)) 0 .few, map-at _ _ (readable _ _ (s .pre .0 .read)) 1 .few)
 
 returns : tie.Need-returns
 returns c =

@@ -29,7 +29,7 @@ abbrev pairs : tie.After-map-of → List Pair
 pairs c = let a = start c .args in pairsIn (pointOf (now (a .rec)) (a .info)) (a .m)
 
 the-map : (c : tie.After-map-of) → MapOf (now (c .map-of .result)) (pairs c)
-the-map c = let s = start c in map-same _ _ _ (c .map-of .ensures) (map-at _ _ (readable _ _ (s .pre)) (s .args .m))
+the-map c = let s = start c in map-same _ _ _ (c .map-of .ensures) (map-at _ _ (readable _ _ (s .pre .read)) (s .args .m))
 
 peers-are : (c : tie.After-map-of) → peersOf 64 (now (c .map-of .result)) ≡ peers (pairs c)
 peers-are c = sym (peers-pairsOf _) ∙ ap peers (sym (the-map c .are))

@@ -77,7 +77,7 @@ below c =
     (omega arith, few, omega arith)
 
 maps : (c : tie.After-row-of Inv-loop μ-loop Inv-entries μ-entries) → Maps (point (c .before .before))
-maps c = maps-of _ _ (readable _ _ (start (entry (head-in (c .before .before))) .pre .0))
+maps c = maps-of _ _ (readable _ _ (start (entry (head-in (c .before .before))) .pre .0 .read))
 
 row : (c : tie.After-known-told Inv-loop μ-loop Inv-entries μ-entries) →
     let l = c .before .before .before .before .before in

@@ -12,7 +12,7 @@ includes-requires : tie.Need-includes-requires
 includes-requires c κs = search needs
 
 get-requires : tie.Need-get-requires
-get-requires c κs = rw (c .includes .ensures) (readable _ _ (c .before .before .before .before .before .pre) .includes .rise)
+get-requires c κs = rw (c .includes .ensures) (readable _ _ (c .before .before .before .before .before .pre .read) .includes .rise)
 
 enum-known-through-2 : tie.Need-enum-known-through-2
 enum-known-through-2 c = search needs
@@ -21,7 +21,7 @@ witness-requires : tie.Need-witness-requires
 witness-requires c κs = search needs
 
 get-requires-2 : tie.Need-get-requires-2
-get-requires-2 c κs = rw (c .witness .ensures) (readable _ _ (c .before .before .before .before .before .pre) .witness .rise)
+get-requires-2 c κs = rw (c .witness .ensures) (readable _ _ (c .before .before .before .before .before .pre .read) .witness .rise)
 
 returns : tie.Need-returns
 unfolding digestSafe

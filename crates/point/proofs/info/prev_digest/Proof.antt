@@ -9,7 +9,7 @@ includes-requires : tie.Need-includes-requires
 includes-requires c κs = search needs
 
 get-requires : tie.Need-get-requires
-get-requires c κs = rw (c .includes .ensures) (readable _ _ (c .before .before .before .pre) .includes .rise)
+get-requires c κs = rw (c .includes .ensures) (readable _ _ (c .before .before .before .pre .read) .includes .rise)
 
 returns : tie.Need-returns
 unfolding prevDigest

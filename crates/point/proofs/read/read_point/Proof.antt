@@ -10,7 +10,7 @@ is-well-shaped-requires : tie.Need-is-well-shaped-requires
 is-well-shaped-requires c κs = search needs
 
 returns : tie.Need-returns
-returns c = sym (unshaped _ (sym (c .before .is-well-shaped .ensures) ∙ not-true _ (c .if1 .taken)))
+returns c = unshaped _ (sym (c .before .is-well-shaped .ensures) ∙ not-true _ (c .if1 .taken))
 
 read-shaped-requires : tie.Need-read-shaped-requires
 read-shaped-requires c κs = sym (c .before .is-well-shaped .ensures) ∙ not-false _ (c .if1 .left)

@@ -1,5 +1,5 @@
 -- `read_shaped` meets its contract: a lemma for each call says what it told of the record, and each `return` rewrites with those on its way.
-use Prim.Native.Nat.{ℕ}
+use Prim.Native.Nat.{ℕ, _≤_}
 use native.Mathlib.Omega.{arith}
 use mathlib.Core.Path.{_≡_, refl, ap, sym, _∙_}
 use mathlib.Core.Bool.{true}
@@ -10,7 +10,7 @@ use borrow.Author.Needs.{needs}
 use denote.Ref.{now}
 use Rattle.record.specs.Record.{rows, rowOf, startOf, contentOf, wellShaped}
 use Rattle.record.specs.Code.{PlacesOf}
-use Rattle.record.proofs.Laws.{end-is, shaped-end, content-least}
+use Rattle.record.proofs.Laws.{end-is, shaped-end, content-least, start-most}
 use Rattle.point.specs.Reading.{readLink, readRole, readPoint}
 use Rattle.point.specs.Code.{linkOf, readLinkOf, readRoleOf}
 use Rattle.point.proofs.Laws.{reads, unrowed, shaped-reads}
@@ -84,7 +84,7 @@ are-maps-ok-requires : tie.Need-are-maps-ok-requires
 are-maps-ok-requires c κs = search needs
 
 returns : tie.Need-returns
-returns c = sym (unrowed _ (c .before .before .before .before .pre) (sym (c .before .are-maps-ok .ensures) ∙ not-true _ (c .if1 .taken)))
+returns c = unrowed _ (c .before .before .before .before .pre) (sym (c .before .are-maps-ok .ensures) ∙ not-true _ (c .if1 .taken))
 
 content-from-requires : tie.Need-content-from-requires
 content-from-requires c κs = search needs
@@ -102,7 +102,7 @@ enum-told c = search needs
 returns-2 : tie.Need-returns-2
 returns-2 c =
     let r = c .before .before in
-    sym (passed (e3 r) ∙ rw (sym (link r) ∙ ap readLinkOf (c .enum-told .given .1)))
+    passed (e3 r) ∙ rw (sym (link r) ∙ ap readLinkOf (c .enum-told .given .1))
 
 content-from-requires-2 : tie.Need-content-from-requires-2
 content-from-requires-2 c κs = search needs
@@ -120,7 +120,7 @@ enum-told-2 c = search needs
 returns-3 : tie.Need-returns-3
 returns-3 c =
     let r = c .before .before in
-    sym (passed (e3 (e4 r)) ∙ rw (has-link (r .before .before), sym (link2 r) ∙ ap readLinkOf (c .enum-told2 .given .1)))
+    passed (e3 (e4 r)) ∙ rw (has-link (r .before .before), sym (link2 r) ∙ ap readLinkOf (c .enum-told2 .given .1))
 
 content-from-requires-3 : tie.Need-content-from-requires-3
 content-from-requires-3 c κs = search needs
@@ -138,7 +138,7 @@ returns-4 : tie.Need-returns-4
 returns-4 c =
     let r = c .before .before in
     let t = r .before .before in
-    sym (passed (e3 (e4 (e5 r))) ∙ rw (has-link (t .before .before .before .before .before), has-link2 t, sym (role r) ∙ ap readRoleOf (c .enum-told3 .given .1)))
+    passed (e3 (e4 (e5 r))) ∙ rw (has-link (t .before .before .before .before .before), has-link2 t, sym (role r) ∙ ap readRoleOf (c .enum-told3 .given .1))
 
 content-from-requires-4 : tie.Need-content-from-requires-4
 unfolding startOf
@@ -156,40 +156,66 @@ content-from-requires-6 c κs =
     let k = c .before .before .before in
     ((well6 k, omega arith), (found6 k .times, sym (end-is (s6 k) _ (shaped-end (s6 k) (well6 k)))))
 
+-- places are small
+small : (c : tie.After-known-told3) (k at : ℕ) → at ≡ startOf (s6 c) k → at ≤ 41126
+small c k at e = omega (arith, e, start-most (s6 c) (well6 c) k)
+
+cast-includes-end : tie.Need-cast-includes-end
+cast-includes-end c = let k = c .before .before .before .before .before in omega (arith, small k 3 _ (found6 k .witness))
+
+cast-witness-end : tie.Need-cast-witness-end
+cast-witness-end c = let k = c .before .before .before .before .before .before in omega (arith, small k 4 _ (found6 k .evidence))
+
+cast-evidence-end : tie.Need-cast-evidence-end
+cast-evidence-end c = let k = c .before .before .before .before .before .before .before in omega (arith, small k 5 _ (found6 k .anchorProof))
+
+-- past the calls that found the contents
+abbrev told : tie.After-struct-known3 → tie.After-content-from6
+told c = c .before .before .before
+
 u32-at-requires : tie.Need-u32-at-requires
 unfolding rowOf rows
 u32-at-requires c κs =
-    let h = content-least _ (well6 (c .before .before .before .before)) 1 (omega arith) in
-    rw (c .before .content-from5 .ensures) (omega arith)
+    let t = told c in
+    let h = content-least _ (well6 (t .before .before .before .before)) 1 (omega arith) in
+    rw (t .before .content-from5 .ensures) (omega arith)
 
 u32-at-requires-2 : tie.Need-u32-at-requires-2
 unfolding rowOf rows
-u32-at-requires-2 c κs = rw (c .before .before .content-from5 .ensures) (content-least _ (well6 (c .before .before .before .before .before)) 1 (omega arith))
+u32-at-requires-2 c κs = let t = told (c .before) in rw (t .before .content-from5 .ensures) (content-least _ (well6 (t .before .before .before .before)) 1 (omega arith))
 
 u64-at-requires : tie.Need-u64-at-requires
 unfolding rowOf rows
 u64-at-requires c κs =
-    let h = content-least _ (well6 (c .before .before .before .before .before .before)) 8 (omega arith) in
-    rw (c .before .before .content-from6 .ensures) (omega arith)
+    let t = told (c .before .before) in
+    let h = content-least _ (well6 (t .before .before .before .before)) 8 (omega arith) in
+    rw (t .content-from6 .ensures) (omega arith)
 
 u64-at-requires-2 : tie.Need-u64-at-requires-2
 unfolding rowOf rows
-u64-at-requires-2 c κs = rw (c .before .before .before .content-from6 .ensures) (content-least _ (well6 (c .before .before .before .before .before .before .before)) 8 (omega arith))
+u64-at-requires-2 c κs = let t = told (c .before .before .before) in rw (t .content-from6 .ensures) (content-least _ (well6 (t .before .before .before .before)) 8 (omega arith))
 
 returns-5 : tie.Need-returns-5
 returns-5 c =
     let u = c .before .before .before in
-    let i = u .before .before .before in
-    sym (all-read (i .before .before) ∙ rw (
-      i .point-id-at .ensures,
-      i .before .content-from4 .ensures,
-      u .u32-at .ensures,
-      c .before .before .u32-at2 .ensures,
-      u .before .before .content-from5 .ensures,
-      c .before .u64-at .ensures,
-      c .u64-at2 .ensures,
-      u .before .content-from6 .ensures,
-    ))
+    let t = u .before .before .before .before in
+    let i = t .before .before in
+    let f = found6 (i .before .before) in
+    record {
+      read = all-read (i .before .before) ∙ rw (
+        i .point-id-at .ensures,
+        i .before .content-from4 .ensures,
+        u .u32-at .ensures,
+        c .before .before .u32-at2 .ensures,
+        t .before .content-from5 .ensures,
+        c .before .u64-at .ensures,
+        c .u64-at2 .ensures,
+        t .content-from6 .ensures,
+      );
+      includes = f .witness;
+      witness = f .evidence;
+      evidence = f .anchorProof;
+    }
 
 pub read-shaped-spec : {M : Type 1} → statement M
 read-shaped-spec =
@@ -217,6 +243,9 @@ read-shaped-spec =
     point-id-at-requires
     content-from-requires-5
     content-from-requires-6
+    cast-includes-end
+    cast-witness-end
+    cast-evidence-end
     u32-at-requires
     u32-at-requires-2
     u64-at-requires

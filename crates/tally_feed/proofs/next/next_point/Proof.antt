@@ -1,11 +1,11 @@
 -- `next_point` meets its contract: where the record ends, what its offer gives, and what it says; each `return` cites the law of its case.
 use Prim.Native.Nat.{ℕ, suc, _+_, _-_, _<_}
 use native.Mathlib.Omega.{arith}
-use mathlib.Core.Path.{_≡_, ap, sym, _∙_}
+use mathlib.Core.Path.{_≡_, ap, sym, _∙_, subst}
 use mathlib.Core.List.{List}
 use lib.ListN.{length, getD, take, drop, length-drop}
 use denote.Ref.{now}
-use Rattle.point.specs.Code.{pointOf, readPointOf}
+use Rattle.point.specs.Code.{pointOf, PointRead}
 use Rattle.point.specs.Reading.{readPoint}
 use Rattle.base.proofs.Lists.{rest}
 use Rattle.judge.specs.Code.{judgeAnswerOf}
@@ -52,8 +52,8 @@ same-bytes c = let e : size c + 1 - 1 ≡ size c = omega arith in ap (λ (k : �
 abbrev sizing : tie.After-read-point → tie.After-record-size
 sizing c = c .before .before
 
-said : (c : tie.After-read-point) → readPoint (bytes (sizing c)) ≡ readPointOf (part (sizing c)) (c .read-point .result)
-said c = ap readPoint (sym (same-bytes (sizing c))) ∙ sym (c .read-point .ensures)
+said : (c : tie.After-read-point) → PointRead (bytes (sizing c)) (c .read-point .result)
+said c = subst (λ (l : List ℕ). PointRead l (c .read-point .result)) (same-bytes (sizing c)) (c .read-point .ensures)
 
 -- what their offer gives
 abbrev result : tie.After-record-size → List ℕ → Result (List ℕ)
@@ -135,10 +135,10 @@ returns-2 c =
     let o = c .before .before .before .before .before .before .before .before .before in
     let k = sizing (read o) in
     let s = start k in
-    let i = pointOf (part k) (c .before .before .before .read .given .0 .0) in
-    let e = ap (readPointOf (part k)) (c .before .before .before .read .given .1) in
+    let i = pointOf (bytes k) (c .before .before .before .read .given .0 .0) in
+    let e = subst (PointRead (bytes k)) (c .before .before .before .read .given .1) (said (read o)) .read in
     gives-point (now (s .args .book)) (now (s .args .peers)) (length (feed s)) (next s) (s .args .place) (size k) (result k (bytes k)) _ _ _
-    (gave o) (left o) (wrote o) i (c .line-of .result) (offers k ∙ ap (offeredAs _ _ _) (said (read o) ∙ e)) (c .line-of .ensures) (inside k)
+    (gave o) (left o) (wrote o) i (c .line-of .result) (offers k ∙ ap (offeredAs _ _ _) e) (c .line-of .ensures) (inside k)
 
 same-length-3 : tie.Need-same-length-3
 same-length-3 c = search needs
@@ -151,9 +151,9 @@ returns-3 c =
     let o = c .before .before .before .before .before .before .before in
     let k = sizing (read o) in
     let s = start k in
-    let e = ap (readPointOf (part k)) (c .before .enum-told .given .1) in
+    let e = subst (PointRead (bytes k)) (c .before .enum-told .given .1) (said (read o)) in
     gives-last (now (s .args .book)) (now (s .args .peers)) (length (feed s)) (next s) (s .args .place) (size k) (result k (bytes k)) _ _ _
-    (gave o) (left o) (wrote o) (c .line-of2 .result) (offers k ∙ ap (offeredAs _ _ _) (said (read o) ∙ e)) (c .line-of2 .ensures)
+    (gave o) (left o) (wrote o) (c .line-of2 .result) (offers k ∙ ap (offeredAs _ _ _) e) (c .line-of2 .ensures)
 
 pub next-point-spec : {M : Type 1} → statement M
 next-point-spec =
