@@ -1,22 +1,28 @@
 -- The example: the checker computes it.
 use Prim.Native.Nat.{ℕ, zero, suc}
-use mathlib.Core.Path.{_≡_, refl}
+use mathlib.Core.Path.{_≡_, refl, ap, _∙_}
+use mathlib.Core.Logic.{inl, inr}
 use mathlib.Core.Bool.{Bool, true, _&&_}
 use mathlib.Core.Option.{some}
-use mathlib.Core.List.{List, [], _∷_}
+use mathlib.Core.List.{List, [], _∷_, List·Memᴰ, List·Memᴰ·head, List·Memᴰ·tail}
+use lib.ListN.{length}
 use lib.Dec.{ltb, lit<, lit≤}
 use borrow.Author.Tests.{ltb-true}
+use Rattle.base.specs.Base.{concat}
 use Rattle.base.proofs.Bool.{and-left, and-right}
 use Rattle.parts.specs.Bytes.{littleAt, bigAt, Bytes}
 use Rattle.map.specs.Rows.{pairsOf, peers}
+use Rattle.point.specs.Point.{source, target}
 use Rattle.schedule.specs.Settings.{readSettings}
 use Rattle.rules.specs.Mismatch.{mismatch, uncovered}
 use Rattle.rules.specs.Validate.{validate}
-use Rattle.books.specs.Kept.{mark}
-use Rattle.books.specs.Offer.{Offer, offer}
-use Rattle.books.specs.Run.{run, AreBytes}
-use Rattle.books.specs.Following.{follow}
-use Rattle.books.specs.Example.{settingsBytes, scheduleBytes, recordBytes, conf, slice, offers, plain, given, expectedAnswers, expectedBook, Example}
+use Rattle.books.specs.Kept.{Valid, Invalid, mark}
+use Rattle.books.specs.Offer.{Offer, used, offer}
+use Rattle.books.specs.Run.{Run, run, AreBytes}
+use Rattle.books.specs.Layout.{entriesBytes, bookBytes}
+use Rattle.books.specs.Calls.{openBytes, laidOut, offerBytes}
+use Rattle.books.specs.FoundBook.{FoundBook}
+use Rattle.books.specs.Example.{settingsBytes, scheduleBytes, recordBytes, conf, slice, genesis, first, second, offers, plain, given, expectedAnswers, entry, expectedBook, expectedEntries, expectedSlice, Example}
 use Rattle.books.proofs.FoundBooks.{found-books}
 
 -- ---- the records are bytes
@@ -59,8 +65,45 @@ as-left : plain .last .book ≡ expectedBook
 unfolding run offer recordBytes scheduleBytes littleAt bigAt pairsOf peers mark mismatch uncovered validate
 as-left = refl
 
+as-found : FoundBook (settingsBytes conf) conf (length slice) (run offerBytes (openBytes (settingsBytes conf) slice) offers) plain
+as-found = found-books (settingsBytes conf) slice conf offers reads (lit≤ tt) (lit≤ tt) (below-all offers all-below) .1
+
+-- ---- the slice
+
+as-entries : entriesBytes expectedBook ≡ concat expectedEntries
+unfolding entriesBytes concat
+as-entries = refl
+
+as-used : used expectedBook ≡ 4946
+unfolding used recordBytes
+as-used = refl
+
+as-written : bookBytes (settingsBytes conf) (length slice) expectedBook ≡ expectedSlice
+unfolding bookBytes
+as-written = rw (as-entries, as-used)
+
+as-laid : run offerBytes (openBytes (settingsBytes conf) slice) offers .last ≡ expectedSlice
+unfolding laidOut
+as-laid =
+    let s = as-found .stays in
+    ap (λ (x : Run (List ℕ)). x .last) (as-found .same)
+    ∙ (ap (λ (l : List ℕ). bookBytes l (plain .last .length) (plain .last .book)) (s .0)
+    ∙ (ap (λ (n : ℕ). bookBytes (settingsBytes conf) n (plain .last .book)) (s .1 .1)
+    ∙ (ap (bookBytes (settingsBytes conf) (length slice)) as-left ∙ as-written)))
+
+-- ---- two links
+
+at-genesis : List·Memᴰ (entry genesis Valid true) expectedBook
+at-genesis = List·Memᴰ·head refl
+
+at-first : List·Memᴰ (entry first (Invalid 4) true) expectedBook
+at-first = List·Memᴰ·tail (List·Memᴰ·head refl)
+
+at-second : List·Memᴰ (entry second Valid true) expectedBook
+at-second = List·Memᴰ·tail (List·Memᴰ·tail (List·Memᴰ·head refl))
+
 pub example : Example
-unfolding follow
+unfolding source target
 example =
     record {
       readable = reads;
@@ -69,7 +112,11 @@ example =
       bytes = below-all offers all-below;
       answers = as-given;
       book = as-left;
-      reaches = refl;
-      stops = refl;
-      found = found-books (settingsBytes conf) slice conf offers reads (lit≤ tt) (lit≤ tt) (below-all offers all-below) .1;
+      laid = as-laid;
+      reaches = (
+        (entry second Valid true, (at-second, (refl, inr ((refl, (tt, tt)), (entry genesis Valid true, (at-genesis, (refl, inl refl))))))),
+        (refl, (tt, tt)),
+      );
+      stops = ((entry first (Invalid 4) true, (at-first, (refl, inl refl))), (refl, tt));
+      found = as-found;
     }

@@ -1,6 +1,6 @@
 -- Laws of the entry of an id: where it is found, that no id stands twice, and what a mark changes.
 use mathlib.Core.Path.{_≡_, refl, ap, sym, _∙_}
-use mathlib.Core.Logic.{_⊎_, inl, inr}
+use mathlib.Core.Logic.{_⊎_, inl, inr, _↔_}
 use mathlib.Core.Bool.{Bool, true, false}
 use mathlib.Core.Option.{none, some, Option·map}
 use mathlib.Core.List.{[], _∷_, _++_, List·Memᴰ, List·Memᴰ·head, List·Memᴰ·tail, List·Memᴰ·not-nil, List·Memᴰ·cases-cons}
@@ -11,6 +11,11 @@ use Rattle.point.specs.Point.{PointId, sameId}
 use Rattle.point.proofs.Ids.{same-refl, same-eq, same-sym}
 use Rattle.books.specs.Kept.{Kept, Book, findKept, isTwice, markOne, mark}
 use Rattle.books.specs.FoundBook.{NoIdTwice}
+
+-- an entry that stands first is found by its id
+first-found : (k : Kept) (b : Book) → findKept (k ∷ b) (k .point .id) ≡ some k
+unfolding findKept
+first-found k b = rw (same-refl (k .point .id)) refl
 
 pub find-id : (b : Book) (i : PointId) (k : Kept) → findKept b i ≡ some k → k .point .id ≡ i
 unfolding findKept
@@ -73,8 +78,12 @@ once-found (x ∷ b) h k m = go (once-found b (once-rest x b h) k) (List·Memᴰ
     later false e f = f
 
     go : (List·Memᴰ k b → findKept b (k .point .id) ≡ some k) → (k ≡ x) ⊎ List·Memᴰ k b → pick (sameId (x .point .id) (k .point .id)) (some x) (findKept b (k .point .id)) ≡ some k
-    go next (inl e) = rw e (rw (same-refl (x .point .id)) refl)
+    go next (inl e) = rw e (first-found x b)
     go next (inr n) = later (sameId (x .point .id) (k .point .id)) refl (next n)
+
+-- by an id the entry of that id is found, and nothing else
+pub find-exact : (b : Book) → isTwice b ≡ false → (i : PointId) (k : Kept) → (findKept b i ≡ some k) ↔ (List·Memᴰ k b × (k .point .id ≡ i))
+find-exact b h i k = (λ e. (find-member b i k e, find-id b i k e), λ x. ap (findKept b) (sym (x .1)) ∙ once-found b h k (x .0))
 
 pub no-id-twice : (b : Book) → isTwice b ≡ false → NoIdTwice b
 no-id-twice [] h = tt

@@ -2,23 +2,21 @@
 use Prim.Native.Nat.{ℕ, zero, suc, _+_, _-_, _≤_, _<_}
 use native.Mathlib.Omega.{arith}
 use mathlib.Core.Path.{_≡_, refl, sym, ap, _∙_, subst}
-use mathlib.Core.Bool.{Bool, true, false, not, and-false}
-use mathlib.Core.Option.{Option, some}
+use mathlib.Core.Logic.{_⊎_, inl, inr}
+use mathlib.Core.Bool.{Bool, true, false, not}
+use mathlib.Core.Option.{some}
 use mathlib.Core.List.{List·Memᴰ}
 use lib.Dec.{T}
 use Rattle.base.proofs.Impossible.{impossible}
-use Rattle.base.proofs.Bool.{clash}
 use Rattle.map.specs.Rows.{Pair}
-use Rattle.point.specs.Point.{PointId, Through, Includes, Witness, PointInfo, isAnchorProof, isAnchorStage, throughRound, through, anchorLink, source, target, top, sameId}
+use Rattle.point.specs.Point.{PointId, Through, Includes, Witness, PointInfo, isAnchorProof, isAnchorStage, throughRound, through, anchorLink, source, target, top}
 use Rattle.point.specs.declared.data.AnchorStageRole.{AnchorStageRole}
 use Rattle.point.specs.declared.data.AnchorStageRole.the-variants.{Proof, Trigger}
-use Rattle.point.proofs.Ids.{eq-same}
 use Rattle.schedule.specs.Settings.{Settings}
 use Rattle.rules.specs.Mismatch.{pairId}
-use Rattle.books.specs.Kept.{Status, Valid, TransInvalid, Invalid, IllFormed, Kept, Book, findKept}
-use Rattle.books.specs.Following.{isIllFormed, End, reached, stopped, astray, onward, arrive, stepTo, follow, isUsable}
-use Rattle.books.specs.FoundBook.{IsEnd}
-use Rattle.books.proofs.Find.{find-id, find-member}
+use Rattle.books.specs.Kept.{Status, Valid, TransInvalid, Invalid, IllFormed, Kept, Book, findKept, isTwice}
+use Rattle.books.specs.Following.{isIllFormed, isUsable, IsReached, IsStopped, IsPassed, Way}
+use Rattle.books.proofs.Find.{find-id, find-member, once-found}
 
 -- ---- what holds of an entry
 
@@ -72,43 +70,37 @@ module _ (g : AnchorStageRole) (q : PointInfo) where
   unfolding top
   top-linked h = rw h
 
-yes-is : (b : Bool) → T b → b ≡ true
-yes-is true h = refl
-yes-is false h = absurd h
+pub no-is : (b : Bool) → T (not b) → b ≡ false
+no-is true h = absurd h
+no-is false h = refl
 
-module _ (g : AnchorStageRole) (to : PointId) (k : Kept) (rest : End) where
-  arrive-own : T (not (isIllFormed (k .status))) → isAnchorStage g (k .point .role) ≡ true → k .point .id ≡ to →
-      arrive g to k rest ≡ reached k
-  unfolding arrive
-  arrive-own f s e = rw (eq-same (k .point .id) to e, s, yes-is (not (isIllFormed (k .status))) f)
+module _ (g : AnchorStageRole) (to : PointId) (k : Kept) where
+  past : (s : Status) → k .status ≡ s → T (not (isIllFormed s)) → isAnchorStage g (k .point .role) ≡ false → target g (k .point) ≡ to → IsStopped g to k ⊎ IsPassed g to k
+  past Valid q f r l = inr (l, (rw q tt, rw r tt))
+  past (TransInvalid d) q f r l = inr (l, (rw q tt, rw r tt))
+  past (Invalid n) q f r l = inl (l, rw q tt)
+  past (IllFormed n) q f r l = absurd f
 
-  arrive-past : isAnchorStage g (k .point .role) ≡ false → target g (k .point) ≡ to → arrive g to k rest ≡ onward k rest (k .status)
-  unfolding arrive
-  arrive-past s e = rw (s, and-false (sameId (k .point .id) to), eq-same (target g (k .point)) to e)
+  -- a point whose top is the target is the target, or an Invalid point that links it, or one to go on from
+  arrives : T (not (isIllFormed (k .status))) → top g (k .point) ≡ to → IsReached g to k ⊎ (IsStopped g to k ⊎ IsPassed g to k)
+  arrives f e = go (isAnchorStage g (k .point .role)) refl
+    where
+      go : (t : Bool) → isAnchorStage g (k .point .role) ≡ t → IsReached g to k ⊎ (IsStopped g to k ⊎ IsPassed g to k)
+      go true r = inl (sym (top-own g (k .point) r) ∙ e, (rw r tt, f))
+      go false r = inr (past (k .status) refl f r (sym (top-linked g (k .point) r) ∙ e))
 
-  module _ (b : Book) (m : List·Memᴰ k b) where
-    onward-ends : (s : Status) → k .status ≡ s → T (not (isIllFormed s)) → target g (k .point) ≡ to → (T (isUsable s) → IsEnd b g to rest) →
-        IsEnd b g to (onward k rest s)
-    onward-ends Valid q f e h = h tt
-    onward-ends (TransInvalid d) q f e h = h tt
-    onward-ends (Invalid n) q f e h = (m, (e, rw q tt))
-    onward-ends (IllFormed n) q f e h = absurd f
+-- ---- the way
 
-    -- a step to a point whose top is the target arrives, or goes on from a Valid or TransInvalid point that links it
-    arrive-ends : T (not (isIllFormed (k .status))) → top g (k .point) ≡ to →
-        (T (isUsable (k .status)) → isAnchorStage g (k .point .role) ≡ false → target g (k .point) ≡ to → IsEnd b g to rest) →
-        IsEnd b g to (arrive g to k rest)
-    arrive-ends f e h = go (isAnchorStage g (k .point .role)) refl
-      where
-        go : (t : Bool) → isAnchorStage g (k .point .role) ≡ t → IsEnd b g to (arrive g to k rest)
-        go true s =
-            let own : k .point .id ≡ to = sym (top-own g (k .point) s) ∙ e in
-            rw (arrive-own f s own) (m, (own, (rw s tt, f)))
-        go false s =
-            let l : target g (k .point) ≡ to = sym (top-linked g (k .point) s) ∙ e in
-            rw (arrive-past s l) (onward-ends (k .status) refl f l (λ u. h u s l))
+-- where a way ends
+abbrev pub Ends : Book → AnchorStageRole → PointId → ℕ → PointInfo → Type 0
+Ends b g to n p = (e : Kept) × (Way b g to n p e × (IsReached g to e ⊎ IsStopped g to e))
 
--- ---- the walk
+-- one step ends a way, or a way goes on after it
+step : (b : Book) (g : AnchorStageRole) (to : PointId) (n : ℕ) (p : PointInfo) (k : Kept) → List·Memᴰ k b → k .point .id ≡ source g p →
+    (IsPassed g to k → Ends b g to n (k .point)) → IsReached g to k ⊎ (IsStopped g to k ⊎ IsPassed g to k) → Ends b g to (suc n) p
+step b g to n p k m i next (inl r) = (k, ((k, (m, (i, inl refl))), inl r))
+step b g to n p k m i next (inr (inl s)) = (k, ((k, (m, (i, inl refl))), inr s))
+step b g to n p k m i next (inr (inr h)) = let x = next h in (x .0, ((k, (m, (i, inr (h, x .1 .0)))), x .1 .1))
 
 module _ (c : Settings) (b : Book) (all : AllStand c b) where
   -- a point that is not ill-formed and has not the role stands above genesis
@@ -120,63 +112,43 @@ module _ (c : Settings) (b : Book) (all : AllStand c b) where
       omega (arith, apart)
 
   pub follow-ends : (g : AnchorStageRole) (to : PointId) (n : ℕ) (p : PointInfo) (s : Status) → Stands c b p s → T (isUsable s) →
-      c .genesisRound < p .id .round → target g p ≡ to → p .id .round ≤ c .genesisRound + n → IsEnd b g to (follow g b to n p)
-  unfolding follow
+      c .genesisRound < p .id .round → target g p ≡ to → p .id .round ≤ c .genesisRound + n → Ends b g to n p
   follow-ends g to zero p s w u a e h = absurd (omega arith)
   follow-ends g to (suc n) p s w u a e h =
       let l : Linked b p g = w .linked u a g in
       let k : Kept = l .entry in
       let m : List·Memᴰ k b = find-member b (source g p) k (l .kept) in
+      let i : k .point .id ≡ source g p = find-id b (source g p) k (l .kept) in
       let less : source g p .round < p .id .round = source-lower g p (omega arith) in
-      let same : k .point .id .round ≡ source g p .round = ap (λ (i : PointId). i .round) (find-id b (source g p) k (l .kept)) in
-      subst (λ (o : Option Kept). IsEnd b g to (stepTo g to o (λ q. follow g b to n q))) (sym (l .kept))
-      (arrive-ends g to k (follow g b to n (k .point)) b m (l .formed) (l .leads ∙ e)
-      (λ v t f. follow-ends g to n (k .point) (k .status) (all k m) v (above g k m (l .formed) t) f (omega arith)))
+      let same : k .point .id .round ≡ source g p .round = ap (λ (j : PointId). j .round) i in
+      step b g to n p k m i
+      (λ v. follow-ends g to n (k .point) (k .status) (all k m) (v .1 .0) (above g k m (l .formed) (no-is _ (v .1 .1))) (v .0) (omega arith))
+      (arrives g to k (l .formed) (l .leads ∙ e))
 
--- ---- the anchor time
+  -- ---- the anchor time
 
-abbrev isReached : End → Bool
-isReached (reached k) = true
-isReached (stopped k) = false
-isReached astray = false
+  module _ (once : isTwice b ≡ false) where
+    -- the source of a link is the entry that a way goes to
+    sourced : (g : AnchorStageRole) (p : PointInfo) (l : Linked b p g) (k : Kept) → List·Memᴰ k b → k .point .id ≡ source g p → l .entry ≡ k
+    sourced g p l k m i =
+        let e : some (l .entry) ≡ some k = sym (l .kept) ∙ (ap (findKept b) (sym i) ∙ once-found b once k m) in
+        cc
 
-unreached : (x : End) (e : Kept) → isReached x ≡ false → x ≡ reached e → ⊥
-unreached x e h f = clash (isReached x) (ap isReached f) h
+    after : (to : PointId) (n time : ℕ) (k e : Kept) → k .point .anchorTime ≡ time →
+        (IsPassed Proof to k → Way b Proof to n (k .point) e → e .point .anchorTime ≡ k .point .anchorTime) →
+        (k ≡ e) ⊎ (IsPassed Proof to k × Way b Proof to n (k .point) e) → e .point .anchorTime ≡ time
+    after to n time k e own next (inl q) = ap (λ (y : Kept). y .point .anchorTime) (sym q) ∙ own
+    after to n time k e own next (inr h) = next (h .0) (h .1) ∙ own
 
--- past a point that is not the target, only a Valid or TransInvalid one leads on
-onward-reached : (k : Kept) (rest : End) (e : Kept) (s : Status) → onward k rest s ≡ reached e → T (isUsable s) × (rest ≡ reached e)
-onward-reached k rest e Valid h = (tt, h)
-onward-reached k rest e (TransInvalid d) h = (tt, h)
-onward-reached k rest e (Invalid n) h = absurd (unreached (stopped k) e refl h)
-onward-reached k rest e (IllFormed n) h = absurd (unreached astray e refl h)
-
--- a step towards a proof carries the anchor time, if the walk after it does
-step-time : (to : PointId) (k : Kept) (rest : End) (e : Kept) (time : ℕ) → T (not (isIllFormed (k .status))) → top Proof (k .point) ≡ to → k .point .anchorTime ≡ time →
-    (T (isUsable (k .status)) → isAnchorProof (k .point .role) ≡ false → target Proof (k .point) ≡ to → rest ≡ reached e → e .point .anchorTime ≡ time) →
-    arrive Proof to k rest ≡ reached e → e .point .anchorTime ≡ time
-step-time to k rest e time formed l t f h = go (isAnchorProof (k .point .role)) refl
-  where
-    go : (b : Bool) → isAnchorProof (k .point .role) ≡ b → e .point .anchorTime ≡ time
-    go true s =
-        let x : reached k ≡ reached e = sym (arrive-own Proof to k rest formed s (sym (top-own Proof (k .point) s) ∙ l)) ∙ h in
-        let q : e ≡ k = cc in
-        ap (λ (y : Kept). y .point .anchorTime) q ∙ t
-    go false s =
-        let linked : target Proof (k .point) ≡ to = sym (top-linked Proof (k .point) s) ∙ l in
-        let o = onward-reached k rest e (k .status) (sym (arrive-past Proof to k rest s linked) ∙ h) in
-        f (o .0) s linked (o .1)
-
-module _ (c : Settings) (b : Book) (all : AllStand c b) where
-  pub follow-time : (to : PointId) (n : ℕ) (p : PointInfo) (s : Status) → Stands c b p s → T (isUsable s) →
-      c .genesisRound < p .id .round → target Proof p ≡ to → isAnchorProof (p .role) ≡ false →
-      (e : Kept) → follow Proof b to n p ≡ reached e → e .point .anchorTime ≡ p .anchorTime
-  unfolding follow
-  follow-time to zero p s w u a l r e h = absurd (unreached astray e refl h)
-  follow-time to (suc n) p s w u a l r e h =
-      let x : Linked b p Proof = w .linked u a Proof in
-      let k : Kept = x .entry in
-      let m : List·Memᴰ k b = find-member b (source Proof p) k (x .kept) in
-      let own : k .point .anchorTime ≡ p .anchorTime = x .inherited r in
-      step-time to k (follow Proof b to n (k .point)) e (p .anchorTime) (x .formed) (x .leads ∙ l) own
-      (λ v t d g. follow-time to n (k .point) (k .status) (all k m) v (above c b all Proof k m (x .formed) t) d t e g ∙ own)
-      (subst (λ (o : Option Kept). stepTo Proof to o (λ q. follow Proof b to n q) ≡ reached e) (x .kept) h)
+    pub follow-time : (to : PointId) (n : ℕ) (p : PointInfo) (s : Status) → Stands c b p s → T (isUsable s) →
+        c .genesisRound < p .id .round → isAnchorProof (p .role) ≡ false → (e : Kept) → Way b Proof to n p e → e .point .anchorTime ≡ p .anchorTime
+    follow-time to zero p s w u a r e h = absurd h
+    follow-time to (suc n) p s w u a r e h =
+        let x : Linked b p Proof = w .linked u a Proof in
+        let same : x .entry ≡ h .0 = sourced Proof p x (h .0) (h .1 .0) (h .1 .1 .0) in
+        let own : h .0 .point .anchorTime ≡ p .anchorTime = subst (λ (k : Kept). k .point .anchorTime ≡ p .anchorTime) same (x .inherited r) in
+        let formed : T (not (isIllFormed (h .0 .status))) = subst (λ (k : Kept). T (not (isIllFormed (k .status)))) same (x .formed) in
+        after to n (p .anchorTime) (h .0) e own
+        (λ v rest. follow-time to n (h .0 .point) (h .0 .status) (all (h .0) (h .1 .0)) (v .1 .0)
+        (above Proof (h .0) (h .1 .0) formed (no-is _ (v .1 .1))) (no-is _ (v .1 .1)) e rest)
+        (h .1 .1 .1)

@@ -5,29 +5,34 @@ use mathlib.Core.Logic.{_↔_}
 use mathlib.Core.List.{List, List·Memᴰ}
 use lib.ListN.{length}
 use Rattle.parts.specs.Bytes.{Bytes}
+use Rattle.schedule.specs.Settings.{Settings}
 use Rattle.rules.specs.Judge.{Number}
 use Rattle.books.specs.Kept.{Kept, Opened}
 use Rattle.books.specs.Offer.{Offer, offer}
 use Rattle.books.specs.Run.{Run}
 use Rattle.books.specs.Calls.{opened, laidOut, inBytes, offerBytes}
 use Rattle.books.specs.FoundBook.{Left, allLeft, leftIn, WasKept, HasNoRoom, everMarked, NextOffer, FoundBook, FoundBooks}
-use Rattle.books.proofs.Find.{once-found, no-id-twice}
+use Rattle.books.proofs.Find.{find-exact, once-found, no-id-twice}
 use Rattle.books.proofs.Offered.{numbers, number-unchanged}
 use Rattle.books.proofs.Following.{AllStand}
 use Rattle.books.proofs.Found.{found-dependencies, found-links, found-times}
 use Rattle.books.proofs.Marks.{isCertified}
 use Rattle.books.proofs.LeftEntries.{left-in-slice}
-use Rattle.books.proofs.Invariant.{sound-reads, offer-bytes, Invariant, opens, invariant}
+use Rattle.books.proofs.Invariant.{sound-reads, laid-length, offer-bytes, Invariant, opens, invariant}
 use Rattle.books.proofs.NextOffer.{next-tests, next-again, next-no-room}
 use Rattle.books.proofs.Judged.{next-judged}
 use Rattle.books.proofs.Clean.{next-clean, next-caught}
 
-module _ (start : Opened) (found : Run (List ℕ)) (plain : Run Opened) (h : Invariant start found plain) where
+module _ (settings : List ℕ) (c : Settings) (len : ℕ) (found : Run (List ℕ)) (plain : Run Opened) (h : Invariant (opened settings c len) found plain) where
   abbrev z : Opened
   z = plain .last
 
-  stands : AllStand (start .settings) (z .book)
-  stands = subst (λ (x : Opened). AllStand (x .settings) (z .book)) (h .stays) (h .sound .stands)
+  -- the settings and the length are those that were given
+  given : (z .bytes ≡ settings) × ((z .settings ≡ c) × (z .length ≡ len))
+  given = (ap (λ (x : Opened). x .bytes) (h .stays), (ap (λ (x : Opened). x .settings) (h .stays), ap (λ (x : Opened). x .length) (h .stays)))
+
+  stands : AllStand c (z .book)
+  stands = subst (λ (x : Settings). AllStand x (z .book)) (given .1 .0) (h .sound .stands)
 
   marks : (k : Kept) → List·Memᴰ k (z .book) → k .certified ≡ everMarked (plain .moments) (k .point .id)
   marks k m = ap isCertified (sym (once-found (z .book) (h .sound .shape .once) k m)) ∙ h .marks (k .point .id)
@@ -53,23 +58,25 @@ module _ (start : Opened) (found : Run (List ℕ)) (plain : Run Opened) (h : Inv
         caught = next-caught plain o (h .sound) marks;
       }
 
-  found-book : FoundBook start found plain
+  found-book : FoundBook settings c len found plain
   found-book =
       record {
         same = h .same;
         reads = rw last-bytes (sound-reads z (h .sound));
-        stays = (ap (λ (x : Opened). x .bytes) (h .stays), (ap (λ (x : Opened). x .settings) (h .stays), ap (λ (x : Opened). x .length) (h .stays)));
+        stays = given;
+        long = ap length last-bytes ∙ (laid-length z (h .sound) ∙ given .1 .1);
         once = no-id-twice (z .book) (h .sound .shape .once);
         few = h .sound .shape .few;
         says = λ k m. h .sound .shape .entries k m .read;
+        finds = λ i k. find-exact (z .book) (h .sound .shape .once) i k;
         kept = kept;
-        dependencies = found-dependencies (start .settings) (z .book) stands;
-        links = found-links (start .settings) (z .book) stands;
-        times = found-times (start .settings) (z .book) stands;
+        dependencies = found-dependencies c (z .book) stands;
+        links = found-links c (z .book) stands;
+        times = λ k u. found-times c (z .book) stands k u (h .sound .shape .once);
         marks = marks;
         next = λ o w. subst (NextOffer found plain o) (sym (ap (λ (s : List ℕ). offerBytes s o) last-bytes ∙ offer-bytes z (h .sound) o)) (next-offer o w);
       }
 
 pub found-books : FoundBooks
 found-books settings slice c l r least most w =
-    (opens settings slice c r least most, found-book (opened settings c (length slice)) _ _ (invariant settings slice c r least most l w))
+    (opens settings slice c r least most, found-book settings c (length slice) _ _ (invariant settings slice c r least most l w))

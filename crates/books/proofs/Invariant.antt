@@ -18,7 +18,7 @@ use Rattle.books.specs.Layout.{readBook}
 use Rattle.books.specs.Calls.{openNumber, openBytes, opened, laidOut, inBytes, offerTo, offerBytes}
 use Rattle.books.specs.FoundBook.{Left, leaves, allLeft, leftIn, covers, everMarked, runInBytes}
 use Rattle.books.proofs.Shape.{Shape, empty-shape}
-use Rattle.books.proofs.RoundTrip.{book-reads}
+use Rattle.books.proofs.RoundTrip.{settings-length, book-length, book-reads}
 use Rattle.books.proofs.Offered.{offer-within, offer-shape, offer-room}
 use Rattle.books.proofs.Following.{AllStand}
 use Rattle.books.proofs.Kept.{offer-stands, empty-stands}
@@ -45,6 +45,11 @@ module _ (z : Opened) (h : Sound z) where
   pub sound-reads : readBook (laidOut z) ≡ some z
   unfolding laidOut
   sound-reads = book-reads (z .bytes) (z .settings) (z .length) (z .book) (h .settings) (h .short) (h .shape) (h .room)
+
+  -- its slice is as long as it says
+  pub laid-length : length (laidOut z) ≡ z .length
+  unfolding laidOut
+  laid-length = book-length (z .bytes) (z .length) (z .book) (settings-length (z .bytes) (z .settings) (h .settings)) (h .room)
 
   -- an offer to its slice is an offer to it
   pub offer-bytes : (o : Offer) → offerBytes (laidOut z) o ≡ inBytes (offer z o)

@@ -28,8 +28,8 @@ use Rattle.books.specs.Offer.{Offer, offer, offerOf}
 use Rattle.books.specs.Run.{Run, run, AreBytes}
 use Rattle.books.specs.Layout.{idBytes, throughBytes}
 use Rattle.books.specs.Calls.{openBytes, opened, offerBytes}
-use Rattle.books.specs.Following.{reached, stopped}
-use Rattle.books.specs.FoundBook.{FoundBook, followed}
+use Rattle.books.specs.Following.{IsReached, IsStopped}
+use Rattle.books.specs.FoundBook.{FoundBook, Followed}
 
 -- ---- bytes of settings, schedules and points (docs/FORMAT.md)
 
@@ -237,6 +237,42 @@ expectedBook =
     ∷ entry last (Invalid 18) false
     ∷ []
 
+-- ---- the slice after them, its tags 33 written out: "state, certified, reason, root id, root's reason, map and peer it came through; zeros
+-- where none", with the states "0 valid, 1 trans-invalid, 2 invalid, 3 ill-formed"
+
+abbrev pub tag33 : ℕ → ℕ → ℕ → List ℕ → List ℕ
+tag33 state certified reason root = 33 ∷ 105 ∷ 0 ∷ state ∷ certified ∷ reason ∷ root
+
+abbrev pub noRoot : List ℕ
+noRoot = replicate 102 0
+
+-- `first`: its round 11, its digest 111 and its author 1; its reason 4; that it came through the includes, of peer 1
+abbrev pub firstAsRoot : List ℕ
+firstAsRoot =
+    concat
+    ((11 ∷ 0 ∷ 0 ∷ 0 ∷ [])
+    ∷ replicate 31 0 ∷ (111 ∷ []) ∷ replicate 31 0 ∷ (1 ∷ [])
+    ∷ (4 ∷ [])
+    ∷ (0 ∷ []) ∷ replicate 31 0 ∷ (1 ∷ [])
+    ∷ [])
+
+abbrev pub expectedEntries : List (List ℕ)
+expectedEntries =
+    (recordBytes genesis ++ tag33 0 1 0 noRoot)
+    ∷ (recordBytes first ++ tag33 2 1 4 noRoot)
+    ∷ (recordBytes second ++ tag33 0 1 0 noRoot)
+    ∷ (recordBytes third ++ tag33 0 0 0 noRoot)
+    ∷ (recordBytes dependent ++ tag33 1 0 0 firstAsRoot)
+    ∷ (recordBytes covering ++ tag33 0 1 0 noRoot)
+    ∷ (recordBytes near ++ tag33 3 0 16 noRoot)
+    ∷ (recordBytes skipping ++ tag33 2 0 9 noRoot)
+    ∷ (recordBytes last ++ tag33 2 0 18 noRoot)
+    ∷ []
+
+-- settings, entries, and the seven zeros that are left of 5,000 bytes
+abbrev pub expectedSlice : List ℕ
+expectedSlice = settingsBytes conf ++ (concat expectedEntries ++ replicate 7 0)
+
 pub record Example : Type 0 where
   -- what the statement asks of settings, slice and offers
   pub readable : readSettings (settingsBytes conf) ≡ some conf
@@ -246,8 +282,9 @@ pub record Example : Type 0 where
   -- what the offers get, and what they leave
   pub answers : given ≡ expectedAnswers
   pub book : plain .last .book ≡ expectedBook
-  -- a link that reaches its target, and one that ends at an invalid point
-  pub reaches : followed conf expectedBook Proof covering ≡ reached (entry genesis Valid true)
-  pub stops : followed conf expectedBook Proof dependent ≡ stopped (entry first (Invalid 4) true)
+  pub laid : run offerBytes (openBytes (settingsBytes conf) slice) offers .last ≡ expectedSlice
+  -- a link that leads to its target, and one that ends at an invalid point
+  pub reaches : Followed conf expectedBook Proof covering (entry genesis Valid true) × IsReached Proof (genesis .id) (entry genesis Valid true)
+  pub stops : Followed conf expectedBook Proof dependent (entry first (Invalid 4) true) × IsStopped Proof (genesis .id) (entry first (Invalid 4) true)
   -- the statement, of this book
-  pub found : FoundBook (opened (settingsBytes conf) conf (length slice)) (run offerBytes (openBytes (settingsBytes conf) slice) offers) plain
+  pub found : FoundBook (settingsBytes conf) conf (length slice) (run offerBytes (openBytes (settingsBytes conf) slice) offers) plain

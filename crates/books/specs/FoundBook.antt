@@ -12,7 +12,7 @@ use Rattle.base.specs.Base.{isSome}
 use Rattle.parts.specs.Bytes.{Bytes}
 use Rattle.parts.specs.Limits.{entriesStart, tag33Length, mostKept, longestBook}
 use Rattle.map.specs.Rows.{Pair}
-use Rattle.point.specs.Point.{PointId, Through, Includes, Witness, Indirect, PointInfo, isAnchorProof, isAnchorStage, anchorLink, target, top, prevId}
+use Rattle.point.specs.Point.{PointId, Through, Includes, Witness, Indirect, PointInfo, isAnchorProof, anchorLink, target, top, prevId}
 use Rattle.point.specs.Reading.{readPoint}
 use Rattle.point.specs.declared.data.AnchorStageRole.{AnchorStageRole}
 use Rattle.point.specs.declared.data.AnchorStageRole.the-variants.{Proof}
@@ -29,7 +29,7 @@ use Rattle.books.specs.Run.{Moment, Run, momentOf, run, AreBytes}
 use Rattle.books.specs.Layout.{readBook}
 use Rattle.books.specs.ListFor.{listFor}
 use Rattle.books.specs.Calls.{openNumber, openBytes, opened, laidOut, inBytes, offerBytes, IsOfferNumber}
-use Rattle.books.specs.Following.{isInvalid, isIllFormed, isUsable, End, reached, stopped, astray, follow}
+use Rattle.books.specs.Following.{isIllFormed, isUsable, IsReached, IsStopped, Way}
 
 -- ---- what the offers did: their entries by their answers, their marks by the rule
 
@@ -155,15 +155,9 @@ pub record Held (b : Book) (p : PointInfo) (i : PointId) : Type 0 where
   pub formed : T (not (isIllFormed (entry .status)))
   pub topped : (g : AnchorStageRole) → top g (entry .point) .round ≤ target g p .round
 
--- a link is followed at most "round minus genesis round steps"
-abbrev pub followed : Settings → Book → AnchorStageRole → PointInfo → End
-followed c b g p = follow g b (target g p) (p .id .round - c .genesisRound) p
-
--- "the linked point in that role, or a point judged Invalid that links the same target"
-abbrev pub IsEnd : Book → AnchorStageRole → PointId → End → Type 0
-IsEnd b g to (reached k) = List·Memᴰ k b × ((k .point .id ≡ to) × (T (isAnchorStage g (k .point .role)) × T (not (isIllFormed (k .status)))))
-IsEnd b g to (stopped k) = List·Memᴰ k b × ((target g (k .point) ≡ to) × T (isInvalid (k .status)))
-IsEnd b g to astray = ⊥
+-- a link, followed through its sources, leads "within round minus genesis round steps" to e
+abbrev pub Followed : Settings → Book → AnchorStageRole → PointInfo → Kept → Type 0
+Followed c b g p e = Way b g (target g p) (p .id .round - c .genesisRound) p e
 
 -- ---- the statement
 
@@ -195,32 +189,36 @@ pub record NextOffer (found : Run (List ℕ)) (plain : Run Opened) (o : Offer) (
   pub caught : (p : PointInfo) → readPoint (o .bytes) ≡ some p → (d : InvalidDependency) → x .answer ≡ Given (verdict.TransInvalid d) →
       Caught (plain .last .settings) (plain .last .book) (everMarked (withNext plain o)) p d
 
--- of a slice that was opened as `start`, after a list of offers to it: `found` is the run over its bytes, `plain` the plain book's
-pub record FoundBook (start : Opened) (found : Run (List ℕ)) (plain : Run Opened) : Type 0 where
+-- of a slice of `len` bytes that was opened with `settings`, which say c, after a list of offers to it: `found` is the run over its
+-- bytes, `plain` the plain book's
+pub record FoundBook (settings : List ℕ) (c : Settings) (len : ℕ) (found : Run (List ℕ)) (plain : Run Opened) : Type 0 where
   -- "each on the bytes the last one left: all answers, unknown peers with every byte of every peer buffer, and book bytes are the
   -- plain book's"
   pub same : found ≡ runInBytes plain
-  -- the bytes read as that book, "behind the same settings in as long a slice"
+  -- the bytes read as that book, "behind the same settings in as long a slice": those that were given
   pub reads : readBook (found .last) ≡ some (plain .last)
-  pub stays : (plain .last .bytes ≡ start .bytes) × ((plain .last .settings ≡ start .settings) × (plain .last .length ≡ start .length))
+  pub stays : (plain .last .bytes ≡ settings) × ((plain .last .settings ≡ c) × (plain .last .length ≡ len))
+  pub long : length (found .last) ≡ len
   -- "no id twice", "at most 4,096 entries"; each entry's point is the one that its record says
   pub once : NoIdTwice (plain .last .book)
   pub few : length (plain .last .book) ≤ mostKept
   pub says : (k : Kept) → List·Memᴰ k (plain .last .book) → readPoint (k .bytes) ≡ some (k .point)
+  -- by an id the entry of that id is found, and nothing else
+  pub finds : (i : PointId) (k : Kept) → (findKept (plain .last .book) i ≡ some k) ↔ (List·Memᴰ k (plain .last .book) × (k .point .id ≡ i))
   -- "every offer that got no number and isn't Fail left one entry, in order", with the verdict that it got
   pub kept : leftIn (plain .last .book) ≡ allLeft (found .moments)
   -- "every Valid or TransInvalid point above genesis has all its includes and witness kept, none ill-formed, none topped by an
   -- anchor of a greater round than it links"
-  pub dependencies : (k : Kept) → Usable (start .settings) (plain .last .book) k →
+  pub dependencies : (k : Kept) → Usable c (plain .last .book) k →
       ((q : Pair) → List·Memᴰ q (k .point .includes) → Held (plain .last .book) (k .point) (pairId (k .point .id .round - 1) q))
       × ((q : Pair) → List·Memᴰ q (k .point .witness) → Held (plain .last .book) (k .point) (pairId (k .point .id .round - 2) q))
   -- "either anchor link, followed through its sources, reaches within round minus genesis round steps the linked point in that
-  -- role, or a point judged Invalid that links the same target"; every point on the way links it, else the walk is astray
-  pub links : (k : Kept) → Usable (start .settings) (plain .last .book) k → (g : AnchorStageRole) →
-      IsEnd (plain .last .book) g (target g (k .point)) (followed (start .settings) (plain .last .book) g (k .point))
-  -- "if such a point is no proof and its proof link reaches the proof, both have one anchor time"
-  pub times : (k : Kept) → Usable (start .settings) (plain .last .book) k → T (not (isAnchorProof (k .point .role))) → (e : Kept)
-      → followed (start .settings) (plain .last .book) Proof (k .point) ≡ reached e → e .point .anchorTime ≡ k .point .anchorTime
+  -- role, or a point judged Invalid that links the same target"; every point on the way links it too (`IsPassed`)
+  pub links : (k : Kept) → Usable c (plain .last .book) k → (g : AnchorStageRole) →
+      (e : Kept) × (Followed c (plain .last .book) g (k .point) e × (IsReached g (target g (k .point)) e ⊎ IsStopped g (target g (k .point)) e))
+  -- "if such a point is no proof and its proof link reaches the proof, both have one anchor time"; so has every point on the way
+  pub times : (k : Kept) → Usable c (plain .last .book) k → T (not (isAnchorProof (k .point .role))) → (e : Kept) →
+      Followed c (plain .last .book) Proof (k .point) e → e .point .anchorTime ≡ k .point .anchorTime
   -- "marked certified are exactly the entries that the rule for marks, applied in these offers, marked"
   pub marks : (k : Kept) → List·Memᴰ k (plain .last .book) → k .certified ≡ everMarked (plain .moments) (k .point .id)
   -- whatever is offered next
@@ -233,4 +231,4 @@ FoundBooks =
     (settings slice : List ℕ) (c : Settings) (l : List Offer) → readSettings settings ≡ some c →
     entriesStart ≤ length slice → length slice ≤ longestBook → AreBytes l →
     (openNumber settings (length slice) ≡ 0)
-    × FoundBook (opened settings c (length slice)) (run offerBytes (openBytes settings slice) l) (run offer (opened settings c (length slice)) l)
+    × FoundBook settings c (length slice) (run offerBytes (openBytes settings slice) l) (run offer (opened settings c (length slice)) l)
