@@ -4,7 +4,7 @@ use mathlib.Core.Path.{_≡_, refl, ap, _∙_}
 use mathlib.Core.Logic.{inl, inr}
 use mathlib.Core.Bool.{Bool, true, _&&_}
 use mathlib.Core.Option.{some}
-use mathlib.Core.List.{List, [], _∷_, List·Memᴰ, List·Memᴰ·head, List·Memᴰ·tail}
+use mathlib.Core.List.{List, [], _∷_}
 use lib.ListN.{length}
 use lib.Dec.{ltb, lit<, lit≤}
 use borrow.Author.Tests.{ltb-true}
@@ -16,7 +16,7 @@ use Rattle.point.specs.Point.{source, target}
 use Rattle.schedule.specs.Settings.{readSettings}
 use Rattle.rules.specs.Mismatch.{mismatch, uncovered}
 use Rattle.rules.specs.Validate.{validate}
-use Rattle.books.specs.Kept.{Valid, Invalid, mark}
+use Rattle.books.specs.Kept.{Valid, Invalid, findKept, mark}
 use Rattle.books.specs.Offer.{Offer, used, offer}
 use Rattle.books.specs.Run.{Run, run, AreBytes}
 use Rattle.books.specs.Layout.{entriesBytes, bookBytes}
@@ -91,19 +91,8 @@ as-laid =
     ∙ (ap (λ (n : ℕ). bookBytes (settingsBytes conf) n (plain .last .book)) (s .1 .1)
     ∙ (ap (bookBytes (settingsBytes conf) (length slice)) as-left ∙ as-written)))
 
--- ---- two links
-
-at-genesis : List·Memᴰ (entry genesis Valid true) expectedBook
-at-genesis = List·Memᴰ·head refl
-
-at-first : List·Memᴰ (entry first (Invalid 4) true) expectedBook
-at-first = List·Memᴰ·tail (List·Memᴰ·head refl)
-
-at-second : List·Memᴰ (entry second Valid true) expectedBook
-at-second = List·Memᴰ·tail (List·Memᴰ·tail (List·Memᴰ·head refl))
-
 pub example : Example
-unfolding source target
+unfolding findKept source target
 example =
     record {
       readable = reads;
@@ -113,10 +102,7 @@ example =
       answers = as-given;
       book = as-left;
       laid = as-laid;
-      reaches = (
-        (entry second Valid true, (at-second, (refl, inr ((refl, (tt, tt)), (entry genesis Valid true, (at-genesis, (refl, inl refl))))))),
-        (refl, (tt, tt)),
-      );
-      stops = ((entry first (Invalid 4) true, (at-first, (refl, inl refl))), (refl, tt));
+      reaches = ((entry second Valid true, (refl, inr ((refl, (tt, tt)), (entry genesis Valid true, (refl, inl refl))))), (refl, (tt, tt)));
+      stops = ((entry first (Invalid 4) true, (refl, inl refl)), (refl, tt));
       found = as-found;
     }

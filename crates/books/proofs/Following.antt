@@ -14,9 +14,9 @@ use Rattle.point.specs.declared.data.AnchorStageRole.{AnchorStageRole}
 use Rattle.point.specs.declared.data.AnchorStageRole.the-variants.{Proof, Trigger}
 use Rattle.schedule.specs.Settings.{Settings}
 use Rattle.rules.specs.Mismatch.{pairId}
-use Rattle.books.specs.Kept.{Status, Valid, TransInvalid, Invalid, IllFormed, Kept, Book, findKept, isTwice}
+use Rattle.books.specs.Kept.{Status, Valid, TransInvalid, Invalid, IllFormed, Kept, Book, findKept}
 use Rattle.books.specs.Following.{isIllFormed, isUsable, IsReached, IsStopped, IsPassed, Way}
-use Rattle.books.proofs.Find.{find-id, find-member, once-found}
+use Rattle.books.proofs.Find.{find-id, find-member}
 
 -- ---- what holds of an entry
 
@@ -96,11 +96,11 @@ abbrev pub Ends : Book → AnchorStageRole → PointId → ℕ → PointInfo →
 Ends b g to n p = (e : Kept) × (Way b g to n p e × (IsReached g to e ⊎ IsStopped g to e))
 
 -- one step ends a way, or a way goes on after it
-step : (b : Book) (g : AnchorStageRole) (to : PointId) (n : ℕ) (p : PointInfo) (k : Kept) → List·Memᴰ k b → k .point .id ≡ source g p →
+step : (b : Book) (g : AnchorStageRole) (to : PointId) (n : ℕ) (p : PointInfo) (k : Kept) → findKept b (source g p) ≡ some k →
     (IsPassed g to k → Ends b g to n (k .point)) → IsReached g to k ⊎ (IsStopped g to k ⊎ IsPassed g to k) → Ends b g to (suc n) p
-step b g to n p k m i next (inl r) = (k, ((k, (m, (i, inl refl))), inl r))
-step b g to n p k m i next (inr (inl s)) = (k, ((k, (m, (i, inl refl))), inr s))
-step b g to n p k m i next (inr (inr h)) = let x = next h in (x .0, ((k, (m, (i, inr (h, x .1 .0)))), x .1 .1))
+step b g to n p k f next (inl r) = (k, ((k, (f, inl refl)), inl r))
+step b g to n p k f next (inr (inl s)) = (k, ((k, (f, inl refl)), inr s))
+step b g to n p k f next (inr (inr h)) = let x = next h in (x .0, ((k, (f, inr (h, x .1 .0))), x .1 .1))
 
 module _ (c : Settings) (b : Book) (all : AllStand c b) where
   -- a point that is not ill-formed and has not the role stands above genesis
@@ -118,37 +118,32 @@ module _ (c : Settings) (b : Book) (all : AllStand c b) where
       let l : Linked b p g = w .linked u a g in
       let k : Kept = l .entry in
       let m : List·Memᴰ k b = find-member b (source g p) k (l .kept) in
-      let i : k .point .id ≡ source g p = find-id b (source g p) k (l .kept) in
       let less : source g p .round < p .id .round = source-lower g p (omega arith) in
-      let same : k .point .id .round ≡ source g p .round = ap (λ (j : PointId). j .round) i in
-      step b g to n p k m i
+      let same : k .point .id .round ≡ source g p .round = ap (λ (i : PointId). i .round) (find-id b (source g p) k (l .kept)) in
+      step b g to n p k (l .kept)
       (λ v. follow-ends g to n (k .point) (k .status) (all k m) (v .1 .0) (above g k m (l .formed) (no-is _ (v .1 .1))) (v .0) (omega arith))
       (arrives g to k (l .formed) (l .leads ∙ e))
 
   -- ---- the anchor time
 
-  module _ (once : isTwice b ≡ false) where
-    -- the source of a link is the entry that a way goes to
-    sourced : (g : AnchorStageRole) (p : PointInfo) (l : Linked b p g) (k : Kept) → List·Memᴰ k b → k .point .id ≡ source g p → l .entry ≡ k
-    sourced g p l k m i =
-        let e : some (l .entry) ≡ some k = sym (l .kept) ∙ (ap (findKept b) (sym i) ∙ once-found b once k m) in
-        cc
+  -- a step of a way carries it, if the rest of the way does
+  carried : (to : PointId) (n time : ℕ) (k e : Kept) → k .point .anchorTime ≡ time →
+      (IsPassed Proof to k → Way b Proof to n (k .point) e → e .point .anchorTime ≡ k .point .anchorTime) →
+      (k ≡ e) ⊎ (IsPassed Proof to k × Way b Proof to n (k .point) e) → e .point .anchorTime ≡ time
+  carried to n time k e own next (inl q) = ap (λ (y : Kept). y .point .anchorTime) (sym q) ∙ own
+  carried to n time k e own next (inr h) = next (h .0) (h .1) ∙ own
 
-    after : (to : PointId) (n time : ℕ) (k e : Kept) → k .point .anchorTime ≡ time →
-        (IsPassed Proof to k → Way b Proof to n (k .point) e → e .point .anchorTime ≡ k .point .anchorTime) →
-        (k ≡ e) ⊎ (IsPassed Proof to k × Way b Proof to n (k .point) e) → e .point .anchorTime ≡ time
-    after to n time k e own next (inl q) = ap (λ (y : Kept). y .point .anchorTime) (sym q) ∙ own
-    after to n time k e own next (inr h) = next (h .0) (h .1) ∙ own
-
-    pub follow-time : (to : PointId) (n : ℕ) (p : PointInfo) (s : Status) → Stands c b p s → T (isUsable s) →
-        c .genesisRound < p .id .round → isAnchorProof (p .role) ≡ false → (e : Kept) → Way b Proof to n p e → e .point .anchorTime ≡ p .anchorTime
-    follow-time to zero p s w u a r e h = absurd h
-    follow-time to (suc n) p s w u a r e h =
-        let x : Linked b p Proof = w .linked u a Proof in
-        let same : x .entry ≡ h .0 = sourced Proof p x (h .0) (h .1 .0) (h .1 .1 .0) in
-        let own : h .0 .point .anchorTime ≡ p .anchorTime = subst (λ (k : Kept). k .point .anchorTime ≡ p .anchorTime) same (x .inherited r) in
-        let formed : T (not (isIllFormed (h .0 .status))) = subst (λ (k : Kept). T (not (isIllFormed (k .status)))) same (x .formed) in
-        after to n (p .anchorTime) (h .0) e own
-        (λ v rest. follow-time to n (h .0 .point) (h .0 .status) (all (h .0) (h .1 .0)) (v .1 .0)
-        (above Proof (h .0) (h .1 .0) formed (no-is _ (v .1 .1))) (no-is _ (v .1 .1)) e rest)
-        (h .1 .1 .1)
+  pub follow-time : (to : PointId) (n : ℕ) (p : PointInfo) (s : Status) → Stands c b p s → T (isUsable s) →
+      c .genesisRound < p .id .round → isAnchorProof (p .role) ≡ false → (e : Kept) → Way b Proof to n p e → e .point .anchorTime ≡ p .anchorTime
+  follow-time to zero p s w u a r e h = absurd h
+  follow-time to (suc n) p s w u a r e h =
+      let x : Linked b p Proof = w .linked u a Proof in
+      let k : Kept = h .0 in
+      let m : List·Memᴰ k b = find-member b (source Proof p) k (h .1 .0) in
+      let f : some (x .entry) ≡ some k = sym (x .kept) ∙ h .1 .0 in
+      let same : x .entry ≡ k = cc in
+      let own : k .point .anchorTime ≡ p .anchorTime = subst (λ (y : Kept). y .point .anchorTime ≡ p .anchorTime) same (x .inherited r) in
+      let formed : T (not (isIllFormed (k .status))) = subst (λ (y : Kept). T (not (isIllFormed (y .status)))) same (x .formed) in
+      carried to n (p .anchorTime) k e own
+      (λ v rest. follow-time to n (k .point) (k .status) (all k m) (v .1 .0) (above Proof k m formed (no-is _ (v .1 .1))) (no-is _ (v .1 .1)) e rest)
+      (h .1 .1)

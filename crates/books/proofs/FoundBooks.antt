@@ -15,7 +15,7 @@ use Rattle.books.specs.FoundBook.{Left, allLeft, leftIn, WasKept, HasNoR
 use Rattle.books.proofs.Find.{find-exact, once-found, no-id-twice}
 use Rattle.books.proofs.Offered.{numbers, number-unchanged}
 use Rattle.books.proofs.Following.{AllStand}
-use Rattle.books.proofs.Found.{found-dependencies, found-links, found-times}
+use Rattle.books.proofs.Found.{found-connected}
 use Rattle.books.proofs.Marks.{isCertified}
 use Rattle.books.proofs.LeftEntries.{left-in-slice}
 use Rattle.books.proofs.Invariant.{sound-reads, laid-length, offer-bytes, Invariant, opens, invariant}
@@ -70,9 +70,7 @@ module _ (settings : List ℕ) (c : Settings) (len : ℕ) (found : Run (List ℕ
         says = λ k m. h .sound .shape .entries k m .read;
         finds = λ i k. find-exact (z .book) (h .sound .shape .once) i k;
         kept = kept;
-        dependencies = found-dependencies c (z .book) stands;
-        links = found-links c (z .book) stands;
-        times = λ k u. found-times c (z .book) stands k u (h .sound .shape .once);
+        connected = found-connected c (z .book) stands;
         marks = marks;
         next = λ o w. subst (NextOffer found plain o) (sym (ap (λ (s : List ℕ). offerBytes s o) last-bytes ∙ offer-bytes z (h .sound) o)) (next-offer o w);
       }

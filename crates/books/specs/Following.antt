@@ -4,11 +4,11 @@ use Prim.Native.Nat.{ℕ, zero, suc}
 use mathlib.Core.Path.{_≡_}
 use mathlib.Core.Logic.{_⊎_}
 use mathlib.Core.Bool.{Bool, true, false, not, _||_}
-use mathlib.Core.List.{List·Memᴰ}
+use mathlib.Core.Option.{some}
 use lib.Dec.{T}
 use Rattle.point.specs.Point.{PointId, PointInfo, isAnchorStage, source, target}
 use Rattle.point.specs.declared.data.AnchorStageRole.{AnchorStageRole}
-use Rattle.books.specs.Kept.{Status, Valid, TransInvalid, Invalid, IllFormed, Kept, Book}
+use Rattle.books.specs.Kept.{Status, Valid, TransInvalid, Invalid, IllFormed, Kept, Book, findKept}
 
 abbrev pub isIllFormed : Status → Bool
 isIllFormed Valid = false
@@ -40,8 +40,9 @@ IsStopped g to k = (target g (k .point) ≡ to) × T (isInvalid (k .status))
 abbrev pub IsPassed : AnchorStageRole → PointId → Kept → Type 0
 IsPassed g to k = (target g (k .point) ≡ to) × (T (isUsable (k .status)) × T (not (isAnchorStage g (k .point .role))))
 
--- from p to e in at most n steps: each goes to a kept point, the source of the link of the point where it starts
+-- from p to e in at most n steps: each goes to a kept point, the source of the link of the point where it starts (FoundBook.antt,
+-- `finds`, says what is found)
 abbrev pub Way : Book → AnchorStageRole → PointId → ℕ → PointInfo → Kept → Type 0
 Way b g to zero p e = ⊥
 Way b g to (suc n) p e =
-    (k : Kept) × (List·Memᴰ k b × ((k .point .id ≡ source g p) × ((k ≡ e) ⊎ (IsPassed g to k × Way b g to n (k .point) e))))
+    (k : Kept) × ((findKept b (source g p) ≡ some k) × ((k ≡ e) ⊎ (IsPassed g to k × Way b g to n (k .point) e)))

@@ -159,6 +159,20 @@ pub record Held (b : Book) (p : PointInfo) (i : PointId) : Type 0 where
 abbrev pub Followed : Settings → Book → AnchorStageRole → PointInfo → Kept → Type 0
 Followed c b g p e = Way b g (target g p) (p .id .round - c .genesisRound) p e
 
+-- what each "Valid or TransInvalid point above genesis" of a book has
+pub record Connected (c : Settings) (b : Book) : Type 0 where
+  -- "all its includes and witness kept, none ill-formed, none topped by an anchor of a greater round than it links"
+  pub dependencies : (k : Kept) → Usable c b k →
+      ((q : Pair) → List·Memᴰ q (k .point .includes) → Held b (k .point) (pairId (k .point .id .round - 1) q))
+      × ((q : Pair) → List·Memᴰ q (k .point .witness) → Held b (k .point) (pairId (k .point .id .round - 2) q))
+  -- "either anchor link, followed through its sources, reaches within round minus genesis round steps the linked point in that
+  -- role, or a point judged Invalid that links the same target"; every point on the way links it too (`IsPassed`)
+  pub links : (k : Kept) → Usable c b k → (g : AnchorStageRole) →
+      (e : Kept) × (Followed c b g (k .point) e × (IsReached g (target g (k .point)) e ⊎ IsStopped g (target g (k .point)) e))
+  -- "if such a point is no proof and its proof link reaches the proof, both have one anchor time"; so has every point on the way
+  pub times : (k : Kept) → Usable c b k → T (not (isAnchorProof (k .point .role))) → (e : Kept) → Followed c b Proof (k .point) e →
+      e .point .anchorTime ≡ k .point .anchorTime
+
 -- ---- the statement
 
 -- of an offer that is made next, after the run `found` over a slice's bytes, and of what it gives: `plain` is the plain book's run
@@ -207,18 +221,8 @@ pub record FoundBook (settings : List ℕ) (c : Settings) (len : ℕ) (found : R
   pub finds : (i : PointId) (k : Kept) → (findKept (plain .last .book) i ≡ some k) ↔ (List·Memᴰ k (plain .last .book) × (k .point .id ≡ i))
   -- "every offer that got no number and isn't Fail left one entry, in order", with the verdict that it got
   pub kept : leftIn (plain .last .book) ≡ allLeft (found .moments)
-  -- "every Valid or TransInvalid point above genesis has all its includes and witness kept, none ill-formed, none topped by an
-  -- anchor of a greater round than it links"
-  pub dependencies : (k : Kept) → Usable c (plain .last .book) k →
-      ((q : Pair) → List·Memᴰ q (k .point .includes) → Held (plain .last .book) (k .point) (pairId (k .point .id .round - 1) q))
-      × ((q : Pair) → List·Memᴰ q (k .point .witness) → Held (plain .last .book) (k .point) (pairId (k .point .id .round - 2) q))
-  -- "either anchor link, followed through its sources, reaches within round minus genesis round steps the linked point in that
-  -- role, or a point judged Invalid that links the same target"; every point on the way links it too (`IsPassed`)
-  pub links : (k : Kept) → Usable c (plain .last .book) k → (g : AnchorStageRole) →
-      (e : Kept) × (Followed c (plain .last .book) g (k .point) e × (IsReached g (target g (k .point)) e ⊎ IsStopped g (target g (k .point)) e))
-  -- "if such a point is no proof and its proof link reaches the proof, both have one anchor time"; so has every point on the way
-  pub times : (k : Kept) → Usable c (plain .last .book) k → T (not (isAnchorProof (k .point .role))) → (e : Kept) →
-      Followed c (plain .last .book) Proof (k .point) e → e .point .anchorTime ≡ k .point .anchorTime
+  -- kept dependencies, links and times
+  pub connected : Connected c (plain .last .book)
   -- "marked certified are exactly the entries that the rule for marks, applied in these offers, marked"
   pub marks : (k : Kept) → List·Memᴰ k (plain .last .book) → k .certified ≡ everMarked (plain .moments) (k .point .id)
   -- whatever is offered next
