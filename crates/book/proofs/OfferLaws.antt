@@ -33,8 +33,8 @@ use Rattle.books.proofs.Canonical.{BookOf, book-again}
 use Rattle.books.proofs.Shape.{whole}
 use Rattle.books.proofs.Offered.{Accepted, accepted, marked-used}
 use Rattle.books.proofs.Bytes.{entry-within, mark-none, mark-absent, mark-bytes, append-bytes}
-use Rattle.book_index.specs.Code.{FoundAt}
-use Rattle.book_index.specs.declared.Place.the-variants.{At, Absent}
+use Rattle.id_index.specs.Code.{FoundAt}
+use Rattle.id_index.specs.declared.Place.the-variants.{At, Absent}
 use Rattle.book_read.specs.Code.{Holds, IsRead}
 use Rattle.book_read.proofs.Laws.{found-kept, absent-kept}
 use Rattle.book_judge.specs.Code.{overBook}
@@ -147,19 +147,22 @@ module _ (s : List ℕ) (w : Bytes s) (z : Opened) (r : readBook s ≡ some z) w
 
   -- what the index found
 
-  module _ (n : ℕ) (at : List ℕ) (h : Holds s (z .book) n at) (i : PointId) where
-    pub absent-mark : FoundAt s n at i Absent → Marks s z (some i) 0
+  module _ (x : List ℕ) (h : Holds s (z .book) x) (i : PointId) where
+    pub absent-mark : FoundAt s x i Absent → Marks s z (some i) 0
     absent-mark f = not-kept i (absent-kept h i f)
 
-    pub found-mark : (j : ℕ) → FoundAt s n at i (At j) → (flag : ℕ) →
-        ((k : Kept) → keptFront (drop (getD at j 0) s) ≡ some (record { kept = k; size = length (k .bytes) + 108 }) → flag ≡ getD at j 0 + length (k .bytes) + 4) →
+    pub found-mark : (place : ℕ) → FoundAt s x i (At place) → (flag : ℕ) →
+        ((k : Kept) → keptFront (drop place s) ≡ some (record { kept = k; size = length (k .bytes) + 108 }) → flag ≡ place + length (k .bytes) + 4) →
         Marks s z (some i) flag
-    found-mark j f flag g =
-        let x = found-kept h i j f in
-        let k = x .kept in
-        let rest = x .rest in
-        let d = x .there in
-        kept-mark i j k rest d (rw (h .ids j k rest d) at (f .1)) flag (g k (h .fronts j k rest d) ∙ rw (h .starts j k rest d))
+    found-mark place f flag g =
+        let j = f .which in
+        let w = found-kept h i place f in
+        let k = w .kept in
+        let rest = w .rest in
+        let d = w .there in
+        let p = h .placed in
+        kept-mark i j k rest d (rw (p .ids j k rest d) at (f .same)) flag
+        (g k (rw (f .there) at (p .fronts j k rest d)) ∙ ap (λ (m : ℕ). m + length (k .bytes) + 4) (sym (f .there) ∙ p .starts j k rest d))
 
   -- the offer
 
@@ -225,7 +228,7 @@ module _ (s : List ℕ) (w : Bytes s) (z : Opened) (r : readBook s ≡ some z) w
 
 -- ---- an offer that passed the tests
 
-module _ {s : List ℕ} {o : Offer} {c : Settings} {n end : ℕ} {at next heads : List ℕ} {i : Input} (h : Ready s o c n end at next heads i) where
+module _ {s : List ℕ} {o : Offer} {c : Settings} {end : ℕ} {x : List ℕ} {i : Input} (h : Ready s o c end x i) where
   is-taken : offerTested (h .read .opened) o ≡ admitted i
   is-taken = all-taken (h .read .opened) c (h .read .settings) o i (h .passed) (h .new) (h .room)
 
@@ -241,18 +244,18 @@ module _ {s : List ℕ} {o : Offer} {c : Settings} {n end : ℕ} {at next heads 
     unfolding beforeIn
     ready-answered x k l m = answered-decides s w (h .read .opened) (h .read .read) o i is-taken d buffer f (e ∙ h .read .ends) (sym k ∙ ap beforeOf l) m
 
-    pub ready-needed : (required : Bool) (x : code-before.Before) → beforeOf x ≡ before (i .settings) (i .schedule) (eqb (o .leader) 1) (i .point) → x ≡ case-before.Needed required →
+    pub ready-needed : (required : Bool) (y : code-before.Before) → beforeOf y ≡ before (i .settings) (i .schedule) (eqb (o .leader) 1) (i .point) → y ≡ case-before.Needed required →
         (v : verdict.Verdict) → judgeAnswerOf (d .answer) ≡ Given v →
-        ((b : Book) → Holds s b n at → inDomain (i .point) ≡ true →
+        ((b : Book) → Holds s b x → inDomain (i .point) ≡ true →
         v ≡ overBook (i .settings) required (i .point) b) →
-        MarkPlace s n at (prevId (i .point)) (d .mark) → Decides s o d buffer
+        MarkPlace s x (prevId (i .point)) (d .mark) → Decides s o d buffer
     unfolding beforeIn
-    ready-needed required x k l v a g m =
+    ready-needed required y k l v a g m =
         let z = h .read .opened in
         needed-decides s w z (h .read .read) o i is-taken d buffer f (e ∙ h .read .ends) required (sym k ∙ ap beforeOf l) v a (g (z .book) (h .read .holds) (ready-accepted .domain)) (m z (h .read .read) (h .read .holds))
 
 -- of a book that was read: one that comes of the tests
-module _ {s : List ℕ} {c : Settings} {n end : ℕ} {at next heads : List ℕ} (h : IsRead s c n end at next heads) (w : Bytes s) where
+module _ {s : List ℕ} {c : Settings} {end : ℕ} {x : List ℕ} (h : IsRead s c end x) (w : Bytes s) where
   pub refused-decides : (o : Offer) (m : ℕ) (d : code-decided.Decided) → offerTested (h .opened) o ≡ refused m →
       judgeAnswerOf (d .answer) ≡ Number m → d .mark ≡ 0 → Decides s o d (o .peers)
   refused-decides o m d t = number-decides s o m d (number-result s w (h .opened) (h .read) o m t)

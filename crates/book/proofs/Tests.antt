@@ -4,12 +4,14 @@ use native.Mathlib.Omega.{arith}
 use native.Mathlib.Decide.{decLt}
 use mathlib.Core.Path.{_≡_, refl, ap, sym, _∙_, subst}
 use mathlib.Core.Bool.{Bool, true, false, not, _&&_, _||_}
-use mathlib.Core.Option.{Option, none, some}
+use mathlib.Core.Option.{Option, none, some, Option·map}
 use mathlib.Core.List.{List}
-use lib.ListN.{length}
+use lib.ListN.{length, take, drop}
 use lib.Dec.{leb, ltb}
 use borrow.Author.Tests.{ltb-false, lt-ltb, le-ltb, le-leb, lt-leb}
 use Rattle.base.specs.Base.{pick}
+use Rattle.base.proofs.Option.{picked, and-then, none-some}
+use Rattle.record.specs.Record.{fieldRow, fieldOk, recordEnd}
 use Rattle.point.specs.Point.{PointInfo, prevDigest, prevId, inDomain}
 use Rattle.point.specs.Reading.{readPoint}
 use Rattle.schedule.specs.Settings.{Settings}
@@ -17,11 +19,7 @@ use Rattle.schedule.specs.Schedule.{Schedule, readSchedule}
 use Rattle.rules.specs.Judge.{Input, Tested, refused, admitted, testedWith}
 use Rattle.books.specs.Kept.{Kept, findKept, Opened}
 use Rattle.books.specs.Offer.{Offer, used, isFull, testedRoom, inputTested, offerTested}
-use Rattle.books.specs.Layout.{KeptFront, keptFront}
-use Rattle.book_layout.specs.Code.{readKeptOf, KeptAt, KeptPlaced}
-use Rattle.book_layout.specs.declared.read.Kept as code-kept
-use Rattle.book_layout.specs.declared.read.ReadKept as code-read-kept
-use Rattle.book_layout.specs.declared.read.ReadKept.the-variants as case-read-kept
+use Rattle.books.specs.Layout.{readKept, KeptFront, keptFront}
 
 pub full-last : (a b : ℕ) → 108 ≤ a → ltb (a - 108) b ≡ ltb a (b + 108)
 full-last a b h = elim (decLt (a - 108) b) [
@@ -43,23 +41,27 @@ module _ (p : PointInfo) where
 
 -- ---- the entry at the front of a slice
 
-abbrev sizeOf : Option KeptFront → ℕ
-sizeOf none = 0
-sizeOf (some x) = x .size
+size-is : (n : ℕ) (o : Option Kept) (x : KeptFront) → Option·map (λ k. record { kept = k; size = n }) o ≡ some x → x .size ≡ n
+size-is n none x h = none-some h
+size-is n (some k) x h = cc
 
-module _ (s : List ℕ) (x : code-read-kept.ReadKept) where
-  pub kept-placed : (y : code-kept.Kept) → x ≡ case-read-kept.Kept y → KeptPlaced s x → KeptAt s y
-  kept-placed y e h = rw e at h
+front-end : (s : List ℕ) (x : KeptFront) → keptFront s ≡ some x → (n : ℕ) × ((recordEnd s ≡ some n) × (x .size ≡ n + 108))
+unfolding keptFront
+front-end s x h =
+    let a = and-then (recordEnd s) _ x h in
+    let b = and-then (readPoint (take (a .0) s)) _ x (a .2) in
+    let m = picked (fieldOk (fieldRow 33 105 105) s (a .0)) _ x (b .2) .1 in
+    (a .0, (a .1, size-is (a .0 + 108) (readKept (take (a .0) s) (b .0) (take 105 (drop (a .0 + 3) s))) x m))
 
-  module _ (e : readKeptOf s x ≡ keptFront s) (k : Kept) (g : keptFront s ≡ some (record { kept = k; size = length (k .bytes) + 108 })) where
-    size-is : sizeOf (readKeptOf s x) ≡ length (k .bytes) + 108
-    size-is = ap sizeOf (e ∙ g)
+module _ (s : List ℕ) (k : Kept) (g : keptFront s ≡ some (record { kept = k; size = length (k .bytes) + 108 })) where
+  pub front-len : (n : ℕ) → recordEnd s ≡ some n → n ≡ length (k .bytes)
+  front-len n e =
+      let f = front-end s _ g in
+      let same : f .0 ≡ n = let h = f .1 .0 in cc in
+      omega (arith, f .1 .1)
 
-    pub front-len : (y : code-kept.Kept) → x ≡ case-read-kept.Kept y → y .len ≡ length (k .bytes)
-    front-len y f = let n : y .len + 108 ≡ length (k .bytes) + 108 = rw f at size-is in omega arith
-
-    pub front-none : x ≡ case-read-kept.Unreadable → ⊥
-    front-none f = let n : 0 ≡ length (k .bytes) + 108 = rw f at size-is in omega arith
+  pub front-none : recordEnd s ≡ none → ⊥
+  front-none e = let f = front-end s _ g in none-some (sym e ∙ f .1 .0)
 
 -- ---- the numbers 2 to 5 in their order
 

@@ -60,8 +60,8 @@ inputOf conf schedule spans rec info =
     record { settings = settingsOf conf; schedule = scheduleOf schedule spans; point = pointOf rec info }
 
 -- the book is read, and the offer gets none of the numbers 2 to 5, 11 and 12
-pub record Ready (s : List ℕ) (o : Offer) (c : Settings) (n end : ℕ) (at next heads : List ℕ) (i : Input) : Type 0 where
-  pub read : IsRead s c n end at next heads
+pub record Ready (s : List ℕ) (o : Offer) (c : Settings) (end : ℕ) (x : List ℕ) (i : Input) : Type 0 where
+  pub read : IsRead s c end x
   pub passed : inputTested c o ≡ admitted i
   pub new : findKept (read .opened .book) (i .point .id) ≡ none
   pub room : isFull (read .opened) (o .bytes) ≡ false
@@ -71,8 +71,8 @@ pub record Marks (s : List ℕ) (z : Opened) (i : Option PointId) (at : ℕ) : T
   pub inside : (at ≡ 0 → ⊥) → at < length s
   pub bytes : bookBytes (z .bytes) (length s) (mark (isId i) (z .book)) ≡ markedAt s at
 
-abbrev pub MarkPlace : List ℕ → ℕ → List ℕ → Option PointId → ℕ → Type 0
-MarkPlace s n at i place = (z : Opened) → readBook s ≡ some z → Holds s (z .book) n at → Marks s z i place
+abbrev pub MarkPlace : List ℕ → List ℕ → Option PointId → ℕ → Type 0
+MarkPlace s x i place = (z : Opened) → readBook s ≡ some z → Holds s (z .book) x → Marks s z i place
 
 -- where the certified flag of the entry at a place stands, if there is one
 abbrev pub FlagAt : List ℕ → ℕ → ℕ → Type 0

@@ -1,13 +1,13 @@
 // What an offer comes to, decided over the book as it stands.
-use book_index::Place;
-use book_layout::ReadKept;
 use book_read::ReadBook;
+use id_index::Place;
 use judge::Before;
 use judge::JudgeAnswer;
 use map::Found;
 use point::PointId;
 use point::PointInfo;
 use point::ReadPoint;
+use record::End;
 use schedule::Schedule;
 use schedule::Settings;
 ghost use mathlib.Core.Path.{_≡_};
@@ -21,7 +21,7 @@ ghost use Rattle.point.specs.Code.{pointOf, Reads};
 ghost use Rattle.schedule.specs.Code.{settingsOf};
 ghost use Rattle.rules.specs.Judge.{admitted, Number};
 ghost use Rattle.judge.specs.Code.{judgeAnswerOf};
-ghost use Rattle.book_index.specs.Code.{Index};
+ghost use Rattle.id_index.specs.Code.{Index};
 ghost use Rattle.book_read.specs.Code.{IsRead};
 ghost use Rattle.books.specs.Offer.{inputTested, offerOf};
 ghost use Rattle.book.specs.Code.{Decides, inputOf, Ready, MarkPlace, FlagAt};
@@ -64,26 +64,18 @@ fn flag_at(book: &[u8], place: usize) -> usize
     requires { ⌜ place ≤ length (now book) ⌝ }
     ensures { λ r. ⌜ FlagAt (now (book .entry)) place r ⌝ }
 {
-    let read = book_layout::read_kept(&book[place..]);
-    match read {
-        ReadKept::Kept(k) => place + k.len + 4,
-        ReadKept::Unreadable => 0,
+    let end = record::record_end(&book[place..]);
+    match end {
+        End::At(n) => place + n + 4,
+        End::Unreadable => 0,
     }
 }
 
 // Where the mark of the previous point goes, 0 if it is not kept.
-fn mark_at(
-    rec: &[u8],
-    info: PointInfo,
-    book: &[u8],
-    n: usize,
-    at: &[u32],
-    next: &[u16],
-    heads: &[u16],
-) -> usize
+fn mark_at(rec: &[u8], info: PointInfo, book: &[u8], index: &[u16]) -> usize
     requires { ⌜ Reads (now rec) info ⌝ }
-    requires { ⌜ Index (now book) n (now at) (now next) (now heads) ⌝ }
-    ensures { λ r. ⌜ MarkPlace (now (book .entry)) n (now (at .entry)) (prevId (pointOf (now (rec .entry)) info)) r ⌝ }
+    requires { ⌜ Index (now book) (now index) ⌝ }
+    ensures { λ r. ⌜ MarkPlace (now (book .entry)) (now (index .entry)) (prevId (pointOf (now (rec .entry)) info)) r ⌝ }
 {
     let found = point::prev_digest(rec, info);
     let Found::Digest(digest) = found else {
@@ -96,9 +88,9 @@ fn mark_at(
         digest,
         author,
     };
-    let place = book_index::find(book, n, at, next, heads, id);
+    let place = id_index::find(book, index, id);
     match place {
-        Place::At(j) => flag_at(book, at[j] as usize),
+        Place::At(place) => flag_at(book, place),
         Place::Absent => 0,
     }
 }
@@ -113,14 +105,11 @@ fn judge_offer(
     info: PointInfo,
     peers: &mut [u8],
     book: &[u8],
-    n: usize,
     end: usize,
-    at: &[u32],
-    next: &[u16],
-    heads: &[u16],
+    index: &[u16],
 ) -> Decided
     requires { ⌜ Reads (now rec) info ⌝ }
-    requires { ⌜ Ready (now book) (offerOf (now schedule) leader (now rec) (now peers)) (settingsOf conf) n end (now at) (now next) (now heads)
+    requires { ⌜ Ready (now book) (offerOf (now schedule) leader (now rec) (now peers)) (settingsOf conf) end (now index)
         (inputOf conf (now schedule) spans (now rec) info) ⌝ }
     ensures { λ r. ⌜ Decides (now (book .entry)) (offerOf (now (schedule .entry)) leader (now (rec .entry)) (now (peers .entry))) r (now (peers .exit)) ⌝ }
 {
@@ -132,10 +121,10 @@ fn judge_offer(
             end,
         },
         Before::Needed(required) => {
-            let v = book_judge::judge_book(conf, required, rec, info, book, n, at, next, heads);
+            let v = book_judge::judge_book(conf, required, rec, info, book, index);
             Decided {
                 answer: JudgeAnswer::Verdict(v),
-                mark: mark_at(rec, info, book, n, at, next, heads),
+                mark: mark_at(rec, info, book, index),
                 end,
             }
         }
@@ -152,23 +141,20 @@ fn decide_point(
     info: PointInfo,
     peers: &mut [u8],
     book: &[u8],
-    n: usize,
     end: usize,
-    at: &[u32],
-    next: &[u16],
-    heads: &[u16],
+    index: &[u16],
 ) -> Decided
     requires { ⌜ Reads (now rec) info ⌝ }
-    requires { ⌜ IsRead (now book) (settingsOf conf) n end (now at) (now next) (now heads) ⌝ }
+    requires { ⌜ IsRead (now book) (settingsOf conf) end (now index) ⌝ }
     requires { ⌜ inputTested (settingsOf conf) (offerOf (now schedule) leader (now rec) (now peers)) ≡ admitted
         (inputOf conf (now schedule) spans (now rec) info) ⌝ }
     ensures { λ r. ⌜ Decides (now (book .entry)) (offerOf (now (schedule .entry)) leader (now (rec .entry)) (now (peers .entry))) r (now (peers .exit)) ⌝ }
 {
     let id = info.id;
-    let Place::Absent = book_index::find(book, n, at, next, heads, id) else {
+    let Place::Absent = id_index::find(book, index, id) else {
         return refused(11);
     };
-    if is_full(book.len(), n, end, rec.len()) {
+    if is_full(book.len(), id_index::count(index), end, rec.len()) {
         return refused(12);
     }
     judge_offer(
@@ -180,11 +166,8 @@ fn decide_point(
         info,
         peers,
         book,
-        n,
         end,
-        at,
-        next,
-        heads,
+        index,
     )
 }
 
@@ -196,13 +179,10 @@ fn decide_in(
     rec: &[u8],
     peers: &mut [u8],
     book: &[u8],
-    n: usize,
     end: usize,
-    at: &[u32],
-    next: &[u16],
-    heads: &[u16],
+    index: &[u16],
 ) -> Decided
-    requires { ⌜ IsRead (now book) (settingsOf conf) n end (now at) (now next) (now heads) ⌝ }
+    requires { ⌜ IsRead (now book) (settingsOf conf) end (now index) ⌝ }
     ensures { λ r. ⌜ Decides (now (book .entry)) (offerOf (now (schedule .entry)) leader (now (rec .entry)) (now (peers .entry))) r (now (peers .exit)) ⌝ }
 {
     let read = schedule::read_schedule(schedule);
@@ -231,11 +211,8 @@ fn decide_in(
         info,
         peers,
         book,
-        n,
         end,
-        at,
-        next,
-        heads,
+        index,
     )
 }
 
@@ -243,23 +220,18 @@ fn decide_in(
 pub fn decide(book: &[u8], schedule: &[u8], leader: u8, rec: &[u8], peers: &mut [u8]) -> Decided
     ensures { λ r. ⌜ Decides (now (book .entry)) (offerOf (now (schedule .entry)) leader (now (rec .entry)) (now (peers .entry))) r (now (peers .exit)) ⌝ }
 {
-    let mut at = [0u32; parts::MOST_KEPT];
-    let mut next = [0u16; parts::MOST_KEPT];
-    let mut heads = [0u16; parts::MOST_KEPT];
-    let read = book_read::read_book(book, &mut at, &mut next, &mut heads);
+    let mut index = [0u16; id_index::LENGTH];
+    let read = book_read::read_book(book, &mut index);
     match read {
-        ReadBook::Book(conf, n, end) => decide_in(
+        ReadBook::Book(conf, end) => decide_in(
             conf,
             schedule,
             leader,
             rec,
             peers,
             book,
-            n,
             end,
-            &at,
-            &next,
-            &heads,
+            &index,
         ),
         ReadBook::Unreadable => refused(10),
     }

@@ -5,7 +5,7 @@ use mathlib.Core.Path.{_≡_, ap, sym, _∙_, subst}
 use mathlib.Core.Bool.{Bool, false, _||_}
 use mathlib.Core.Option.{some}
 use mathlib.Core.List.{List}
-use lib.ListN.{length, getD, take, drop, length-drop}
+use lib.ListN.{length, take, drop, length-drop}
 use Rattle.base.proofs.Option.{none-some}
 use Rattle.judge_valid.specs.Code.{pointViewOf}
 use Rattle.point.specs.Point.{PointId, Through, AnchorLink, Indirect, PointInfo, prevId, anchorLink}
@@ -18,9 +18,9 @@ use Rattle.judge_step.specs.Code.{Judging, directStep, indirectStep, indirectFo
 use Rattle.judge_valid.specs.declared.view.PointView as code-view
 use Rattle.rules.specs.Mismatch.{isVersion, isId}
 use Rattle.judge_list.specs.Code.{prevIn}
-use Rattle.book_index.specs.Code.{FoundAt}
-use Rattle.book_index.specs.declared.Place.{Place}
-use Rattle.book_index.specs.declared.Place.the-variants.{At, Absent}
+use Rattle.id_index.specs.Code.{FoundAt}
+use Rattle.id_index.specs.declared.Place.{Place}
+use Rattle.id_index.specs.declared.Place.the-variants.{At, Absent}
 use Rattle.judge_entries.specs.Code.{dagPointOf, partOf, ReadFrom, EntryPlaced}
 use Rattle.judge_entries.specs.declared.DagPoint as code-point
 use Rattle.judge_entries.specs.declared.DagPoint.the-variants as case-point
@@ -78,8 +78,8 @@ module _ (s : List ℕ) (place : ℕ) (part : List ℕ) (e : part ≡ drop place
 
 -- ---- the entry of an id
 
-pub found-there : (s : List ℕ) (n : ℕ) (at : List ℕ) (i : PointId) (r x : Place) → r ≡ x → FoundAt s n at i r → FoundAt s n at i x
-found-there s n at i r x e h = rw e at h
+pub found-there : (s x : List ℕ) (i : PointId) (r q : Place) → r ≡ q → FoundAt s x i r → FoundAt s x i q
+found-there s x i r q e h = rw e at h
 
 covered-prev : (v : PointView) (q : PointInfo) (i : PointId) (covered : Bool) → v ≡ pointView q → covered ≡ isId (prevIn v) i → covered ≡ isId (prevId q) i
 unfolding pointView prevId
@@ -88,16 +88,16 @@ covered-prev v q i covered e h = h ∙ ap (λ (o : _). isId o i) (ap prevIn e)
 abbrev absent : PointId → Bool → Entry
 absent i covered = record { state = NotFound i; certified = covered; firstValid = false }
 
-module _ {s : List ℕ} {b : Book} {n : ℕ} {at : List ℕ} {v : code-view.PointView} {q : PointInfo} (a : Asked s b n at v q) (covered : Bool) where
-  pub looks-found : (i : PointId) → covered ≡ isId (prevIn (pointViewOf v)) i → (j : ℕ) → FoundAt s n at i (At j) → (x : code-looked.Looked) → LookedAt s (getD at j 0) covered x →
-      Looks s x (lookup (marked q b) q i)
-  looks-found i c j f x l =
-      let w = found-kept (a .holds) i j f in
+module _ {s : List ℕ} {b : Book} {x : List ℕ} {v : code-view.PointView} {q : PointInfo} (a : Asked s b x v q) (covered : Bool) where
+  pub looks-found : (i : PointId) → covered ≡ isId (prevIn (pointViewOf v)) i → (place : ℕ) → FoundAt s x i (At place) → (y : code-looked.Looked) → LookedAt s place covered y →
+      Looks s y (lookup (marked q b) q i)
+  looks-found i c place f y l =
+      let w = found-kept (a .holds) i place f in
       let e = lookup (marked q b) q i in
-      l .1 _ (a .holds .fronts j (w .kept) (w .rest) (w .there)) (e .firstValid)
+      l .1 _ (rw (f .there) at (a .holds .placed .fronts (f .which) (w .kept) (w .rest) (w .there))) (e .firstValid)
       ∙ (ap (λ (t : Bool). shown (w .kept) t (e .firstValid)) (covered-prev (pointViewOf v) q i covered (a .view) c) ∙ looked-kept b q i (w .kept) (w .found))
 
-  pub looks-absent : (i : code-id.PointId) → covered ≡ isId (prevIn (pointViewOf v)) (pointIdOf i) → FoundAt s n at (pointIdOf i) Absent →
+  pub looks-absent : (i : code-id.PointId) → covered ≡ isId (prevIn (pointViewOf v)) (pointIdOf i) → FoundAt s x (pointIdOf i) Absent →
       Looks s (record { state = case-point.NotFound i; certified = covered; place = 0; end = 0 }) (lookup (marked q b) q (pointIdOf i))
   looks-absent i c f =
       rw (looked-absent b q (pointIdOf i) (absent-kept (a .holds) (pointIdOf i) f))

@@ -40,8 +40,8 @@ overBook c required p b = validate c required 3 p (directList (marked p b) p) (i
 -- ---- for contracts between functions
 
 -- a book whose entries stand in the bytes, and the point that a view is of
-pub record Asked (s : List ℕ) (b : Book) (n : ℕ) (at : List ℕ) (v : code-view.PointView) (p : PointInfo) : Type 0 where
-  pub holds : Holds s b n at
+pub record Asked (s : List ℕ) (b : Book) (x : List ℕ) (v : code-view.PointView) (p : PointInfo) : Type 0 where
+  pub holds : Holds s b x
   pub view : pointViewOf v ≡ pointView p
 
 -- what the judge is told of a kept point; covered says that a certificate covers it whatever its mark
@@ -91,7 +91,7 @@ versionStep c required p w k =
     })
     w
 
--- ---- what functions promise of the book whose bytes are s, n entries at the places `at`, and of a point whose view is v
+-- ---- what functions promise of the book whose bytes are s and whose index is x, and of a point whose view is v
 
 -- what stands at a place, if it is an entry, is handed on as the judge is told of it
 abbrev pub KeptLooked : List ℕ → ℕ → Bool → code-looked.Looked → Type 0
@@ -99,19 +99,13 @@ KeptLooked s place covered r =
     (x : KeptFront) → keptFront (drop place s) ≡ some x → (first : Bool) → lookedOf s r first ≡ shown (x .kept) covered first
 
 -- what was looked up is what the book says of an id
-abbrev pub LookedUp : List ℕ → ℕ → List ℕ → code-view.PointView → PointId → code-looked.Looked → Type 0
-LookedUp s n at v i r = (b : Book) (p : PointInfo) → Asked s b n at v p → Looks s r (lookup (marked p b) p i)
-
--- a dependency was judged, which is no version of the author's point
-abbrev pub DependencyJudged : Settings → Bool → code-view.PointView → PointId → List ℕ → ℕ → List ℕ → Judging → Judging → Type 0
-DependencyJudged c required v i s n at old new =
-    (b : Book) (p : PointInfo) → Asked s b n at v p → isVersion p i ≡ false →
-    new ≡ directStep c required (pointViewOf v) old (lookup (marked p b) p i)
+abbrev pub LookedUp : List ℕ → List ℕ → code-view.PointView → PointId → code-looked.Looked → Type 0
+LookedUp s x v i r = (b : Book) (p : PointInfo) → Asked s b x v p → Looks s r (lookup (marked p b) p i)
 
 -- the dependencies that a map's rows name at a round were judged, none of which is a version
-abbrev pub MapJudged : Settings → Bool → code-view.PointView → ℕ → List ℕ → List ℕ → ℕ → List ℕ → Judging → Judging → Type 0
-MapJudged c required v round rows s n at old new =
-    (b : Book) (p : PointInfo) → Asked s b n at v p → NoVersions p round (pairsOf rows) →
+abbrev pub MapJudged : Settings → Bool → code-view.PointView → ℕ → List ℕ → List ℕ → List ℕ → Judging → Judging → Type 0
+MapJudged c required v round rows s x old new =
+    (b : Book) (p : PointInfo) → Asked s b x v p → NoVersions p round (pairsOf rows) →
     new ≡ directFold c required (pointViewOf v) old (lookups (marked p b) p round (pairsOf rows))
 
 -- the entry at a place was judged, if it is a version
@@ -121,29 +115,29 @@ VersionJudged c required v s place old new =
     new ≡ versionStep c required (pointViewOf v) old (x .kept)
 
 -- the versions of the author's point at r-1 were judged, in the book's order
-abbrev pub VersionsJudged : Settings → Bool → code-view.PointView → List ℕ → ℕ → List ℕ → Judging → Judging → Type 0
-VersionsJudged c required v s n at old new =
-    (b : Book) → Holds s b n at →
+abbrev pub VersionsJudged : Settings → Bool → code-view.PointView → List ℕ → List ℕ → Judging → Judging → Type 0
+VersionsJudged c required v s x old new =
+    (b : Book) → Holds s b x →
     new ≡ directFold c required (pointViewOf v) old (versions b (v .id .round - 1) (number (v .id .author)) b)
 
 -- the direct list that the book builds for a point of this record was judged
-abbrev pub DirectListJudged : Settings → Bool → code-view.PointView → List ℕ → List ℕ → ℕ → List ℕ → Judging → Type 0
-DirectListJudged c required v rec s n at new =
-    (b : Book) (i : code-info.PointInfo) → Asked s b n at v (pointOf rec i) → inDomain (pointOf rec i) ≡ true →
+abbrev pub DirectListJudged : Settings → Bool → code-view.PointView → List ℕ → List ℕ → List ℕ → Judging → Type 0
+DirectListJudged c required v rec s x new =
+    (b : Book) (i : code-info.PointInfo) → Asked s b x v (pointOf rec i) → inDomain (pointOf rec i) ≡ true →
     new ≡ directFold c required (pointViewOf v) start (directList (marked (pointOf rec i) b) (pointOf rec i))
 
 -- the target of a link was judged, if the link is indirect
-abbrev pub TargetJudged : Settings → code-view.PointView → AnchorStageRole → AnchorLink → List ℕ → ℕ → List ℕ → Judging → Judging → Type 0
-TargetJudged c v role link s n at old new =
-    (b : Book) (p : PointInfo) → Asked s b n at v p → link ≡ anchorLink role p →
+abbrev pub TargetJudged : Settings → code-view.PointView → AnchorStageRole → AnchorLink → List ℕ → List ℕ → Judging → Judging → Type 0
+TargetJudged c v role link s x old new =
+    (b : Book) (p : PointInfo) → Asked s b x v p → link ≡ anchorLink role p →
     new ≡ indirectFold c p old (targetEntry (marked p b) p role link)
 
 -- the indirect list that the book builds for a point was judged, whatever its record
-abbrev pub TargetsJudged : Settings → code-view.PointView → code-info.PointInfo → List ℕ → ℕ → List ℕ → Judging → Judging → Type 0
-TargetsJudged c v i s n at old new =
-    (b : Book) (rec : List ℕ) → Asked s b n at v (pointOf rec i) →
+abbrev pub TargetsJudged : Settings → code-view.PointView → code-info.PointInfo → List ℕ → List ℕ → Judging → Judging → Type 0
+TargetsJudged c v i s x old new =
+    (b : Book) (rec : List ℕ) → Asked s b x v (pointOf rec i) →
     new ≡ indirectFold c (pointOf rec i) old (indirectList (marked (pointOf rec i) b) (pointOf rec i))
 
 -- a point in the domain was judged by the book
-abbrev pub BookJudged : Settings → Bool → PointInfo → List ℕ → ℕ → List ℕ → Verdict → Type 0
-BookJudged c required p s n at v = (b : Book) → Holds s b n at → inDomain p ≡ true → v ≡ overBook c required p b
+abbrev pub BookJudged : Settings → Bool → PointInfo → List ℕ → List ℕ → Verdict → Type 0
+BookJudged c required p s x v = (b : Book) → Holds s b x → inDomain p ≡ true → v ≡ overBook c required p b

@@ -4,22 +4,23 @@ use crate::look::Looked;
 use judge_entries::DagPoint;
 use judge_step::Judging;
 use judge_valid::PointView;
+use judge_valid::Quick;
 use map::Found;
 use point::PointId;
 use point::PointInfo;
 use schedule::Settings;
 ghost use mathlib.Core.Path.{_≡_};
-ghost use mathlib.Core.Bool.{not, _&&_};
+ghost use mathlib.Core.Bool.{true, not, _&&_};
 ghost use mathlib.Core.List.{List};
-ghost use Prim.Native.Nat.{ℕ, _+_, _≤_, _<_};
-ghost use lib.ListN.{length, getD};
+ghost use Prim.Native.Nat.{ℕ, _+_, _≤_};
+ghost use lib.ListN.{length};
 ghost use Rattle.judge_valid.specs.Code.{pointViewOf};
-ghost use Rattle.point.specs.Code.{pointIdOf, Reads};
+ghost use Rattle.point.specs.Code.{Reads};
 ghost use Rattle.schedule.specs.Code.{settingsOf};
-ghost use Rattle.judge_entries.specs.Code.{dagPointOf, EntryPlaced};
-ghost use Rattle.judge_step.specs.Code.{directStep, judgingOf};
-ghost use Rattle.book_index.specs.Code.{Index};
-ghost use Rattle.book_judge.specs.Code.{lookedOf, isValidState, versionsOf, DependencyJudged, MapJudged};
+ghost use Rattle.judge_entries.specs.Code.{dagPointOf, partOf, EntryPlaced};
+ghost use Rattle.judge_step.specs.Code.{directStep, judgingOf, Quiet};
+ghost use Rattle.id_index.specs.Code.{Index};
+ghost use Rattle.book_judge.specs.Code.{lookedOf, isValidState, versionsOf, MapJudged};
 ghost use Rattle.book_judge.specs.Code.{VersionJudged, VersionsJudged, DirectListJudged};
 
 // What the versions of an author have given so far; seen says that one was Valid.
@@ -44,7 +45,7 @@ fn judge_looked(
     let state = x.state;
     let place = x.place;
     let end = x.end;
-    judge_step::judge_direct(
+    let gives = judge_step::direct_gives(
         conf,
         required,
         p,
@@ -52,31 +53,22 @@ fn judge_looked(
         state,
         x.certified,
         first_valid,
-        so_far,
-    )
+    );
+    judge_step::with_direct(so_far, gives)
 }
 
-// Judges a dependency. It is never taken as a version, so that it doesn't matter whether it is first valid.
-fn judge_dependency(
-    conf: Settings,
-    required: bool,
-    p: PointView,
-    id: PointId,
-    book: &[u8],
-    n: usize,
-    at: &[u32],
-    next: &[u16],
-    heads: &[u16],
-    so_far: Judging,
-) -> Judging
-    requires { ⌜ Index (now book) n (now at) (now next) (now heads) ⌝ }
-    ensures { λ r. ⌜ DependencyJudged (settingsOf conf) required p (pointIdOf id) (now (book .entry)) n (now (at .entry)) (judgingOf «so_far») (judgingOf r) ⌝ }
+// Whether an entry that was looked up gives nothing for sure.
+fn is_quiet(quick: Quick, book: &[u8], x: Looked) -> bool
+    requires { ⌜ EntryPlaced (now book) (x .state) (x .place) (x .end) ⌝ }
+    ensures { λ r. ⌜ (r ≡ true → Quiet quick (partOf (now (book .entry)) (x .place) (x .end)) (x .state)) ⌝ }
 {
-    let x = look::lookup(p, id, book, n, at, next, heads);
-    judge_looked(conf, required, p, book, x, false, so_far)
+    let state = x.state;
+    let place = x.place;
+    let end = x.end;
+    judge_step::is_quiet(quick, &book[place..end], state)
 }
 
-// Judges the dependencies of a map.
+// Judges the dependencies of a map. They are never taken as versions, so that it doesn't matter whether one is first valid.
 fn judge_map(
     conf: Settings,
     required: bool,
@@ -84,16 +76,14 @@ fn judge_map(
     round: u32,
     rows: &[u8],
     book: &[u8],
-    n: usize,
-    at: &[u32],
-    next: &[u16],
-    heads: &[u16],
+    index: &[u16],
     so_far: Judging,
 ) -> Judging
-    requires { ⌜ Index (now book) n (now at) (now next) (now heads) ⌝ }
-    ensures { λ r. ⌜ MapJudged (settingsOf conf) required p round (now (rows .entry)) (now (book .entry)) n (now (at .entry)) (judgingOf «so_far»)
+    requires { ⌜ Index (now book) (now index) ⌝ }
+    ensures { λ r. ⌜ MapJudged (settingsOf conf) required p round (now (rows .entry)) (now (book .entry)) (now (index .entry)) (judgingOf «so_far»)
         (judgingOf r) ⌝ }
 {
+    let quick = judge_valid::quick_of(conf, p);
     let count = map::count(rows, 64);
     let mut judging = so_far;
     let mut i = 0;
@@ -103,8 +93,12 @@ fn judge_map(
             digest: map::digest_at(rows, i),
             author: map::peer_at(rows, 64, i),
         };
-        judging = judge_dependency(conf, required, p, id, book, n, at, next, heads, judging);
+        let x = look::lookup(p, id, book, index);
         i += 1;
+        if is_quiet(quick, book, x) {
+            continue;
+        }
+        judging = judge_looked(conf, required, p, book, x, false, judging);
     }
     judging
 }
@@ -156,20 +150,27 @@ fn judge_versions(
     required: bool,
     p: PointView,
     book: &[u8],
-    n: usize,
-    at: &[u32],
+    index: &[u16],
     judging: Judging,
 ) -> Judging
-    requires { ⌜ (n ≤ length (now at)) × ((j : ℕ) → j < n → getD (now at) j 0 + 71 ≤ length (now book)) ⌝ }
-    ensures { λ r. ⌜ VersionsJudged (settingsOf conf) required p (now (book .entry)) n (now (at .entry)) (judgingOf judging) (judgingOf r) ⌝ }
+    requires { ⌜ Index (now book) (now index) ⌝ }
+    ensures { λ r. ⌜ VersionsJudged (settingsOf conf) required p (now (book .entry)) (now (index .entry)) (judgingOf judging) (judgingOf r) ⌝ }
 {
     let mut so_far = Versions {
         judging,
         seen: false,
     };
+    let n = id_index::count(index);
     let mut j = 0;
     while j < n {
-        so_far = judge_version(conf, required, p, book, at[j] as usize, so_far);
+        so_far = judge_version(
+            conf,
+            required,
+            p,
+            book,
+            id_index::place_at(index, j),
+            so_far,
+        );
         j += 1;
     }
     so_far.judging
@@ -183,14 +184,11 @@ pub fn judge_direct_list(
     info: PointInfo,
     p: PointView,
     book: &[u8],
-    n: usize,
-    at: &[u32],
-    next: &[u16],
-    heads: &[u16],
+    index: &[u16],
 ) -> Judging
     requires { ⌜ Reads (now rec) info ⌝ }
-    requires { ⌜ Index (now book) n (now at) (now next) (now heads) ⌝ }
-    ensures { λ r. ⌜ DirectListJudged (settingsOf conf) required p (now (rec .entry)) (now (book .entry)) n (now (at .entry)) (judgingOf r) ⌝ }
+    requires { ⌜ Index (now book) (now index) ⌝ }
+    ensures { λ r. ⌜ DirectListJudged (settingsOf conf) required p (now (rec .entry)) (now (book .entry)) (now (index .entry)) (judgingOf r) ⌝ }
 {
     let own = p.id;
     let two = parts::rounds_back(own.round, 2);
@@ -198,11 +196,11 @@ pub fn judge_direct_list(
     let far = point::witness(rec, info);
     let near = point::includes(rec, info);
     let start = judge_step::START;
-    let done = judge_map(conf, required, p, two, far, book, n, at, next, heads, start);
-    let both = judge_map(conf, required, p, one, near, book, n, at, next, heads, done);
+    let done = judge_map(conf, required, p, two, far, book, index, start);
+    let both = judge_map(conf, required, p, one, near, book, index, done);
     let prev_digest = p.prev_digest;
     match prev_digest {
         Found::Digest(_) => both,
-        Found::Absent => judge_versions(conf, required, p, book, n, at, both),
+        Found::Absent => judge_versions(conf, required, p, book, index, both),
     }
 }

@@ -15,7 +15,7 @@ ghost use Rattle.point.specs.Code.{linkOf, pointOf, Reads};
 ghost use Rattle.schedule.specs.Code.{settingsOf};
 ghost use Rattle.reasons.specs.Code.{verdictOf};
 ghost use Rattle.judge_step.specs.Code.{judgingOf};
-ghost use Rattle.book_index.specs.Code.{Index};
+ghost use Rattle.id_index.specs.Code.{Index};
 ghost use Rattle.books.specs.Lists.{isTriggerFirst};
 ghost use Rattle.book_judge.specs.Code.{TargetJudged, TargetsJudged, BookJudged};
 
@@ -26,25 +26,22 @@ fn judge_target(
     role: AnchorStageRole,
     link: AnchorLink,
     book: &[u8],
-    n: usize,
-    at: &[u32],
-    next: &[u16],
-    heads: &[u16],
+    index: &[u16],
     so_far: Judging,
 ) -> Judging
-    requires { ⌜ Index (now book) n (now at) (now next) (now heads) ⌝ }
-    ensures { λ r. ⌜ TargetJudged (settingsOf conf) p role (linkOf link) (now (book .entry)) n (now (at .entry)) (judgingOf «so_far») (judgingOf r) ⌝ }
+    requires { ⌜ Index (now book) (now index) ⌝ }
+    ensures { λ r. ⌜ TargetJudged (settingsOf conf) p role (linkOf link) (now (book .entry)) (now (index .entry)) (judgingOf «so_far») (judgingOf r) ⌝ }
 {
     match link {
         AnchorLink::Direct(_) => so_far,
         AnchorLink::Indirect(indirect) => {
             let to = indirect.to;
             let through = indirect.through;
-            let x = look::lookup(p, to, book, n, at, next, heads);
+            let x = look::lookup(p, to, book, index);
             let state = x.state;
             let place = x.place;
             let end = x.end;
-            judge_step::judge_indirect(
+            let gives = judge_step::indirect_gives(
                 conf,
                 role,
                 through,
@@ -52,8 +49,8 @@ fn judge_target(
                 &book[place..end],
                 state,
                 x.certified,
-                so_far,
-            )
+            );
+            judge_step::with_indirect(so_far, gives)
         }
     }
 }
@@ -81,47 +78,22 @@ fn judge_targets(
     p: PointView,
     info: PointInfo,
     book: &[u8],
-    n: usize,
-    at: &[u32],
-    next: &[u16],
-    heads: &[u16],
+    index: &[u16],
     so_far: Judging,
 ) -> Judging
-    requires { ⌜ Index (now book) n (now at) (now next) (now heads) ⌝ }
-    ensures { λ r. ⌜ TargetsJudged (settingsOf conf) p info (now (book .entry)) n (now (at .entry)) (judgingOf «so_far») (judgingOf r) ⌝ }
+    requires { ⌜ Index (now book) (now index) ⌝ }
+    ensures { λ r. ⌜ TargetsJudged (settingsOf conf) p info (now (book .entry)) (now (index .entry)) (judgingOf «so_far») (judgingOf r) ⌝ }
 {
     let proof = info.anchor_proof;
     let trigger = info.anchor_trigger;
     let to_proof = AnchorStageRole::Proof;
     let to_trigger = AnchorStageRole::Trigger;
     if is_trigger_first(proof, trigger) {
-        let first = judge_target(
-            conf,
-            p,
-            to_trigger,
-            trigger,
-            book,
-            n,
-            at,
-            next,
-            heads,
-            so_far,
-        );
-        return judge_target(conf, p, to_proof, proof, book, n, at, next, heads, first);
+        let first = judge_target(conf, p, to_trigger, trigger, book, index, so_far);
+        return judge_target(conf, p, to_proof, proof, book, index, first);
     }
-    let first = judge_target(conf, p, to_proof, proof, book, n, at, next, heads, so_far);
-    judge_target(
-        conf,
-        p,
-        to_trigger,
-        trigger,
-        book,
-        n,
-        at,
-        next,
-        heads,
-        first,
-    )
+    let first = judge_target(conf, p, to_proof, proof, book, index, so_far);
+    judge_target(conf, p, to_trigger, trigger, book, index, first)
 }
 
 // Judges a point whose list is needed.
@@ -131,16 +103,13 @@ pub fn judge_book(
     rec: &[u8],
     info: PointInfo,
     book: &[u8],
-    n: usize,
-    at: &[u32],
-    next: &[u16],
-    heads: &[u16],
+    index: &[u16],
 ) -> Verdict
     requires { ⌜ Reads (now rec) info ⌝ }
-    requires { ⌜ Index (now book) n (now at) (now next) (now heads) ⌝ }
-    ensures { λ r. ⌜ BookJudged (settingsOf conf) required (pointOf (now (rec .entry)) info) (now (book .entry)) n (now (at .entry)) (verdictOf r) ⌝ }
+    requires { ⌜ Index (now book) (now index) ⌝ }
+    ensures { λ r. ⌜ BookJudged (settingsOf conf) required (pointOf (now (rec .entry)) info) (now (book .entry)) (now (index .entry)) (verdictOf r) ⌝ }
 {
     let p = judge_valid::point_view(rec, info);
-    let direct = direct::judge_direct_list(conf, required, rec, info, p, book, n, at, next, heads);
-    judge_list::verdict(judge_targets(conf, p, info, book, n, at, next, heads, direct))
+    let direct = direct::judge_direct_list(conf, required, rec, info, p, book, index);
+    judge_list::verdict(judge_targets(conf, p, info, book, index, direct))
 }

@@ -1,6 +1,6 @@
 // What a book says of a dependency.
-use book_index::Place;
 use book_layout::ReadKept;
+use id_index::Place;
 use judge_entries::DagPoint;
 use judge_valid::PointView;
 use point::PointId;
@@ -10,7 +10,7 @@ ghost use Prim.Native.Nat.{_≤_};
 ghost use lib.ListN.{length};
 ghost use Rattle.point.specs.Code.{pointIdOf};
 ghost use Rattle.judge_entries.specs.Code.{EntryPlaced};
-ghost use Rattle.book_index.specs.Code.{Index};
+ghost use Rattle.id_index.specs.Code.{Index};
 ghost use Rattle.book_judge.specs.Code.{KeptLooked, LookedUp};
 
 // An entry whose record stands from `place` to `end`.
@@ -62,23 +62,15 @@ pub fn kept_at(book: &[u8], place: usize, covered: bool) -> Looked
 
 // What the book says of an id. The previous point counts as certified: its mark is made before the list is judged, and it counts so
 // even if it is not kept.
-pub fn lookup(
-    p: PointView,
-    id: PointId,
-    book: &[u8],
-    n: usize,
-    at: &[u32],
-    next: &[u16],
-    heads: &[u16],
-) -> Looked
-    requires { ⌜ Index (now book) n (now at) (now next) (now heads) ⌝ }
+pub fn lookup(p: PointView, id: PointId, book: &[u8], index: &[u16]) -> Looked
+    requires { ⌜ Index (now book) (now index) ⌝ }
     ensures { λ r. ⌜ EntryPlaced (now (book .entry)) (r .state) (r .place) (r .end) ⌝ }
-    ensures { λ r. ⌜ LookedUp (now (book .entry)) n (now (at .entry)) p (pointIdOf id) r ⌝ }
+    ensures { λ r. ⌜ LookedUp (now (book .entry)) (now (index .entry)) p (pointIdOf id) r ⌝ }
 {
     let covered = judge_list::is_prev(p, id);
-    let found = book_index::find(book, n, at, next, heads, id);
+    let found = id_index::find(book, index, id);
     match found {
-        Place::At(j) => kept_at(book, at[j] as usize, covered),
+        Place::At(place) => kept_at(book, place, covered),
         Place::Absent => Looked {
             state: DagPoint::NotFound(id),
             certified: covered,

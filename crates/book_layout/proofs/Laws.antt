@@ -1,29 +1,36 @@
 -- Laws of one entry: runs of zeros, the steps of reading it, and how its bytes are put together.
 use Prim.Native.Nat.{ℕ, zero, suc, _+_, _*_, _-_, _≤_, _<_}
 use native.Mathlib.Omega.{arith}
+use native.Mathlib.Decide.{ℕ-discrete}
 use native.Mathlib.Numerals.{add-one, add-two}
 use mathlib.Core.Path.{_≡_, refl, ap, sym, _∙_}
 use mathlib.Core.Bool.{Bool, true, false, _&&_, and-assoc}
 use mathlib.Core.Option.{Option, none, some, Option·map}
 use mathlib.Core.List.{List, [], _∷_, _++_, append-assoc}
 use lib.ListN.{length, getD, set, take, drop, take-append-drop, drop-of-length-le, length-take, length-drop}
-use lib.Seq.{drop-cons, drop-drop, length-take-le}
+use lib.Seq.{drop-cons, drop-drop, take-add, length-take-le}
 use lib.Dec.{leb, eqb}
 use borrow.Author.Tests.{le-leb, lt-leb, eq-eqb, ne-eqb}
 use Rattle.base.specs.Base.{pick, isSome}
-use Rattle.base.proofs.Option.{picked, and-then, unfound}
+use Rattle.base.proofs.Bool.{clash}
+use Rattle.base.proofs.Option.{picked, and-then, some-of, unfound}
 use Rattle.base.proofs.Impossible.{impossible}
-use Rattle.parts.specs.Bytes.{little, littleAt, bigAt, littleBytes, bigBytes, putAt}
+use Rattle.parts.specs.Bytes.{bytesAt, little, littleAt, bigAt, littleBytes, bigBytes, putAt}
 use Rattle.write.proofs.Laws.{put-is, put-three}
 use Rattle.record.specs.Record.{fieldRow, fieldOk, recordEnd}
+use Rattle.record.specs.Code.{Shaped, ShapeOf}
+use Rattle.record.specs.declared.Shape.{Shape}
+use Rattle.record.specs.declared.ReadShape as code-read-shape
+use Rattle.record.specs.declared.ReadShape.the-variants as case-read-shape
 use Rattle.record.proofs.Laws.{fitting, end-within}
-use Rattle.point.specs.Point.{PointId, Through, Includes, Witness, PointInfo}
+use Rattle.point.specs.Point.{PointId, Through, Includes, Witness, PointInfo, inDomain}
 use Rattle.point.specs.Reading.{pointIdAt, readPoint}
 use Rattle.point.specs.Code.{pointOf, Reads}
 use Rattle.point.specs.declared.info.PointInfo as code-info
 use Rattle.reasons.specs.Invalid.{dagRound}
+use Rattle.rules.specs.List.{isNamed, isListable}
 use Rattle.books.specs.Kept.{Status, Valid, TransInvalid, Invalid, IllFormed, Kept}
-use Rattle.books.specs.Layout.{idBytes, isZeros, throughAt, isRootOk, readStatus, isKeepable, readKept, KeptFront, keptFront}
+use Rattle.books.specs.Layout.{idBytes, isZeros, throughAt, rootAt, isRootOk, readStatus, isKeepable, readKept, KeptFront, keptFront}
 use Rattle.book_layout.specs.Code.{keptEntryOf, EntryFrom, readKeptOf, KeptPlaced, EntryTo}
 use Rattle.book_layout.specs.declared.read.ReadKept as code-read-kept
 use Rattle.book_layout.specs.declared.read.ReadKept.the-variants as case-read-kept
@@ -46,6 +53,10 @@ little-zeros (zero ∷ l) = times-zero (little l) ∙ little-zeros l
     times-zero (suc n) = ne-eqb (0 + 256 * suc n) 0 (λ e. omega arith) ∙ sym (ne-eqb (suc n) 0 (λ e. omega arith))
 little-zeros (suc x ∷ l) = ne-eqb (suc x + 256 * little l) 0 (λ e. omega arith) ∙ sym (rw (ne-eqb (suc x) 0 (λ e. omega arith)))
 
+and-true : (b : Bool) → (b && true) ≡ b
+and-true true = refl
+and-true false = refl
+
 module _ (s : List ℕ) (at : ℕ) where
   -- a byte, and those after it
   module _ (h : at < length s) where
@@ -59,26 +70,64 @@ module _ (s : List ℕ) (at : ℕ) where
     pub byte-zero : getD s at 0 ≡ 0 → isZeros (drop (at + 1) s) ≡ isZeros (drop at s)
     byte-zero e = sym (by-one ∙ rw (eq-eqb (getD s at 0) 0 e))
 
-  -- eight bytes, and those after them
-  by-eight : isZeros (drop at s) ≡ (eqb (littleAt 8 s at) 0 && isZeros (drop (at + 8) s))
+  -- n bytes, and those after them
+  by-bytes : (n : ℕ) → isZeros (drop at s) ≡ (isZeros (bytesAt n s at) && isZeros (drop (at + n) s))
+  by-bytes n =
+      ap isZeros (sym (take-append-drop n (drop at s)))
+      ∙ (zeros-append (take n (drop at s)) (drop n (drop at s))
+      ∙ rw (drop-drop n at s))
+
+  by-number : (n : ℕ) → isZeros (bytesAt n s at) ≡ eqb (littleAt n s at) 0
   unfolding littleAt
-  by-eight =
-      ap isZeros (sym (take-append-drop 8 (drop at s)))
-      ∙ (zeros-append (take 8 (drop at s)) (drop 8 (drop at s))
-      ∙ rw (little-zeros (take 8 (drop at s)), drop-drop 8 at s))
+  by-number n = sym (little-zeros (take n (drop at s)))
 
-  module _ (w : ℕ) (e : w ≡ littleAt 8 s at) where
+  module _ (n w : ℕ) (e : w ≡ littleAt n s at) where
+    pub word-is : isZeros (bytesAt n s at) ≡ eqb w 0
+    word-is = by-number n ∙ rw (← e)
+
     pub word-not : (w ≡ 0 → ⊥) → isZeros (drop at s) ≡ false
-    word-not n = by-eight ∙ rw (← e, ne-eqb w 0 n)
+    word-not d = by-bytes n ∙ rw (word-is, ne-eqb w 0 d)
 
-    pub word-zero : w ≡ 0 → isZeros (drop (at + 8) s) ≡ isZeros (drop at s)
-    word-zero z = sym (by-eight ∙ rw (← e, eq-eqb w 0 z))
+    pub word-zero : w ≡ 0 → isZeros (drop (at + n) s) ≡ isZeros (drop at s)
+    word-zero z = sym (by-bytes n ∙ rw (word-is, eq-eqb w 0 z))
+
+    pub word-last : length s ≤ at + n → isZeros (drop at s) ≡ eqb w 0
+    unfolding isZeros
+    word-last h = by-bytes n ∙ rw (word-is, drop-of-length-le s h) (and-true (eqb w 0))
+
+  -- n bytes of which the first eight are a word
+  module _ (n m w : ℕ) (g : n ≡ 8 + m) (e : w ≡ littleAt 8 s at) where
+    front : isZeros (bytesAt n s at) ≡ (eqb w 0 && isZeros (bytesAt m s (at + 8)))
+    front =
+        rw g (ap isZeros (take-add 8 m (drop at s)) ∙ (zeros-append (take 8 (drop at s)) (take m (drop 8 (drop at s))) ∙ rw (word-is 8 w e, drop-drop 8 at s)))
+
+    pub front-not : (w ≡ 0 → ⊥) → isZeros (bytesAt n s at) ≡ false
+    front-not d = front ∙ rw (ne-eqb w 0 d)
+
+    pub front-zero : (q : ℕ) → q ≡ at + 8 → w ≡ 0 → isZeros (bytesAt n s at) ≡ isZeros (bytesAt m s q)
+    front-zero q f z = front ∙ rw (eq-eqb w 0 z, f)
+
+  -- 64 bytes, and those after them
+  module _ (b : Bool) (e : b ≡ isZeros (bytesAt 64 s at)) where
+    pub line-not : b ≡ false → isZeros (drop at s) ≡ false
+    line-not f = by-bytes 64 ∙ rw (← e, f)
+
+    pub line-zero : b ≡ true → isZeros (drop (at + 64) s) ≡ isZeros (drop at s)
+    line-zero t = sym (by-bytes 64 ∙ rw (← e, t))
 
   pub none-left : length s ≤ at → isZeros (drop at s) ≡ true
   unfolding isZeros
   none-left h = rw (drop-of-length-le s h)
 
 -- ---- the status that tag 33 says
+
+some-picked : {A : Type 0} (b : Bool) (x : A) → isSome (pick b (some x) none) ≡ b
+some-picked true x = refl
+some-picked false x = refl
+
+picked-some : {A : Type 0} (b : Bool) (x : A) → isSome (pick b (some x) none) ≡ true → pick b (some x) none ≡ some x
+picked-some true x h = refl
+picked-some false x h = impossible (cc)
 
 module _ (t : List ℕ) where
   module _ (r : ℕ) (e : r ≡ littleAt 4 t 3) where
@@ -106,72 +155,60 @@ module _ (t : List ℕ) where
     pub through-witness : (getD t at 0 ≡ 0 → ⊥) → throughAt t at ≡ Witness x
     through-witness h = rw (ne-eqb (getD t at 0) 0 h, e)
 
+  -- whether a status is there, by the state
   module _ (e : getD t 0 0 ≡ 0) where
-    pub valid-after : isZeros (drop 2 t) ≡ false → readStatus t ≡ none
+    pub valid-some : 3 ≤ length t → isSome (readStatus t) ≡ (eqb (getD t 2 0) 0 && isZeros (drop 3 t))
     unfolding readStatus
-    valid-after z = rw (e, z)
+    valid-some h = rw e (some-picked (isZeros (drop 2 t)) Valid ∙ by-one t 2 (omega arith))
 
-    pub valid : isZeros (drop 2 t) ≡ true → readStatus t ≡ some Valid
+    pub valid : isSome (readStatus t) ≡ true → readStatus t ≡ some Valid
     unfolding readStatus
-    valid z = rw (e, z)
+    valid = rw e (picked-some (isZeros (drop 2 t)) Valid)
 
   module _ (e : getD t 0 0 ≡ 1) where
-    pub trans-numbered : (getD t 2 0 ≡ 0 → ⊥) → readStatus t ≡ none
+    pub trans-some : isSome (readStatus t) ≡ (eqb (getD t 2 0) 0 && isRootOk t)
     unfolding readStatus
-    trans-numbered n = rw (e, ne-eqb (getD t 2 0) 0 n)
+    trans-some = rw e (some-picked (eqb (getD t 2 0) 0 && isRootOk t) (TransInvalid (rootAt t)))
 
-    module _ (n : getD t 2 0 ≡ 0) where
-      pub trans-rootless : isRootOk t ≡ false → readStatus t ≡ none
-      unfolding readStatus
-      trans-rootless r = rw (e, eq-eqb (getD t 2 0) 0 n, r)
+    trans-root : isSome (readStatus t) ≡ true → readStatus t ≡ some (TransInvalid (rootAt t))
+    unfolding readStatus
+    trans-root = rw e (picked-some (eqb (getD t 2 0) 0 && isRootOk t) (TransInvalid (rootAt t)))
 
-      pub trans-invalid : (to : PointId) (through : Through) → isRootOk t ≡ true → to ≡ pointIdAt t 3 → through ≡ throughAt t 72 →
-          readStatus t ≡ some (TransInvalid (record { to = to; reason = getD t 71 0; through = through }))
-      unfolding readStatus
-      trans-invalid to through r f g = rw (e, eq-eqb (getD t 2 0) 0 n, r, f, g)
+    pub trans-invalid : (to : PointId) (through : Through) → isSome (readStatus t) ≡ true → to ≡ pointIdAt t 3 → through ≡ throughAt t 72 →
+        readStatus t ≡ some (TransInvalid (record { to = to; reason = getD t 71 0; through = through }))
+    trans-invalid to through h f g = trans-root h ∙ rw (f, g)
 
   module _ (e : getD t 0 0 ≡ 2) where
-    pub invalid-reasonless : isSome (dagRound (getD t 2 0)) ≡ false → readStatus t ≡ none
+    pub invalid-some : isSome (readStatus t) ≡ (isSome (dagRound (getD t 2 0)) && isZeros (drop 3 t))
     unfolding readStatus
-    invalid-reasonless n = rw (e, n)
+    invalid-some = rw e (some-picked (isSome (dagRound (getD t 2 0)) && isZeros (drop 3 t)) (Invalid (getD t 2 0)))
 
-    module _ (n : isSome (dagRound (getD t 2 0)) ≡ true) where
-      pub invalid-after : isZeros (drop 3 t) ≡ false → readStatus t ≡ none
-      unfolding readStatus
-      invalid-after z = rw (e, n, z)
-
-      pub invalid : isZeros (drop 3 t) ≡ true → readStatus t ≡ some (Invalid (getD t 2 0))
-      unfolding readStatus
-      invalid z = rw (e, n, z)
+    pub invalid : isSome (readStatus t) ≡ true → readStatus t ≡ some (Invalid (getD t 2 0))
+    unfolding readStatus
+    invalid = rw e (picked-some (isSome (dagRound (getD t 2 0)) && isZeros (drop 3 t)) (Invalid (getD t 2 0)))
 
   module _ (e : getD t 0 0 ≡ 3) where
-    pub ill-formed-low : getD t 2 0 < 1 → readStatus t ≡ none
+    pub ill-formed-some : isSome (readStatus t) ≡ ((leb 1 (getD t 2 0) && leb (getD t 2 0) 16) && isZeros (drop 3 t))
     unfolding readStatus
-    ill-formed-low h = rw (e, lt-leb 1 (getD t 2 0) h)
+    ill-formed-some = rw e (some-picked ((leb 1 (getD t 2 0) && leb (getD t 2 0) 16) && isZeros (drop 3 t)) (IllFormed (getD t 2 0)))
 
-    module _ (l : 1 ≤ getD t 2 0) where
-      pub ill-formed-high : 16 < getD t 2 0 → readStatus t ≡ none
-      unfolding readStatus
-      ill-formed-high h = rw (e, le-leb 1 (getD t 2 0) l, lt-leb (getD t 2 0) 16 h)
+    pub ill-formed : isSome (readStatus t) ≡ true → readStatus t ≡ some (IllFormed (getD t 2 0))
+    unfolding readStatus
+    ill-formed = rw e (picked-some ((leb 1 (getD t 2 0) && leb (getD t 2 0) 16) && isZeros (drop 3 t)) (IllFormed (getD t 2 0)))
 
-      module _ (h : getD t 2 0 ≤ 16) where
-        pub ill-formed-after : isZeros (drop 3 t) ≡ false → readStatus t ≡ none
-        unfolding readStatus
-        ill-formed-after z = rw (e, le-leb 1 (getD t 2 0) l, le-leb (getD t 2 0) 16 h, z)
+  module _ (a : getD t 0 0 ≡ 0 → ⊥) (b : getD t 0 0 ≡ 1 → ⊥) (c : getD t 0 0 ≡ 2 → ⊥) where
+    pub status-none : (getD t 0 0 ≡ 3 → ⊥) → isSome (readStatus t) ≡ false
+    unfolding readStatus
+    status-none d = rw (ne-eqb (getD t 0 0) 0 a, ne-eqb (getD t 0 0) 1 b, ne-eqb (getD t 0 0) 2 c, ne-eqb (getD t 0 0) 3 d)
 
-        pub ill-formed : isZeros (drop 3 t) ≡ true → readStatus t ≡ some (IllFormed (getD t 2 0))
-        unfolding readStatus
-        ill-formed z = rw (e, le-leb 1 (getD t 2 0) l, le-leb (getD t 2 0) 16 h, z)
-
-  pub status-none : (getD t 0 0 ≡ 0 → ⊥) → (getD t 0 0 ≡ 1 → ⊥) → (getD t 0 0 ≡ 2 → ⊥) → (getD t 0 0 ≡ 3 → ⊥) → readStatus t ≡ none
-  unfolding readStatus
-  status-none a b c d = rw (ne-eqb (getD t 0 0) 0 a, ne-eqb (getD t 0 0) 1 b, ne-eqb (getD t 0 0) 2 c, ne-eqb (getD t 0 0) 3 d)
+    -- the state that is left
+    pub state-three : isSome (readStatus t) ≡ true → getD t 0 0 ≡ 3
+    state-three h = elim (ℕ-discrete (getD t 0 0) 3) [
+      | yes e ↦ e
+      | no d ↦ clash (isSome (readStatus t)) h (status-none d)
+    ]
 
 -- ---- the entry of a record and tag 33
-
-some-picked : (b : Bool) (k : Kept) → isSome (pick b (some k) none) ≡ b
-some-picked true k = refl
-some-picked false k = refl
 
 module _ (bytes : List ℕ) (q : PointInfo) (t : List ℕ) where
   pub entry-unflagged : 1 < getD t 1 0 → readKept bytes q t ≡ none
@@ -198,6 +235,46 @@ module _ (bytes : List ℕ) (q : PointInfo) (t : List ℕ) where
     unfolding readKept
     entry-some s e = rw (le-leb (getD t 1 0) 1 h, e) (some-picked (isKeepable q s) _)
 
+  -- which point may be kept is up to the state
+  module _ (s : Status) (e : readStatus t ≡ some s) where
+    keepable-by : isKeepable q s ≡ pick (eqb (getD t 0 0) 3) (inDomain q) (isListable q)
+    keepable-by = elim (ℕ-discrete (getD t 0 0) 3) [
+      | yes z ↦ rw (eq-eqb (getD t 0 0) 3 z) (let f = ill-formed t z (ap isSome e) in let x : s ≡ IllFormed (getD t 2 0) = cc in ap (isKeepable q) x)
+      | no d ↦ rw (ne-eqb (getD t 0 0) 3 d) (other d)
+    ]
+      where
+        other : (getD t 0 0 ≡ 3 → ⊥) → isKeepable q s ≡ isListable q
+        other d = elim (ℕ-discrete (getD t 0 0) 0) [
+          | yes z ↦ let f = valid t z (ap isSome e) in let x : s ≡ Valid = cc in ap (isKeepable q) x
+          | no a ↦ elim (ℕ-discrete (getD t 0 0) 1) [
+            | yes z ↦ let f = trans-root t z (ap isSome e) in let x : s ≡ TransInvalid (rootAt t) = cc in ap (isKeepable q) x
+            | no b ↦ elim (ℕ-discrete (getD t 0 0) 2) [
+              | yes z ↦ let f = invalid t z (ap isSome e) in let x : s ≡ Invalid (getD t 2 0) = cc in ap (isKeepable q) x
+              | no c ↦ absurd (d (state-three t a b c (ap isSome e)))
+            ]
+          ]
+        ]
+
+  module _ (h : getD t 1 0 ≤ 1) (g : isSome (readStatus t) ≡ true) where
+    entry-by : isSome (readKept bytes q t) ≡ pick (eqb (getD t 0 0) 3) (inDomain q) (isListable q)
+    entry-by = let s = some-of (readStatus t) g in entry-some h (s .0) (s .1) ∙ keepable-by (s .0) (s .1)
+
+    pub entry-outside : inDomain q ≡ false → isSome (readKept bytes q t) ≡ false
+    unfolding isListable
+    entry-outside d = entry-by ∙ either (eqb (getD t 0 0) 3)
+      where
+        either : (b : Bool) → pick b (inDomain q) (isListable q) ≡ false
+        either true = d
+        either false = rw d
+
+    module _ (d : inDomain q ≡ true) where
+      pub entry-ill-formed : getD t 0 0 ≡ 3 → isSome (readKept bytes q t) ≡ true
+      entry-ill-formed e = entry-by ∙ rw (eq-eqb (getD t 0 0) 3 e) d
+
+      pub entry-listed : (getD t 0 0 ≡ 3 → ⊥) → isSome (readKept bytes q t) ≡ (isNamed q (q .anchorProof) && isNamed q (q .anchorTrigger))
+      unfolding isListable
+      entry-listed e = entry-by ∙ rw (ne-eqb (getD t 0 0) 3 e, d)
+
   -- an entry has its record and its point
   pub entry-whose : (k : Kept) → readKept bytes q t ≡ some k → (k .bytes ≡ bytes) × (k .point ≡ q)
   unfolding readKept
@@ -210,6 +287,13 @@ module _ (bytes : List ℕ) (q : PointInfo) (t : List ℕ) where
 
 abbrev sized : ℕ → Option Kept → Option KeptFront
 sized n o = Option·map (λ k. record { kept = k; size = n }) o
+
+-- what the walk over a record tells
+pub walk-told : (s : List ℕ) (r : code-read-shape.ReadShape) (x : Shape) → r ≡ case-read-shape.Shape x → ShapeOf s r → Shaped s x
+walk-told s r x e h = rw e at h
+
+pub walk-untold : (s : List ℕ) (r : code-read-shape.ReadShape) → r ≡ case-read-shape.Unreadable → ShapeOf s r → recordEnd s ≡ none
+walk-untold s r e h = rw e at h
 
 pub front-endless : (s : List ℕ) → recordEnd s ≡ none → keptFront s ≡ none
 unfolding keptFront
@@ -224,7 +308,7 @@ tag-inside n s f =
 pub tag-part : (n : ℕ) (s : List ℕ) → take (n + 108 - (n + 3)) (drop (n + 3) s) ≡ take 105 (drop (n + 3) s)
 tag-part n s = let e : n + 108 - (n + 3) ≡ 105 = omega arith in rw e
 
-pub tag-length : (n : ℕ) (s : List ℕ) → n + 108 ≤ length s → 105 ≤ length (take (n + 108 - (n + 3)) (drop (n + 3) s))
+pub tag-length : (n : ℕ) (s : List ℕ) → n + 108 ≤ length s → length (take (n + 108 - (n + 3)) (drop (n + 3) s)) ≡ 105
 tag-length n s h = simp (length-take, length-drop) (omega arith)
 
 -- the part of a slice up to where its record ends

@@ -19,8 +19,6 @@ use Rattle.book_layout.specs.declared.status.Status as code-status
 use Rattle.book_layout.specs.declared.status.Status.the-variants as case-status
 use Rattle.book_layout.specs.declared.status.Left as code-left
 use Rattle.book_layout.specs.declared.status.Left.the-variants as case-left
-use Rattle.book_layout.specs.declared.read.ReadStatus as code-read-status
-use Rattle.book_layout.specs.declared.read.ReadStatus.the-variants as case-read-status
 use Rattle.book_layout.specs.declared.read.Kept as code-kept
 use Rattle.book_layout.specs.declared.read.ReadKept as code-read-kept
 use Rattle.book_layout.specs.declared.read.ReadKept.the-variants as case-read-kept
@@ -30,10 +28,6 @@ statusOf case-status.Valid = Valid
 statusOf (case-status.TransInvalid d) = TransInvalid (dependencyOf d)
 statusOf (case-status.Invalid n) = Invalid n
 statusOf (case-status.IllFormed n) = IllFormed n
-
-abbrev pub readStatusOf : code-read-status.ReadStatus → Option Status
-readStatusOf (case-read-status.Status s) = some (statusOf s)
-readStatusOf case-read-status.Unreadable = none
 
 -- what a verdict on a record leaves in the book
 abbrev pub leftOf : List ℕ → PointInfo → code-left.Left → List Kept

@@ -6,19 +6,23 @@ use point::ReadPoint;
 use point::Through;
 use reasons::InvalidDependency;
 use record::End;
+use record::Places;
+use record::ReadShape;
 use record::Row;
 ghost use mathlib.Core.Path.{_≡_};
+ghost use mathlib.Core.Bool.{true, _&&_};
+ghost use mathlib.Core.Option.{some};
 ghost use Prim.Native.Nat.{_+_, _≤_};
 ghost use lib.ListN.{length, getD};
 ghost use Rattle.base.specs.Base.{isSome};
+ghost use Rattle.record.specs.Record.{startOf};
+ghost use Rattle.record.specs.Code.{PlacesOf};
+ghost use Rattle.point.specs.Point as point;
 ghost use Rattle.point.specs.Code.{throughOf, pointOf, Reads};
+ghost use Rattle.point.specs.Reading.{readLink, readPoint};
+ghost use Rattle.rules.specs.List.{isNamed};
 ghost use Rattle.books.specs.Layout.{throughAt, isRootOk, readStatus, isKeepable, readKept, keptFront};
-ghost use Rattle.book_layout.specs.Code.{statusOf, readStatusOf, keptEntryOf, EntryFrom, readKeptOf, KeptPlaced, KeptEnd};
-
-pub enum ReadStatus {
-    Status(Status),
-    Unreadable,
-}
+ghost use Rattle.book_layout.specs.Code.{statusOf, keptEntryOf, EntryFrom, readKeptOf, KeptPlaced, KeptEnd};
 
 // An entry whose record takes `len` bytes; tag 33 takes 108 after them.
 pub struct Kept {
@@ -69,76 +73,79 @@ fn through_at(t: &[u8], at: usize) -> Through
     Through::Witness(peer)
 }
 
-fn read_valid(t: &[u8]) -> ReadStatus
-    requires { ⌜ (105 ≤ length (now t)) × (getD (now t) 0 0 ≡ 0) ⌝ }
-    ensures { λ r. ⌜ readStatusOf r ≡ readStatus (now (t .entry)) ⌝ }
-{
-    if !zeros::is_zeros(t, 2) {
-        return ReadStatus::Unreadable;
-    }
-    ReadStatus::Status(Status::Valid)
-}
-
-fn read_trans_invalid(t: &[u8]) -> ReadStatus
-    requires { ⌜ (105 ≤ length (now t)) × (getD (now t) 0 0 ≡ 1) ⌝ }
-    ensures { λ r. ⌜ readStatusOf r ≡ readStatus (now (t .entry)) ⌝ }
+fn is_valid(t: &[u8]) -> bool
+    requires { ⌜ (length (now t) ≡ 105) × (getD (now t) 0 0 ≡ 0) ⌝ }
+    ensures { λ r. ⌜ r ≡ isSome (readStatus (now (t .entry))) ⌝ }
 {
     if t[2] != 0 {
-        return ReadStatus::Unreadable;
+        return false;
     }
-    if !is_root(t) {
-        return ReadStatus::Unreadable;
-    }
-    ReadStatus::Status(Status::TransInvalid(InvalidDependency {
-        to: point::point_id_at(t, 3),
-        reason: t[71],
-        through: through_at(t, 72),
-    }))
+    zeros::is_tail_zero(t)
 }
 
-fn read_invalid(t: &[u8]) -> ReadStatus
-    requires { ⌜ (105 ≤ length (now t)) × (getD (now t) 0 0 ≡ 2) ⌝ }
-    ensures { λ r. ⌜ readStatusOf r ≡ readStatus (now (t .entry)) ⌝ }
+fn is_trans_invalid(t: &[u8]) -> bool
+    requires { ⌜ (length (now t) ≡ 105) × (getD (now t) 0 0 ≡ 1) ⌝ }
+    ensures { λ r. ⌜ r ≡ isSome (readStatus (now (t .entry))) ⌝ }
 {
-    let reason = t[2];
-    if !judge_entries::is_reason(reason) {
-        return ReadStatus::Unreadable;
+    if t[2] != 0 {
+        return false;
     }
-    if !zeros::is_zeros(t, 3) {
-        return ReadStatus::Unreadable;
-    }
-    ReadStatus::Status(Status::Invalid(reason))
+    is_root(t)
 }
 
-fn read_ill_formed(t: &[u8]) -> ReadStatus
-    requires { ⌜ (105 ≤ length (now t)) × (getD (now t) 0 0 ≡ 3) ⌝ }
-    ensures { λ r. ⌜ readStatusOf r ≡ readStatus (now (t .entry)) ⌝ }
+fn is_invalid(t: &[u8]) -> bool
+    requires { ⌜ (length (now t) ≡ 105) × (getD (now t) 0 0 ≡ 2) ⌝ }
+    ensures { λ r. ⌜ r ≡ isSome (readStatus (now (t .entry))) ⌝ }
 {
-    let reason = t[2];
-    if reason < 1 {
-        return ReadStatus::Unreadable;
+    if !judge_entries::is_reason(t[2]) {
+        return false;
     }
-    if 16 < reason {
-        return ReadStatus::Unreadable;
-    }
-    if !zeros::is_zeros(t, 3) {
-        return ReadStatus::Unreadable;
-    }
-    ReadStatus::Status(Status::IllFormed(reason))
+    zeros::is_tail_zero(t)
 }
 
-// The status that the 105 bytes of tag 33 say.
-fn read_status(t: &[u8]) -> ReadStatus
-    requires { ⌜ 105 ≤ length (now t) ⌝ }
-    ensures { λ r. ⌜ readStatusOf r ≡ readStatus (now (t .entry)) ⌝ }
+fn is_ill_formed(t: &[u8]) -> bool
+    requires { ⌜ (length (now t) ≡ 105) × (getD (now t) 0 0 ≡ 3) ⌝ }
+    ensures { λ r. ⌜ r ≡ isSome (readStatus (now (t .entry))) ⌝ }
+{
+    if t[2] < 1 {
+        return false;
+    }
+    if 16 < t[2] {
+        return false;
+    }
+    zeros::is_tail_zero(t)
+}
+
+// Whether the 105 bytes of tag 33 say a status.
+fn is_status(t: &[u8]) -> bool
+    requires { ⌜ length (now t) ≡ 105 ⌝ }
+    ensures { λ r. ⌜ r ≡ isSome (readStatus (now (t .entry))) ⌝ }
 {
     let state = t[0];
     match state {
-        0 => read_valid(t),
-        1 => read_trans_invalid(t),
-        2 => read_invalid(t),
-        3 => read_ill_formed(t),
-        _ => ReadStatus::Unreadable,
+        0 => is_valid(t),
+        1 => is_trans_invalid(t),
+        2 => is_invalid(t),
+        3 => is_ill_formed(t),
+        _ => false,
+    }
+}
+
+// The status that they say.
+fn status_of(t: &[u8]) -> Status
+    requires { ⌜ (length (now t) ≡ 105) × (isSome (readStatus (now t)) ≡ true) ⌝ }
+    ensures { λ r. ⌜ readStatus (now (t .entry)) ≡ some (statusOf r) ⌝ }
+{
+    let state = t[0];
+    match state {
+        0 => Status::Valid,
+        1 => Status::TransInvalid(InvalidDependency {
+            to: point::point_id_at(t, 3),
+            reason: t[71],
+            through: through_at(t, 72),
+        }),
+        2 => Status::Invalid(t[2]),
+        _ => Status::IllFormed(t[2]),
     }
 }
 
@@ -158,7 +165,7 @@ fn is_keepable(rec: &[u8], info: PointInfo, status: Status) -> bool
 // The entry of a record and the 105 bytes of tag 33.
 fn entry_of(rec: &[u8], info: PointInfo, t: &[u8]) -> ReadKept
     requires { ⌜ Reads (now rec) info ⌝ }
-    requires { ⌜ 105 ≤ length (now t) ⌝ }
+    requires { ⌜ length (now t) ≡ 105 ⌝ }
     ensures { λ r. ⌜ keptEntryOf (now (rec .entry)) r ≡ readKept (now (rec .entry)) (pointOf (now (rec .entry)) info) (now (t .entry)) ⌝ }
     ensures { λ r. ⌜ EntryFrom (now (rec .entry)) info r ⌝ }
 {
@@ -166,9 +173,10 @@ fn entry_of(rec: &[u8], info: PointInfo, t: &[u8]) -> ReadKept
     if 1 < certified {
         return ReadKept::Unreadable;
     }
-    let ReadStatus::Status(status) = read_status(t) else {
+    if !is_status(t) {
         return ReadKept::Unreadable;
-    };
+    }
+    let status = status_of(t);
     if !is_keepable(rec, info, status) {
         return ReadKept::Unreadable;
     }
@@ -180,19 +188,70 @@ fn entry_of(rec: &[u8], info: PointInfo, t: &[u8]) -> ReadKept
     })
 }
 
+// Whether the peer of a direct link is one of its map.
+fn has_peer(rec: &[u8], includes: usize, witness: usize, evidence: usize, link: &[u8]) -> bool
+    requires { ⌜ (isSome (readPoint (now rec)) ≡ true) × ((34 ≤ length (now link)) × (getD (now link) 0 0 ≡ 1 → ⊥)) ⌝ }
+    requires { ⌜ (includes ≡ startOf (now rec) 2) × ((witness ≡ startOf (now rec) 3) × (evidence ≡ startOf (now rec) 4)) ⌝ }
+    ensures { λ r. ⌜ ((q : point.PointInfo) (l : point.AnchorLink) → readPoint (now (rec .entry)) ≡ some q →
+        readLink (now (link .entry)) ≡ some l → r ≡ isNamed q l) ⌝ }
+{
+    let peer = parts::id_at(link, 2);
+    if link[1] == 0 {
+        return map::contains(record::content_from(rec, includes, witness, 2), 64, peer);
+    }
+    map::contains(record::content_from(rec, witness, evidence, 3), 64, peer)
+}
+
+// Whether a link, if it is direct, names a peer of its map.
+fn is_named(rec: &[u8], includes: usize, witness: usize, evidence: usize, link: &[u8]) -> bool
+    requires { ⌜ (isSome (readPoint (now rec)) ≡ true) × (34 ≤ length (now link)) ⌝ }
+    requires { ⌜ (includes ≡ startOf (now rec) 2) × ((witness ≡ startOf (now rec) 3) × (evidence ≡ startOf (now rec) 4)) ⌝ }
+    ensures { λ r. ⌜ ((q : point.PointInfo) (l : point.AnchorLink) → readPoint (now (rec .entry)) ≡ some q →
+        readLink (now (link .entry)) ≡ some l → r ≡ isNamed q l) ⌝ }
+{
+    if link[0] == 1 {
+        return true;
+    }
+    has_peer(rec, includes, witness, evidence, link)
+}
+
+// Whether both links of a record, where they are direct, name peers of their maps.
+fn are_named(rec: &[u8], at: Places) -> bool
+    requires { ⌜ (isSome (readPoint (now rec)) ≡ true) × PlacesOf (now rec) at ⌝ }
+    ensures { λ r. ⌜ ((q : point.PointInfo) → readPoint (now (rec .entry)) ≡ some q →
+        r ≡ (isNamed q (q .anchorProof) && isNamed q (q .anchorTrigger))) ⌝ }
+{
+    let proof = record::content_from(rec, at.anchor_proof, at.anchor_trigger, 5);
+    let trigger = record::content_from(rec, at.anchor_trigger, at.role, 6);
+    if proof[0] == 1 {
+        return is_named(rec, at.includes, at.witness, at.evidence, trigger);
+    }
+    if !has_peer(rec, at.includes, at.witness, at.evidence, proof) {
+        return false;
+    }
+    is_named(rec, at.includes, at.witness, at.evidence, trigger)
+}
+
 // Whether a record and the 105 bytes of tag 33 are an entry.
-fn is_entry(rec: &[u8], info: PointInfo, t: &[u8]) -> bool
-    requires { ⌜ Reads (now rec) info ⌝ }
-    requires { ⌜ 105 ≤ length (now t) ⌝ }
-    ensures { λ r. ⌜ r ≡ isSome (readKept (now (rec .entry)) (pointOf (now (rec .entry)) info) (now (t .entry))) ⌝ }
+fn is_entry(rec: &[u8], at: Places, t: &[u8]) -> bool
+    requires { ⌜ (isSome (readPoint (now rec)) ≡ true) × PlacesOf (now rec) at ⌝ }
+    requires { ⌜ length (now t) ≡ 105 ⌝ }
+    ensures { λ r. ⌜ ((q : point.PointInfo) → readPoint (now (rec .entry)) ≡ some q →
+        r ≡ isSome (readKept (now (rec .entry)) q (now (t .entry)))) ⌝ }
 {
     if 1 < t[1] {
         return false;
     }
-    let ReadStatus::Status(status) = read_status(t) else {
+    if !is_status(t) {
         return false;
-    };
-    is_keepable(rec, info, status)
+    }
+    if !point::is_record_in_domain(rec, at) {
+        return false;
+    }
+    if t[0] == 3 {
+        return true;
+    }
+    are_named(rec, at)
 }
 
 // Where the record of the entry at the front of a slice ends. What a walk over many entries asks, without the entry by
@@ -200,17 +259,19 @@ fn is_entry(rec: &[u8], info: PointInfo, t: &[u8]) -> bool
 pub fn kept_end(s: &[u8]) -> End
     ensures { λ r. ⌜ KeptEnd (now (s .entry)) r ⌝ }
 {
-    let End::At(n) = record::record_end(s) else {
+    let ReadShape::Shape(shape) = record::read_shape(s) else {
         return End::Unreadable;
     };
+    let at = shape.at;
+    let n = shape.end;
     let rec = &s[0..n];
-    let ReadPoint::Point(info) = point::read_shaped(rec) else {
+    if !point::is_point(rec, at) {
         return End::Unreadable;
-    };
+    }
     if !record::field_ok(s, n, TAG) {
         return End::Unreadable;
     }
-    if !is_entry(rec, info, &s[n + 3..n + parts::TAG33_LENGTH]) {
+    if !is_entry(rec, at, &s[n + 3..n + parts::TAG33_LENGTH]) {
         return End::Unreadable;
     }
     End::At(n)

@@ -1,5 +1,4 @@
 // Reads a book: its settings, its entries and the zeros after them, and makes an index of the entries.
-use book_index::Place;
 use record::End;
 use schedule::ReadSettings;
 use schedule::Settings;
@@ -8,23 +7,17 @@ ghost use mathlib.Core.Bool.{true, not};
 ghost use Prim.Native.Nat.{_≤_};
 ghost use lib.ListN.{length, getD, replicate};
 ghost use lib.Dec.{eqb};
-ghost use Rattle.parts.specs.Limits.{entriesStart, mostKept, longestBook};
+ghost use Rattle.parts.specs.Limits.{entriesStart, longestBook};
 ghost use Rattle.book_read.specs.Code.{Reading, EntryRead, EntriesRead, BookRead};
 
-// What a book says: its settings, how many entries it has, and where they end.
+// What a book says: its settings, and where its entries end.
 pub enum ReadBook {
-    Book(Settings, usize, usize),
+    Book(Settings, usize),
     Unreadable,
 }
 
-// How many entries were read, and where they end.
-enum Entries {
-    Entries(usize, usize),
-    Unreadable,
-}
-
-// Where an entry ends.
-enum ReadEntry {
+// Where an entry, or all of them, end.
+enum ReadEntries {
     Ends(usize),
     Unreadable,
 }
@@ -39,54 +32,42 @@ fn is_entry_at(book: &[u8], place: usize) -> bool
     book[place] != 0
 }
 
-// Reads the entry at a place, as the n-th, and adds it to the index, unless there are too many or one of the same id.
-fn read_entry(
-    book: &[u8],
-    n: usize,
-    place: usize,
-    at: &mut [u32],
-    next: &mut [u16],
-    heads: &mut [u16],
-) -> ReadEntry
-    requires { ⌜ Reading (now book) n place (now at) (now next) (now heads) ⌝ }
+// Reads the entry at a place, and notes the place, unless there are too many.
+fn read_entry(book: &[u8], place: usize, index: &mut [u16]) -> ReadEntries
+    requires { ⌜ Reading (now book) place (now index) ⌝ }
     requires { ⌜ (length (now book) ≤ longestBook) × (not (eqb (getD (now book) place 0) 0) ≡ true) ⌝ }
-    ensures { λ r. ⌜ EntryRead (now (book .entry)) n (now (at .exit)) (now (next .exit)) (now (heads .exit)) r ⌝ }
+    ensures { λ r. ⌜ EntryRead (now (book .entry)) place (now (index .exit)) r ⌝ }
 {
-    if n == parts::MOST_KEPT {
-        return ReadEntry::Unreadable;
+    if id_index::count(index) == parts::MOST_KEPT {
+        return ReadEntries::Unreadable;
     }
     let End::At(size) = book_layout::kept_end(&book[place..]) else {
-        return ReadEntry::Unreadable;
+        return ReadEntries::Unreadable;
     };
-    let id = point::point_id_at(book, place + 3);
-    let Place::Absent = book_index::find(book, n, at, next, heads, id) else {
-        return ReadEntry::Unreadable;
-    };
-    book_index::insert(book, n, place, at, next, heads);
+    id_index::add(index, place);
     let end = place + size + parts::TAG33_LENGTH;
-    ReadEntry::Ends(end)
+    ReadEntries::Ends(end)
 }
 
-fn read_entries(book: &[u8], at: &mut [u32], next: &mut [u16], heads: &mut [u16]) -> Entries
+fn read_entries(book: &[u8], index: &mut [u16]) -> ReadEntries
     requires { ⌜ (entriesStart ≤ length (now book)) × (length (now book) ≤ longestBook) ⌝ }
-    requires { ⌜ (length (now at) ≡ mostKept) × ((length (now next) ≡ mostKept) × (now heads ≡ replicate mostKept 0)) ⌝ }
-    ensures { λ r. ⌜ EntriesRead (now (book .entry)) (now (at .exit)) (now (next .exit)) (now (heads .exit)) r ⌝ }
+    requires { ⌜ now index ≡ replicate 16386 0 ⌝ }
+    ensures { λ r. ⌜ EntriesRead (now (book .entry)) (now (index .exit)) r ⌝ }
 {
-    let mut n = 0;
     let mut end = parts::ENTRIES_START;
     while is_entry_at(book, end) {
-        let ReadEntry::Ends(after) = read_entry(book, n, end, at, next, heads) else {
-            return Entries::Unreadable;
+        let ReadEntries::Ends(after) = read_entry(book, end, index) else {
+            return ReadEntries::Unreadable;
         };
         end = after;
-        n += 1;
     }
-    Entries::Entries(n, end)
+    ReadEntries::Ends(end)
 }
 
-pub fn read_book(book: &[u8], at: &mut [u32], next: &mut [u16], heads: &mut [u16]) -> ReadBook
-    requires { ⌜ (length (now at) ≡ mostKept) × ((length (now next) ≡ mostKept) × (now heads ≡ replicate mostKept 0)) ⌝ }
-    ensures { λ r. ⌜ BookRead (now (book .entry)) (now (at .exit)) (now (next .exit)) (now (heads .exit)) r ⌝ }
+// The index is made last, of all entries: so whether an id stands twice is asked once.
+pub fn read_book(book: &[u8], index: &mut [u16]) -> ReadBook
+    requires { ⌜ now index ≡ replicate 16386 0 ⌝ }
+    ensures { λ r. ⌜ BookRead (now (book .entry)) (now (index .exit)) r ⌝ }
 {
     if book.len() < parts::ENTRIES_START {
         return ReadBook::Unreadable;
@@ -98,11 +79,14 @@ pub fn read_book(book: &[u8], at: &mut [u32], next: &mut [u16], heads: &mut [u16
     else {
         return ReadBook::Unreadable;
     };
-    let Entries::Entries(n, end) = read_entries(book, at, next, heads) else {
+    let ReadEntries::Ends(end) = read_entries(book, index) else {
         return ReadBook::Unreadable;
     };
     if !book_layout::is_zeros(book, end) {
         return ReadBook::Unreadable;
     }
-    ReadBook::Book(conf, n, end)
+    if !id_index::build(book, index) {
+        return ReadBook::Unreadable;
+    }
+    ReadBook::Book(conf, end)
 }

@@ -1,5 +1,6 @@
 -- What the code's values stand for, and what its functions promise each other.
-use mathlib.Core.Bool.{Bool, false, _||_}
+use mathlib.Core.Path.{_≡_}
+use mathlib.Core.Bool.{Bool, true, false, _||_}
 use mathlib.Core.Option.{Option, none, some, Option·map}
 use mathlib.Core.List.{List, [], _∷_}
 use Rattle.point.specs.Point.{PointInfo, prevId, PointId, Through, through}
@@ -7,23 +8,21 @@ use Rattle.schedule.specs.Settings.{Settings}
 use Rattle.reasons.specs.Verdict.{Verdict}
 use Rattle.reasons.specs.Code.{verdictOf}
 use Rattle.rules.specs.Validate.{overLists}
-use Rattle.rules.specs.List.{Listed, directs, indirects, isInOrder}
+use Rattle.rules.specs.List.{Listed, directs, indirects}
 use Rattle.rules.specs.Mismatch.{uncovered, uncovers}
 use Rattle.judge_list.specs.declared.JudgedList as code
 use Rattle.judge_list.specs.declared.JudgedList.the-variants as case
-use Prim.Native.Nat.{ℕ, _-_, _≤_, _<_}
+use Prim.Native.Nat.{ℕ, _-_}
 use Rattle.point.specs.Code.{linkOf}
 use Rattle.point.specs.declared.data.AnchorStageRole.{AnchorStageRole}
 use Rattle.point.specs.declared.data.AnchorStageRole.the-variants.{Proof, Trigger}
 use Rattle.rules.specs.DagPoint.{Entry, PointView, pointView}
-use Rattle.base.specs.Base.{pick, isSome}
-use Rattle.judge_step.specs.Code.{Judging, start, directStep, indirectStep, judgingOf}
+use Rattle.base.specs.Base.{isSome}
+use Rattle.judge_step.specs.Code.{Judging, start, Gives, withDirect, withIndirect, directStep, indirectStep, judgingOf}
 use Rattle.judge_valid.specs.Code.{pointViewOf}
 use Rattle.point.specs.declared.info.PointInfo as code-info
 use Rattle.judge_valid.specs.declared.view.PointView as code-view
 use Rattle.judge_list.specs.declared.Walk as code-walk
-use Rattle.judge_list.specs.declared.Next as code-next
-use Rattle.judge_list.specs.declared.Next.the-variants as case-next
 use Rattle.judge_list.specs.declared.WalkedList as code-list
 use Rattle.judge_list.specs.declared.WalkedList.the-variants as case-list
 
@@ -84,19 +83,6 @@ unfolding walkStep
 walkFold c required p w [] = w
 walkFold c required p w (x ∷ l) = walkFold c required p (walkStep c required p w x) l
 
--- the walk after one entry more, whether that one is of an indirect target, and how many bytes it takes
-pub record Next : Type 0 where
-  pub walk : Walk
-  pub indirect : Bool
-  pub size : ℕ
-
-abbrev pub nextWith : Settings → Bool → Viewed → Bool → Walk → Option Listed → Option Next
-nextWith c required p indirectSeen w none = none
-nextWith c required p indirectSeen w (some x) =
-    pick (isInOrder indirectSeen (x .aim))
-    (some (record { walk = walkStep c required p w x; indirect = isSome (x .aim); size = x .size }))
-    none
-
 -- over a list, if it could be read
 abbrev pub walkWith : Settings → Bool → Viewed → Walk → Option (List Listed) → Option Walk
 walkWith c required p w none = none
@@ -120,11 +106,11 @@ abbrev pub walkedListOf : code-list.WalkedList → Option Walk
 walkedListOf (case-list.Walked w) = some (walkOf w)
 walkedListOf case-list.Unreadable = none
 
-abbrev pub nextOf : code-next.Next → Option Next
-nextOf (case-next.Judged w b n) = some (record { walk = walkOf w; indirect = b; size = n })
-nextOf case-next.Unreadable = none
+-- what was found, and then what an entry gives
+abbrev pub withListed : Bool → Judging → Gives → Judging
+withListed true j g = withIndirect j g
+withListed false j g = withDirect j g
 
--- the next entry takes up bytes of what is left
-abbrev pub NextWithin : ℕ → code-next.Next → Type 0
-NextWithin most (case-next.Judged w b n) = (0 < n) × (n ≤ most)
-NextWithin most case-next.Unreadable = Unit
+-- what an entry gives makes its step, if the direct list has ended or not
+abbrev pub ListedGives : Settings → Bool → Viewed → Bool → Option AnchorStageRole → Entry → Gives → Type 0
+ListedGives c required p ended aim e g = (j : Judging) → j .ended ≡ ended → withListed (isSome aim) j g ≡ stepAs aim c required p j e

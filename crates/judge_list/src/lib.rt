@@ -1,10 +1,13 @@
 // A list of dependencies, read and judged entry by entry in one walk.
 use judge_dependency::Recorded;
 use judge_entries::Aim;
+use judge_entries::DagPoint;
 use judge_entries::Listed;
 use judge_entries::ReadListed;
+use judge_step::Gives;
 use judge_step::Judging;
 use judge_valid::PointView;
+use judge_valid::Quick;
 use judge_valid::Reason;
 use map::Found;
 use point::PointId;
@@ -12,23 +15,22 @@ use point::PointInfo;
 use reasons::Verdict;
 use schedule::Settings;
 ghost use mathlib.Core.Path.{_≡_};
-ghost use mathlib.Core.Bool.{_||_};
+ghost use mathlib.Core.Bool.{true, _||_};
 ghost use mathlib.Core.List.{List};
 ghost use mathlib.Core.Option.{none};
 ghost use Prim.Native.Nat.{ℕ};
-ghost use lib.ListN.{length};
 ghost use Rattle.base.specs.Base.{isSome};
 ghost use Rattle.point.specs.Code.{pointIdOf, pointOf, Reads};
 ghost use Rattle.schedule.specs.Code.{settingsOf};
 ghost use Rattle.reasons.specs.Code.{verdictOf};
 ghost use Rattle.rules.specs.Validate.{resultWith};
-ghost use Rattle.rules.specs.List.{isInOrder, readEntry, readList};
-ghost use Rattle.judge_entries.specs.Code.{entryOf, ReadFrom, aimOf, partOf, listedOf};
+ghost use Rattle.rules.specs.List.{isInOrder, readList};
+ghost use Rattle.judge_entries.specs.Code.{entryOf, ReadFrom, aimOf};
 ghost use Rattle.judge_valid.specs.Code.{pointViewOf};
 ghost use Rattle.judge_dependency.specs.Code.{recordedOf};
-ghost use Rattle.judge_step.specs.Code.{judgingOf, resultOf};
+ghost use Rattle.judge_step.specs.Code.{judgingOf, givesOf, Quiet, resultOf};
 ghost use Rattle.rules.specs.Mismatch.{isId, uncovers};
-ghost use Rattle.judge_list.specs.Code.{viewed, stepAs, prevIn, walkStep, nextWith, walkWith, walkStart, viewedOf, walkOf, nextOf, NextWithin};
+ghost use Rattle.judge_list.specs.Code.{viewed, prevIn, walkWith, walkStart, viewedOf, withListed, ListedGives};
 ghost use Rattle.judge_list.specs.Code.{walkedListOf, judgedWith, judgedListOf};
 
 // What a walk over a list has found so far; uncovered says that the previous point stood there without a certificate.
@@ -45,12 +47,6 @@ enum WalkedList {
 // The verdict over a list that can be read, and whether the previous point stood there without a certificate.
 pub enum JudgedList {
     Judged(Verdict, bool),
-    Unreadable,
-}
-
-// What the next entry makes of the walk, whether it is of an indirect target, and how many bytes it takes.
-enum Next {
-    Judged(Walk, bool, usize),
     Unreadable,
 }
 
@@ -113,34 +109,51 @@ fn either(a: bool, b: bool) -> bool
     b
 }
 
-// Judges one entry of a list.
-fn judge_listed(
+// Whether an entry is a dependency that gives nothing for sure, nor leaves the previous point uncovered. Its state is looked at here, since
+// handing it on would copy it.
+fn is_quiet(quick: Quick, rec: &[u8], x: Listed) -> bool
+    requires { ⌜ ReadFrom (now rec) (x .state) ⌝ }
+    ensures { λ r. ⌜ (r ≡ true → (aimOf (x .aim) ≡ none) × Quiet quick (now (rec .entry)) (x .state)) ⌝ }
+{
+    let aim = x.aim;
+    if is_target(aim) {
+        return false;
+    }
+    let state = x.state;
+    match state {
+        DagPoint::Valid(_) => judge_valid::is_quick(quick, rec),
+        DagPoint::TransInvalid(_, _, _) => false,
+        DagPoint::Invalid(_, _) => false,
+        DagPoint::IllFormed(_, _) => false,
+        DagPoint::NotFound(_) => false,
+        DagPoint::Dropped => false,
+    }
+}
+
+// What an entry of a list gives: a direct one nothing more, once a dropped one has ended the direct list.
+fn listed_gives(
     conf: Settings,
     required: bool,
     info: PointInfo,
     p: PointView,
     rec: &[u8],
     x: Listed,
-    judging: Judging,
-) -> Judging
+    ended: bool,
+) -> Gives
     requires { ⌜ ReadFrom (now rec) (x .state) ⌝ }
-    ensures { λ r. ⌜ judgingOf r ≡ stepAs (aimOf (x .aim)) (settingsOf conf) required (viewedOf p info) (judgingOf judging)
-        (entryOf (now (rec .entry)) (x .state) (x .certified) (x .«first_valid»)) ⌝ }
+    ensures { λ r. ⌜ ListedGives (settingsOf conf) required (viewedOf p info) ended (aimOf (x .aim))
+        (entryOf (now (rec .entry)) (x .state) (x .certified) (x .«first_valid»)) (givesOf r) ⌝ }
 {
     let aim = x.aim;
     let state = x.state;
     match aim {
-        Aim::Dependency => judge_step::judge_direct(
-            conf,
-            required,
-            p,
-            rec,
-            state,
-            x.certified,
-            x.first_valid,
-            judging,
-        ),
-        Aim::Target(role) => judge_step::judge_indirect(
+        Aim::Dependency => {
+            if ended {
+                return judge_step::NOTHING;
+            }
+            judge_step::direct_gives(conf, required, p, rec, state, x.certified, x.first_valid)
+        }
+        Aim::Target(role) => judge_step::indirect_gives(
             conf,
             role,
             info.anchor_link(role).through(),
@@ -148,68 +161,29 @@ fn judge_listed(
             rec,
             state,
             x.certified,
-            judging,
         ),
     }
 }
 
-fn step(
-    conf: Settings,
-    required: bool,
-    info: PointInfo,
-    p: PointView,
-    rec: &[u8],
-    x: Listed,
-    walk: Walk,
-) -> Walk
-    requires { ⌜ ReadFrom (now rec) (x .state) ⌝ }
-    ensures { λ r. ⌜ ((t : List ℕ) → partOf t (x .place) (x .size) ≡ now (rec .entry) →
-        walkOf r ≡ walkStep (settingsOf conf) required (viewedOf p info) (walkOf walk) (listedOf t x)) ⌝ }
+fn with_listed(judging: Judging, is_target: bool, gives: Gives) -> Judging
+    ensures { λ r. ⌜ judgingOf r ≡ withListed «is_target» (judgingOf judging) (givesOf gives) ⌝ }
 {
-    let judging = walk.judging;
-    Walk {
-        judging: judge_listed(conf, required, info, p, rec, x, judging),
-        uncovered: either(walk.uncovered, uncovers(p, x)),
+    if is_target {
+        return judge_step::with_indirect(judging, gives);
     }
+    judge_step::with_direct(judging, gives)
 }
 
-// Reads the entry at the front of what is left of a list, and judges it.
-fn judge_next(
-    conf: Settings,
-    required: bool,
-    info: PointInfo,
-    p: PointView,
-    rest: &[u8],
-    indirect_seen: bool,
-    walk: Walk,
-) -> Next
-    ensures { λ r. ⌜ nextOf r ≡ nextWith (settingsOf conf) required (viewedOf p info) «indirect_seen» (walkOf walk) (readEntry (now (rest .entry))) ⌝ }
-    ensures { λ r. ⌜ NextWithin (length (now (rest .entry))) r ⌝ }
-{
-    let ReadListed::Listed(x) = judge_entries::read_entry(rest) else {
-        return Next::Unreadable;
-    };
-    let aim = x.aim;
-    if !is_in_order(indirect_seen, aim) {
-        return Next::Unreadable;
-    }
-    let place = x.place;
-    let size = x.size;
-    let judged = step(conf, required, info, p, &rest[place..size], x, walk);
-    Next::Judged(judged, is_target(aim), size)
-}
-
-// Reads and judges a list, entry by entry.
+// Reads and judges a list, entry by entry. What was found is touched only where an entry gives something.
 fn walk_list(conf: Settings, required: bool, rec: &[u8], info: PointInfo, list: &[u8]) -> WalkedList
     requires { ⌜ Reads (now rec) info ⌝ }
     ensures { λ r. ⌜ walkedListOf r ≡ walkWith (settingsOf conf) required (viewed (pointOf (now (rec .entry)) info)) walkStart
         (readList (now (list .entry))) ⌝ }
 {
     let p = judge_valid::point_view(rec, info);
-    let mut walk = Walk {
-        judging: judge_step::START,
-        uncovered: false,
-    };
+    let quick = judge_valid::quick_of(conf, p);
+    let mut judging = judge_step::START;
+    let mut uncovered = false;
     let mut indirect_seen = false;
     let mut left = MOST_ENTRIES;
     let mut at = 0;
@@ -217,18 +191,31 @@ fn walk_list(conf: Settings, required: bool, rec: &[u8], info: PointInfo, list: 
         if left == 0 {
             return WalkedList::Unreadable;
         }
-        let next = judge_next(conf, required, info, p, &list[at..], indirect_seen, walk);
-        match next {
-            Next::Judged(judged, is_target, size) => {
-                walk = judged;
-                indirect_seen = is_target;
-                at += size;
-                left -= 1;
-            }
-            Next::Unreadable => return WalkedList::Unreadable,
+        let rest = &list[at..];
+        let ReadListed::Listed(x) = judge_entries::read_entry(rest) else {
+            return WalkedList::Unreadable;
+        };
+        let aim = x.aim;
+        if !is_in_order(indirect_seen, aim) {
+            return WalkedList::Unreadable;
         }
+        let place = x.place;
+        let size = x.size;
+        let entry = &rest[place..size];
+        indirect_seen = is_target(aim);
+        at += size;
+        left -= 1;
+        if is_quiet(quick, entry, x) {
+            continue;
+        }
+        uncovered = either(uncovered, uncovers(p, x));
+        let gives = listed_gives(conf, required, info, p, entry, x, judging.ended);
+        if judge_step::gives_nothing(gives) {
+            continue;
+        }
+        judging = with_listed(judging, indirect_seen, gives);
     }
-    WalkedList::Walked(walk)
+    WalkedList::Walked(Walk { judging, uncovered })
 }
 
 fn of_record(recorded: Recorded) -> Verdict

@@ -230,14 +230,19 @@ end-inside at s h = inside (recordEnd (drop at s)) refl h
     inside none e g = impossible (cc)
     inside (some n) e g = omega (arith, length-drop at s, first-field (drop at s) n (sym e) .0)
 
--- where a record ends is known where `record_end` says it
+-- a record that ends stands there
+pub end-there : (at : ℕ) (s : List ℕ) → isSome (endIn at s) ≡ true → isSome (recordEnd (drop at s)) ≡ true
+unfolding endIn
+end-there at s h = go (recordEnd (drop at s)) refl h
+  where
+    go : (o : Option ℕ) → o ≡ recordEnd (drop at s) → isSome (placedAt at o) ≡ true → isSome o ≡ true
+    go none e g = g
+    go (some n) e g = refl
+
+-- where a record ends is known where `known_end` says it
 pub end-known : (at : ℕ) (s : List ℕ) (n : ℕ) → recordEnd (drop at s) ≡ some n → (endIn at s ≡ some (at + n)) × (at + n ≤ length s)
 unfolding endIn
 end-known at s n h = (ap (placedAt at) h, omega (arith, length-drop at s, end-within (drop at s) n h, first-field (drop at s) n h .0))
-
-pub end-unknown : (at : ℕ) (s : List ℕ) → recordEnd (drop at s) ≡ none → endIn at s ≡ none
-unfolding endIn
-end-unknown at s h = ap (placedAt at) h
 
 -- where an entry ends, by its state
 module _ (state at : ℕ) (s : List ℕ) where

@@ -2,7 +2,6 @@
 use judge_entries::Aim;
 use point::AnchorStageRole;
 use point::PointId;
-use record::End;
 ghost use mathlib.Core.Path.{_≡_};
 ghost use mathlib.Core.Bool.{true, not};
 ghost use mathlib.Core.Option.{some};
@@ -58,16 +57,12 @@ fn id_after(s: &[u8], state: u8, at: usize) -> PointId
     point::point_id_at(s, at + 3)
 }
 
-// Where an entry's record ends, which starts at a place.
+// Where an entry's record ends, which starts at a place: reading the entry has tested it.
 fn end_of_record(s: &[u8], at: usize) -> usize
     requires { ⌜ isSome (endIn at (now s)) ≡ true ⌝ }
     ensures { λ r. ⌜ endIn at (now (s .entry)) ≡ some r ⌝ }
 {
-    let end = record::record_end(&s[at..]);
-    match end {
-        End::At(n) => at + n,
-        End::Unreadable => at,
-    }
+    at + record::known_end(&s[at..])
 }
 
 // Where an entry ends, whose flags end at a place.

@@ -1,22 +1,31 @@
 -- Laws for callers: judging entry by entry gives what `overLists` says of whole lists, and a point that is not invalid passed every
 -- check of every entry.
 use Prim.Native.Nat.{ℕ}
-use mathlib.Core.Path.{_≡_, refl, sym, ap, _∙_}
+use mathlib.Core.Path.{_≡_, refl, sym, ap, _∙_, subst}
 use mathlib.Core.Bool.{Bool, true, false, not, _&&_, _||_}
 use mathlib.Core.Option.{Option, none, some, Option·map, Option·getD}
 use mathlib.Core.List.{List, [], _∷_, _++_}
 use Rattle.base.specs.Base.{pick, when, lastOf, isSome, isEmpty}
-use Rattle.base.proofs.Bool.{and-right}
-use Rattle.point.specs.Point.{PointInfo}
+use Rattle.base.proofs.Bool.{and-right, clash}
+use Rattle.point.specs.Point.{PointId, Through, PointInfo}
 use Rattle.point.specs.declared.data.AnchorStageRole.{AnchorStageRole}
 use Rattle.schedule.specs.Settings.{Settings}
 use Rattle.reasons.specs.Invalid.{InvalidReason, DependencyRoundDropped, InvalidDependency}
-use Rattle.rules.specs.DagPoint.{Entry, IndirectEntry, isDropped, PointView, pointView}
-use Rattle.rules.specs.Validate.{join, entryFindings, indirectFindings, resultWith, overLists}
+use Rattle.rules.specs.DagPoint.{Valid, Entry, IndirectEntry, entryId, isDropped, PointView, pointView, DepView}
+use Rattle.rules.specs.Validate.{Findings, nothing, dependencyTrail, recordOf, join, dependency, Taken, asDependency, asPrevPoint, taken, findingsAs}
+use Rattle.rules.specs.Validate.{entryFindings, indirectFindings, resultWith, overLists}
 use Rattle.rules.proofs.Folds.{directTrail, directRecord, indirectTrail, indirectRecord, lists-apart}
 use Rattle.rules.specs.List.{Listed, isInOrder, listFrom, directs, indirects}
 use Rattle.judge_entries.proofs.Order.{inOrder, in-order, after-target}
-use Rattle.judge_step.specs.Code.{Judging, laterOf, orDropped, start, directStep, indirectStep, directFold, targetStep, indirectFold, resultOf}
+use Rattle.point.specs.Code.{pointOf, Reads}
+use Rattle.point.specs.declared.info.PointInfo as code-info
+use Rattle.judge_entries.specs.Code.{entryOf, ReadFrom}
+use Rattle.judge_entries.specs.declared.DagPoint as code-point
+use Rattle.judge_entries.specs.declared.DagPoint.the-variants as case-point
+use Rattle.judge_valid.specs.Code.{QuickOf, GivesNoReason}
+use Rattle.judge_valid.specs.declared.quick.Quick as code-quick
+use Rattle.judge_step.specs.Code.{Judging, laterOf, orDropped, start, Gives, isNothing, withDirect, withIndirect, directStep, givesAll, indirectStep}
+use Rattle.judge_step.specs.Code.{dependencyAs, DirectGives, Quiet, directFold, targetStep, indirectFold, resultOf}
 
 -- ---- the last reason
 
@@ -170,6 +179,107 @@ module _ (c : Settings) (required : Bool) (p : PointInfo) where
       })
       ∙ ap (λ (o : Option InvalidReason). resultWith o w) (first-of-both dt it)
       ∙ sym (lists-apart c p ts required es)
+
+-- ---- what an entry gives
+
+join-none : (o : Option InvalidDependency) → join o none ≡ o
+unfolding join
+join-none none = refl
+join-none (some d) = refl
+
+pub last-nothing : record { reason = none; root = none; dropped = false } ≡ givesAll nothing
+unfolding lastOf
+last-nothing = refl
+
+-- what a dependency gives, by its parts
+pub all-found : (c : Settings) (round : ℕ) (t : Through) (rows : DepView → List (List InvalidReason)) (e : Entry) (reason : Option InvalidReason) (root : Option InvalidDependency) →
+    reason ≡ lastOf (dependencyTrail rows (e .state)) → root ≡ recordOf c round (e .certified) t (e .state) →
+    record { reason = reason; root = root; dropped = false } ≡ givesAll (dependency c round t rows e)
+unfolding dependency
+all-found c round t rows e reason root h g = rw (h, g)
+
+-- an entry that gives nothing changes nothing
+pub nothing-direct : (j : Judging) (g : Gives) → isNothing g ≡ true → withDirect j g ≡ j
+nothing-direct j g h = go (j .ended) (g .dropped) (g .reason) (g .root) refl h
+  where
+    go : (ended dropped : Bool) (reason : Option InvalidReason) (root : Option InvalidDependency) → j .ended ≡ ended →
+        isNothing (record { reason = reason; root = root; dropped = dropped }) ≡ true →
+        pick ended j
+        (pick dropped
+        (record { direct = orDropped (j .direct); indirect = j .indirect; recorded = j .recorded; ended = true })
+        (record { direct = laterOf (j .direct) reason; indirect = j .indirect; recorded = join (j .recorded) root; ended = false }))
+        ≡ j
+    go true dropped reason root e k = refl
+    go false true reason root e k = clash false k refl
+    go false false (some r) root e k = clash false k refl
+    go false false none (some d) e k = clash false k refl
+    go false false none none e k =
+        λ i. record { direct = j .direct; indirect = j .indirect; recorded = join-none (j .recorded) i; ended = sym e i }
+
+pub nothing-indirect : (j : Judging) (g : Gives) → isNothing g ≡ true → withIndirect j g ≡ j
+nothing-indirect j g h = go (g .dropped) (g .reason) (g .root) h
+  where
+    go : (dropped : Bool) (reason : Option InvalidReason) (root : Option InvalidDependency) →
+        isNothing (record { reason = reason; root = root; dropped = dropped }) ≡ true →
+        record { direct = j .direct; indirect = laterOf (j .indirect) reason; recorded = join (j .recorded) root; ended = j .ended } ≡ j
+    go true reason root k = clash false k refl
+    go false (some r) root k = clash false k refl
+    go false none (some d) k = clash false k refl
+    go false none none k = λ i. record { direct = j .direct; indirect = j .indirect; recorded = join-none (j .recorded) i; ended = j .ended }
+
+module _ (c : Settings) (required : Bool) (p : PointView) (e : Entry) where
+  -- an entry by how it is taken
+  pub found-as : (how : Taken) (i : PointId) → how ≡ taken p i → i ≡ entryId (e .state) → findingsAs c required p how e ≡ entryFindings c required p e
+  unfolding entryFindings
+  found-as how i h g = ap (λ (w : Taken). findingsAs c required p w e) (h ∙ ap (taken p) g)
+
+  as-dependency : (isPrevPoint : Bool) → findingsAs c required p (pick isPrevPoint asPrevPoint asDependency) e ≡ dependencyAs c required isPrevPoint p e
+  as-dependency true = refl
+  as-dependency false = refl
+
+  pub found-dependency : (isPrevPoint : Bool) (i : PointId) → pick isPrevPoint asPrevPoint asDependency ≡ taken p i → i ≡ entryId (e .state) →
+      dependencyAs c required isPrevPoint p e ≡ entryFindings c required p e
+  found-dependency isPrevPoint i h g = sym (as-dependency isPrevPoint) ∙ found-as (pick isPrevPoint asPrevPoint asDependency) i h g
+
+  -- one that is dropped, and any other
+  pub gives-dropped : (reason : Option InvalidReason) (root : Option InvalidDependency) → isDropped (e .state) ≡ true →
+      DirectGives c required p e (record { reason = reason; root = root; dropped = true })
+  unfolding directStep
+  gives-dropped reason root h j = rw h
+
+  pub gives-found : (f : Findings) (g : Gives) → isDropped (e .state) ≡ false → f ≡ entryFindings c required p e → g ≡ givesAll f → DirectGives c required p e g
+  unfolding directStep
+  gives-found f g h k m j = rw (m, k, h)
+
+-- a valid entry that gives no reason
+module _ (c : Settings) (required : Bool) (p : PointView) (q : PointInfo) (n : GivesNoReason c p q) (certified first : Bool) where
+  abbrev quiet : Entry
+  quiet = record { state = Valid q; certified = certified; firstValid = first }
+
+  quiet-found : nothing ≡ entryFindings c required p quiet
+  unfolding entryFindings taken dependency dependencyTrail recordOf
+  quiet-found = rw (n .other, n .rows required)
+
+  pub quiet-step : (j : Judging) → directStep c required p j quiet ≡ j
+  quiet-step j =
+      let g : Gives = record { reason = none; root = none; dropped = false } in
+      sym (gives-found c required p quiet nothing g refl quiet-found last-nothing j) ∙ nothing-direct j g refl
+
+-- an entry that passed the quick test is valid, not the author's at the round before, and changes nothing
+pub record Passed (c : Settings) (p : PointView) (s : List ℕ) (d : code-point.DagPoint) : Type 0 where
+  pub info : code-info.PointInfo
+  pub is-valid : d ≡ case-point.Valid info
+  pub gives : GivesNoReason c p (pointOf s info)
+
+pub passed : (c : Settings) (p : PointView) (q : code-quick.Quick) (s : List ℕ) (d : code-point.DagPoint) → QuickOf c p q → ReadFrom s d → Quiet q s d → Passed c p s d
+passed c p q s d k h g =
+    let r : Reads s (g .0 .0) = subst (ReadFrom s) (g .0 .1) h in
+    record { info = g .0 .0; is-valid = g .0 .1; gives = g .1 c p (pointOf s (g .0 .0)) k (r .read) }
+
+pub passed-step : (c : Settings) (required : Bool) (p : PointView) (s : List ℕ) (d : code-point.DagPoint) → Passed c p s d → (certified first : Bool) (j : Judging) →
+    directStep c required p j (entryOf s d certified first) ≡ j
+passed-step c required p s d k certified first j =
+    rw (k .is-valid) (quiet-step c required p (pointOf s (k .info)) (k .gives) certified first j)
 
 -- ---- a list as it stands
 

@@ -1,5 +1,6 @@
 // What judging asks of the point and of a dependency.
 use map::Found;
+use point::AnchorLink;
 use point::AnchorStageRole;
 use point::PointId;
 use point::PointInfo;
@@ -87,13 +88,23 @@ pub fn point_view(rec: &[u8], info: PointInfo) -> PointView
     }
 }
 
-// The point itself where it has the role, else its link's target.
+// The point itself where it has the role, else its link's target. Only a direct link's has to be looked up.
 fn top(rec: &[u8], info: PointInfo, role: AnchorStageRole) -> PointId
     requires { ⌜ Reads (now rec) info ⌝ }
     ensures { λ r. ⌜ pointIdOf r ≡ top role (pointOf (now (rec .entry)) info) ⌝ }
 {
-    let view = point::anchor(rec, info, role);
-    view.top
+    let own = info.role;
+    if own.is_anchor_stage(role) {
+        return info.id;
+    }
+    let link = info.anchor_link(role);
+    match link {
+        AnchorLink::Indirect(indirect) => indirect.to,
+        AnchorLink::Direct(_) => {
+            let view = point::anchor(rec, info, role);
+            view.target
+        }
+    }
 }
 
 // What judging asks of a dependency.

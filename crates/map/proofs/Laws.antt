@@ -6,16 +6,16 @@ use native.Mathlib.Decide.{decLt, ℕ-discrete}
 use mathlib.Core.Path.{_≡_, refl, ap, _∙_}
 use mathlib.Core.List.{List, [], _∷_}
 use mathlib.Core.Logic.{_⊎_, inl, inr, ⊎-elim}
-use mathlib.Core.Option.{none, some}
+use mathlib.Core.Option.{Option, none, some}
 use mathlib.Core.Bool.{true, _&&_, and-eq-true-iff}
 use lib.ListN.{length, getD, drop, length-drop}
 use lib.Seq.{drop-cons}
 use lib.Dec.{ltb, eqb}
 use borrow.Author.Tests.{ltb-true, eqb-true, eq-eqb, ne-eqb}
-use Rattle.base.specs.Base.{tabulate}
+use Rattle.base.specs.Base.{isSome, tabulate}
 use Rattle.base.proofs.Lists.{tabulate-length, tabulate-at}
 use Rattle.base.proofs.Impossible.{impossible}
-use Rattle.map.specs.Rows.{Pair, peerAt, pairAt, peersOf, pairsOf, rising, wellRowed, findFrom, find, peers, digests, get}
+use Rattle.map.specs.Rows.{Pair, peerAt, pairAt, peersOf, pairsOf, rising, wellRowed, findFrom, find, has, peers, digests, get}
 
 -- ---- rows of any width
 
@@ -218,6 +218,15 @@ module _ (l : List Pair) (x : ℕ) where
 
   pub get-none : find (peers l) x ≡ none → get l x ≡ none
   get-none e = get-nowhere l x (find-none (peers l) x e)
+
+  -- a peer is in a map exactly if a digest stands beside it
+  pub has-get : has (peers l) x ≡ isSome (get l x)
+  unfolding has
+  has-get = go (find (peers l) x) refl
+    where
+      go : (o : Option ℕ) → find (peers l) x ≡ o → isSome (find (peers l) x) ≡ isSome (get l x)
+      go none e = rw (e, get-none e)
+      go (some n) e = rw (e, get-some n e)
 
 -- ---- halving: what is known of a rising list while a peer is looked for between lo and hi
 

@@ -12,7 +12,7 @@ use Rattle.map.specs.Rows.{Pair, peersOf, pairsOf, peers, rising, wellRowed}
 use Rattle.map.proofs.Laws.{peersOf-length, pairsOf-length, peers-pairsOf, wellRowed-rising, wellRowed-whole}
 use Rattle.record.specs.Record.{rows, rowOf, contentOf, wellShaped}
 use Rattle.record.proofs.Laws.{content-greatest}
-use Rattle.point.specs.Point.{PointId, Through, AnchorLink, PointInfo, throughRound, throughPeer, digestSafe, isAnchorStage, through, anchorLink, source, target, top, anchor, isWaveLinkOk}
+use Rattle.point.specs.Point.{PointId, Through, Includes, Witness, AnchorLink, PointInfo, throughRound, throughPeer, throughMap, digestSafe, isAnchorStage, through, anchorLink, source, target, top, anchor, isWaveLinkOk}
 use Rattle.point.specs.Reading.{pointIdAt, readLink, readRole, mapsOk, pointIn, readPoint}
 use Rattle.point.specs.Code.{pointOf, linkIn}
 use Rattle.point.specs.declared.data.PointRole.{PointRole}
@@ -91,6 +91,11 @@ readable s p h =
       witness = map-of _ _ (m .witness) (j .0) (content-greatest s (w .0) 3 (omega arith));
       evidence = set-of _ _ (m .evidence) (j .1) (content-greatest s (w .0) 4 (omega arith));
     }
+
+-- the map that a link goes through rises
+pub through-rises : (s : List ℕ) (p : PointInfo) (t : Through) → readPoint s ≡ some p → rising (peers (throughMap t p)) ≡ true
+through-rises s p (Includes x) h = readable s p h .includes .rise
+through-rises s p (Witness x) h = readable s p h .witness .rise
 
 -- ---- steps of the code
 

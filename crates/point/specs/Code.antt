@@ -97,7 +97,3 @@ throughIdOf case-through-id.Absent = none
 abbrev pub stickyOf : code-sticky.StickyAnchors → Option Sticky
 stickyOf (case-sticky.Sticky n l) = some (record { seqNo = n; isLast = l })
 stickyOf case-sticky.NoSticky = none
-
--- three slices hold the rows of a point's maps
-abbrev pub MapsOf : PointInfo → List ℕ → List ℕ → List ℕ → Type 0
-MapsOf p includes witness evidence = (pairsOf includes ≡ p .includes) × (pairsOf witness ≡ p .witness) × (peersOf 32 evidence ≡ p .evidence)

@@ -7,10 +7,11 @@ use map::Found;
 use parts::Id;
 ghost use mathlib.Core.Path.{_≡_};
 ghost use mathlib.Core.Option.{Option·getD};
+ghost use Rattle.map.specs.Rows.{pairsOf};
 ghost use Rattle.map.specs.Code.{foundOf};
 ghost use Rattle.record.specs.Record.{contentOf};
 ghost use Rattle.parts.specs.Code.{number};
-ghost use Rattle.point.specs.Point.{sameId, inDomain, isWaveLinkOk, digestSafe, throughId, prevDigest, stickyAnchors, source, targetOf, anchor};
+ghost use Rattle.point.specs.Point.{sameId, inDomain, isWaveLinkOk, throughMap, digestSafe, throughId, prevDigest, stickyAnchors, source, targetOf, anchor};
 ghost use Rattle.point.specs.Code.{pointIdOf, throughOf, linkOf, linkIn, pointOf, viewOf, throughIdOf, stickyOf, Reads};
 
 pub struct PointId {
@@ -173,15 +174,24 @@ pub fn prev_digest(rec: &[u8], info: PointInfo) -> Found
     map::get(includes(rec, info), id.author)
 }
 
+// The map that a link goes through. It is chosen before the search, so that digest_safe is short enough to stand where it
+// is called: a call of its own would copy info.
+fn map_of(rec: &[u8], info: PointInfo, through: Through) -> &[u8]
+    requires { ⌜ Reads (now rec) info ⌝ }
+    ensures { λ r. ⌜ pairsOf (now r) ≡ throughMap (throughOf through) (pointOf (now (rec .entry)) info) ⌝ }
+{
+    match through {
+        Through::Includes(_) => includes(rec, info),
+        Through::Witness(_) => witness(rec, info),
+    }
+}
+
 // The digest beside the peer that a link goes through.
 pub fn digest_safe(rec: &[u8], info: PointInfo, through: Through) -> Found
     requires { ⌜ Reads (now rec) info ⌝ }
     ensures { λ r. ⌜ foundOf r ≡ digestSafe (pointOf (now (rec .entry)) info) (throughOf through) ⌝ }
 {
-    match through {
-        Through::Includes(peer) => map::get(includes(rec, info), peer),
-        Through::Witness(peer) => map::get(witness(rec, info), peer),
-    }
+    map::get(map_of(rec, info, through), through.peer())
 }
 
 // The point that a link goes through.

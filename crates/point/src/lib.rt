@@ -1,6 +1,7 @@
 // What a point record says: PointInfo by value, and what data.rs, link.rs and info.rs ask of it. Its maps stay where
 // they are, as parts of the record.
 mod data;
+mod front;
 mod info;
 mod link;
 mod read;
@@ -8,6 +9,8 @@ mod read;
 pub use data::AnchorStageRole;
 pub use data::PointMap;
 pub use data::PointRole;
+pub use front::is_point;
+pub use front::is_record_in_domain;
 pub use info::AnchorView;
 pub use info::NO_POINT;
 pub use info::PointId;

@@ -110,7 +110,7 @@ fn read_role(s: &[u8]) -> ReadRole
 }
 
 // Whether includes, witness and evidence are whole rows that rise.
-fn are_maps_ok(rec: &[u8], at: Places) -> bool
+pub fn are_maps_ok(rec: &[u8], at: Places) -> bool
     requires { ⌜ wellShaped (now rec) ≡ true ⌝ }
     requires { ⌜ (at .includes ≡ startOf (now rec) 2) × (at .witness ≡ startOf (now rec) 3) ⌝ }
     requires { ⌜ (at .evidence ≡ startOf (now rec) 4) × (at .«anchor_proof» ≡ startOf (now rec) 5) ⌝ }

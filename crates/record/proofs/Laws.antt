@@ -5,19 +5,21 @@ use native.Mathlib.Decide.{decLt}
 use mathlib.Core.Path.{_≡_, refl, ap, sym, _∙_}
 use mathlib.Core.List.{List, [], _∷_, _++_}
 use mathlib.Core.Option.{Option, none, some}
-use mathlib.Core.Bool.{true}
+use mathlib.Core.Bool.{Bool, true, false, _&&_}
 use lib.ListN.{length, getD, take, drop, length-take, length-drop, length-append}
 use lib.Seq.{drop-cons, take-take, getD-take, length-take-le, take-length, take-append-seam}
 use lib.Dec.{leb, eqb}
-use borrow.Author.Tests.{leb-true, eqb-true, le-leb, lt-leb, eq-eqb}
+use borrow.Author.Tests.{leb-true, leb-false, eqb-true, le-leb, lt-leb, eq-eqb, ne-eqb}
 use Rattle.base.specs.Base.{pick, isSomeAnd}
-use Rattle.base.proofs.Bool.{and-left, and-right}
+use Rattle.base.proofs.Bool.{and-left, and-right, and-both}
 use Rattle.base.proofs.Option.{picked}
 use Rattle.base.proofs.Impossible.{impossible}
 use Rattle.parts.specs.Bytes.{bytesAt, littleAt}
 use Rattle.parts.proofs.Laws.{part-front}
 use Rattle.record.specs.declared.Row.{Row}
 use Rattle.record.specs.Record.{lengthAt, nextAt, contentAt, fieldOk, endFrom, startOf, contentOf, fieldRow, rows, rowOf, recordEnd, wellShaped}
+use Rattle.record.specs.declared.Places.{Places}
+use Rattle.record.specs.Code.{PlacesOf, nextIf, nextAfter}
 
 -- ---- one field
 
@@ -79,6 +81,11 @@ room n l at h = elim (decLt l (at + n)) [
   | yes g ↦ lt-leb n (l - at) (omega arith) ∙ sym (lt-leb (at + n) l g)
   | no g ↦ le-leb n (l - at) (omega arith) ∙ sym (le-leb (at + n) l (omega arith))
 ]
+
+-- no field whose head is cut off fits
+no-head : (row : Row) (s : List ℕ) (at : ℕ) → length s < at + 3 → fieldOk row s at ≡ false
+unfolding fieldOk
+no-head row s at h = rw (lt-leb (at + 3) (length s) h)
 
 -- ---- a row of fields
 
@@ -196,6 +203,117 @@ module _ (s : List ℕ) (w : wellShaped s ≡ true) where
   pub start-most : (k : ℕ) → startOf s k ≤ 41126
   start-most k = omega (arith, start-within s k, record-most s (length s) (shaped-end s w))
 
+-- ---- the walk that tests a record and finds its places
+
+-- the record at the front of a slice is over where its head is cut off
+pub head-cut : (s : List ℕ) → length s < 3 → recordEnd s ≡ none
+head-cut s h = end-start s ∙ (end-step s 0 0 (omega arith) ∙ rw (no-head (rowOf 0) s 0 h))
+
+module _ (row : Row) (s : List ℕ) (at : ℕ) where
+  next-by : (b : Bool) → (fieldOk row s at && leb (nextAt s at + 3) (length s)) ≡ b → nextIf row s at ≡ pick b (nextAt s at) 0
+  unfolding nextIf
+  next-by b e = rw e
+
+  -- the tests of the code
+  pub next-unfit : fieldOk row s at ≡ false → nextIf row s at ≡ 0
+  next-unfit f = next-by false (rw f)
+
+  pub next-short : length s < at + 3 + lengthAt s at + 3 → nextIf row s at ≡ 0
+  next-short h = go (fieldOk row s at) refl
+    where
+      go : (b : Bool) → fieldOk row s at ≡ b → nextIf row s at ≡ 0
+      go false e = next-unfit e
+      go true e = let n = fitting row s at e .next in next-by false (rw e (lt-leb (nextAt s at + 3) (length s) (omega arith)))
+
+  pub next-fits : fieldOk row s at ≡ true → at + 3 + lengthAt s at + 3 ≤ length s → nextIf row s at ≡ at + 3 + lengthAt s at
+  next-fits f h =
+      let n = fitting row s at f .next in
+      next-by true (and-both (fieldOk row s at) _ f (le-leb (nextAt s at + 3) (length s) (omega arith))) ∙ n
+
+  next-found : (nextIf row s at ≡ 0 → ⊥) → (fieldOk row s at ≡ true) × ((nextAt s at + 3 ≤ length s) × (nextIf row s at ≡ nextAt s at))
+  next-found d = go (fieldOk row s at && leb (nextAt s at + 3) (length s)) refl
+    where
+      go : (b : Bool) → (fieldOk row s at && leb (nextAt s at + 3) (length s)) ≡ b →
+          (fieldOk row s at ≡ true) × ((nextAt s at + 3 ≤ length s) × (nextIf row s at ≡ nextAt s at))
+      go true e = (and-left (fieldOk row s at) _ e, (leb-true _ _ (and-right (fieldOk row s at) _ e), next-by true e))
+      go false e = absurd (d (next-by false e))
+
+  next-refused : nextIf row s at ≡ 0 → (fieldOk row s at && leb (nextAt s at + 3) (length s)) ≡ false
+  next-refused z = go (fieldOk row s at && leb (nextAt s at + 3) (length s)) refl
+    where
+      go : (b : Bool) → (fieldOk row s at && leb (nextAt s at + 3) (length s)) ≡ b →
+          (fieldOk row s at && leb (nextAt s at + 3) (length s)) ≡ false
+      go true e = absurd (omega (arith, fitting row s at (and-left (fieldOk row s at) _ e) .next, next-by true e, z))
+      go false e = e
+
+-- the walk is at field k, whose head lies in the slice
+pub record Walked (s : List ℕ) (k at : ℕ) : Type 0 where
+  pub left : recordEnd s ≡ endFrom (drop k rows) s at
+  pub start : at ≡ startOf s k
+  pub head : at + 3 ≤ length s
+
+module _ (s : List ℕ) (k at : ℕ) (w : Walked s k at) where
+  module _ (h : k < 8) where
+    walk-on : (nextIf (rowOf k) s at ≡ 0 → ⊥) → Walked s (suc k) (nextIf (rowOf k) s at)
+    unfolding startOf
+    walk-on d =
+        let f = next-found (rowOf k) s at d in
+        record {
+          left = w .left ∙ (end-step s at k (omega arith) ∙ rw (f .0, f .1 .1));
+          start = f .1 .1 ∙ ap (nextAt s) (w .start);
+          head = rw (f .1 .1) (f .1 .0);
+        }
+
+    walk-off : nextIf (rowOf k) s at ≡ 0 → recordEnd s ≡ none
+    walk-off z = w .left ∙ (end-step s at k (omega arith) ∙ go (fieldOk (rowOf k) s at) refl)
+      where
+        go : (b : Bool) → fieldOk (rowOf k) s at ≡ b → pick (fieldOk (rowOf k) s at) (endFrom (drop (suc k) rows) s (nextAt s at)) none ≡ none
+        go false e = rw e
+        go true e =
+            let l : leb (nextAt s at + 3) (length s) ≡ false = rw e at (next-refused (rowOf k) s at z) in
+            rw e (end-step s (nextAt s at) (suc k) (omega arith) ∙ rw (no-head (rowOf (suc k)) s (nextAt s at) (leb-false _ _ l)))
+
+  module _ (e : k ≡ 8) where
+    pub walk-end : fieldOk (rowOf 8) s at ≡ true → recordEnd s ≡ some (nextAt s at)
+    walk-end f = w .left ∙ rw (e, end-step s at 8 (omega arith), f) (end-last s (nextAt s at))
+
+    pub walk-cut : fieldOk (rowOf 8) s at ≡ false → recordEnd s ≡ none
+    walk-cut f = w .left ∙ rw (e, end-step s at 8 (omega arith), f)
+
+-- the same of a walk that says by 0 that there is no record
+unfoldable pub Walk : List ℕ → ℕ → ℕ → Type 0
+Walk s k zero = recordEnd s ≡ none
+Walk s k (suc n) = Walked s k (suc n)
+
+walk-to : (s : List ℕ) (k at r : ℕ) → k < 8 → Walked s k at → r ≡ nextIf (rowOf k) s at → Walk s (suc k) r
+unfolding Walk
+walk-to s k at zero h w e = walk-off s k at w h (sym e)
+walk-to s k at (suc m) h w e = rw e (walk-on s k at w h (λ z. omega (arith, e, z)))
+
+pub walk-first : (s : List ℕ) (r : ℕ) → 3 ≤ length s → r ≡ nextIf (rowOf 0) s 0 → Walk s 1 r
+unfolding startOf
+walk-first s r h e = walk-to s 0 0 r (omega arith) (record { left = end-start s; start = refl; head = h }) e
+
+pub walk-next : (s : List ℕ) (k at r : ℕ) → k < 8 → Walk s k at → r ≡ nextAfter (rowOf k) s at → Walk s (suc k) r
+unfolding Walk nextAfter
+walk-next s k zero r h w e = rw e w
+walk-next s k (suc n) r h w e = walk-to s k (suc n) r h w (e ∙ rw (ne-eqb (suc n) 0 (λ z. omega (arith, z))))
+
+pub walked : (s : List ℕ) (k at : ℕ) → Walk s k at → (at ≡ 0 → ⊥) → Walked s k at
+unfolding Walk
+walked s k zero w d = absurd (d refl)
+walked s k (suc n) w d = w
+
+pub walk-none : (s : List ℕ) (k at : ℕ) → Walk s k at → at ≡ 0 → recordEnd s ≡ none
+unfolding Walk
+walk-none s k zero w z = w
+walk-none s k (suc n) w z = absurd (omega (arith, z))
+
+-- what was found after a field was found after one that was
+pub walk-back : (row : Row) (s : List ℕ) (at r : ℕ) → r ≡ nextAfter row s at → (r ≡ 0 → ⊥) → at ≡ 0 → ⊥
+unfolding nextAfter
+walk-back row s at r e d z = d (e ∙ rw (eq-eqb at 0 z))
+
 -- ---- what stands in the first e elements depends on those alone
 
 pub record Agree (e : ℕ) (s t : List ℕ) : Type 0 where
@@ -277,6 +395,20 @@ module _ (s : List ℕ) (e : ℕ) (h : recordEnd s ≡ some e) where
 
   pub front-content : (k : ℕ) → k < 9 → contentOf (take e s) k ≡ contentOf s k
   front-content = contents-same e s (take e s) (front-agrees e s (end-within s e h)) e h (omega arith)
+
+  pub front-places : (r : Places) → PlacesOf s r → PlacesOf (take e s) r
+  front-places r p =
+      let same = start-same e s (take e s) (front-agrees e s (end-within s e h)) e h (omega arith) in
+      record {
+        payload = p .payload ∙ sym (same 1 (omega arith));
+        includes = p .includes ∙ sym (same 2 (omega arith));
+        witness = p .witness ∙ sym (same 3 (omega arith));
+        evidence = p .evidence ∙ sym (same 4 (omega arith));
+        anchorProof = p .anchorProof ∙ sym (same 5 (omega arith));
+        anchorTrigger = p .anchorTrigger ∙ sym (same 6 (omega arith));
+        role = p .role ∙ sym (same 7 (omega arith));
+        times = p .times ∙ sym (same 8 (omega arith));
+      }
 
 module _ (r t : List ℕ) (w : wellShaped r ≡ true) where
   -- a record with anything after it

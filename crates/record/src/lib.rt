@@ -1,10 +1,12 @@
 // Fields of a tag, a length and content, and the table of the nine fields of a point record.
 ghost use mathlib.Core.Path.{_≡_};
 ghost use mathlib.Core.Bool.{true};
+ghost use mathlib.Core.Option.{some};
 ghost use Prim.Native.Nat.{_+_, _<_, _≤_};
 ghost use lib.ListN.{length};
+ghost use Rattle.base.specs.Base.{isSome};
 ghost use Rattle.record.specs.Record.{lengthAt, fieldOk, nextAt, contentAt, startOf, contentOf, recordEnd, wellShaped};
-ghost use Rattle.record.specs.Code.{endOf, PlacesOf};
+ghost use Rattle.record.specs.Code.{endOf, PlacesOf, nextIf, nextAfter, ShapeOf};
 
 // A row of the table of fields: the tag, and the least and the greatest length of the content.
 pub struct Row {
@@ -79,6 +81,17 @@ pub enum End {
     Unreadable,
 }
 
+// Where the fields of a record at the front of a slice start, and where it ends.
+pub struct Shape {
+    pub at: Places,
+    pub end: usize,
+}
+
+pub enum ReadShape {
+    Shape(Shape),
+    Unreadable,
+}
+
 // Where the field after the one at a place starts; a field that is cut off ends with the slice.
 pub fn next(s: &[u8], at: usize) -> usize
     requires { ⌜ at ≤ length (now s) ⌝ }
@@ -138,6 +151,77 @@ pub fn field_ok(s: &[u8], at: usize, row: Row) -> bool
     n <= s.len() - start
 }
 
+// Where the field after one that fits a row starts: 0 where that one doesn't fit, or no head has room after it.
+fn next_if_ok(s: &[u8], at: usize, row: Row) -> usize
+    requires { ⌜ at + 3 ≤ length (now s) ⌝ }
+    ensures { λ r. ⌜ r ≡ nextIf row (now (s .entry)) at ⌝ }
+{
+    if s[at] != row.tag {
+        return 0;
+    }
+    let n = parts::u16_at(s, at + 1) as usize;
+    if n < row.least {
+        return 0;
+    }
+    if row.greatest < n {
+        return 0;
+    }
+    let end = at + 3 + n;
+    if s.len() < end + 3 {
+        return 0;
+    }
+    end
+}
+
+// The same after a field whose end was found, if it was.
+fn next_after(s: &[u8], at: usize, row: Row) -> usize
+    requires { ⌜ ((at ≡ 0 → ⊥) → at + 3 ≤ length (now s)) ⌝ }
+    ensures { λ r. ⌜ r ≡ nextAfter row (now (s .entry)) at ⌝ }
+{
+    if at == 0 {
+        return 0;
+    }
+    next_if_ok(s, at, row)
+}
+
+// Where the nine fields at the front of a slice start and end, found in one walk.
+pub fn read_shape(s: &[u8]) -> ReadShape
+    ensures { λ r. ⌜ ShapeOf (now (s .entry)) r ⌝ }
+{
+    let rows = ROWS;
+    if s.len() < 3 {
+        return ReadShape::Unreadable;
+    }
+    let payload = next_if_ok(s, 0, rows[0]);
+    let includes = next_after(s, payload, rows[1]);
+    let witness = next_after(s, includes, rows[2]);
+    let evidence = next_after(s, witness, rows[3]);
+    let anchor_proof = next_after(s, evidence, rows[4]);
+    let anchor_trigger = next_after(s, anchor_proof, rows[5]);
+    let role = next_after(s, anchor_trigger, rows[6]);
+    let times = next_after(s, role, rows[7]);
+    if times == 0 {
+        return ReadShape::Unreadable;
+    }
+    if !field_ok(s, times, rows[8]) {
+        return ReadShape::Unreadable;
+    }
+    let at = Places {
+        payload,
+        includes,
+        witness,
+        evidence,
+        anchor_proof,
+        anchor_trigger,
+        role,
+        times,
+    };
+    ReadShape::Shape(Shape {
+        at,
+        end: field_end(s, times),
+    })
+}
+
 // Where the nine fields at the front of a slice end.
 pub fn record_end(s: &[u8]) -> End
     ensures { λ r. ⌜ endOf r ≡ recordEnd (now (s .entry)) ⌝ }
@@ -154,6 +238,20 @@ pub fn record_end(s: &[u8]) -> End
         k += 1;
     }
     End::At(at)
+}
+
+// The same of a record that is known to stand there: nothing of it is tested again.
+pub fn known_end(s: &[u8]) -> usize
+    requires { ⌜ isSome (recordEnd (now s)) ≡ true ⌝ }
+    ensures { λ r. ⌜ recordEnd (now (s .entry)) ≡ some r ⌝ }
+{
+    let mut i = 0usize;
+    let mut at = 0;
+    while i < 9 {
+        at = field_end(s, at);
+        i += 1;
+    }
+    at
 }
 
 // Whether a slice is the nine fields and nothing after them.

@@ -38,8 +38,7 @@ verdictAnswer verdict.Valid = answer 0 0 noPoint 255 255 0 0 0 0 0
 -- kind, reason and the point id
 unfoldable pub headBytes : Answer → List ℕ
 unfolding bigBytes littleBytes
-headBytes a =
-    (a .kind ∷ a .reason ∷ []) ++ littleBytes 4 (a .id .round) ++ bigBytes 32 (a .id .digest) ++ bigBytes 32 (a .id .author)
+headBytes a = (a .kind ∷ a .reason ∷ []) ++ littleBytes 4 (a .id .round) ++ bigBytes 32 (a .id .digest) ++ bigBytes 32 (a .id .author)
 
 -- map, role and the two numbers
 unfoldable pub numberBytes : Answer → List ℕ

@@ -72,8 +72,15 @@ linkIds g p = record { target = target g p; source = source g p }
 unfoldable pub pointView : PointInfo → PointView
 unfolding prevDigest linkIds
 pointView p =
-    record { id = p .id; role = p .role; time = p .time; anchorTime = p .anchorTime; prevDigest = prevDigest p;
-             proof = linkIds Proof p; trigger = linkIds Trigger p }
+    record {
+      id = p .id;
+      role = p .role;
+      time = p .time;
+      anchorTime = p .anchorTime;
+      prevDigest = prevDigest p;
+      proof = linkIds Proof p;
+      trigger = linkIds Trigger p;
+    }
 
 abbrev pub linksIn : AnchorStageRole → PointView → LinkIds
 linksIn Proof p = p .proof

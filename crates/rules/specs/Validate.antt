@@ -41,8 +41,7 @@ abbrev pub notTrigger : Bool → PointRole → PointRole → Bool
 notTrigger required own proven = not required && (isAnchorProof proven && not (isAnchorTrigger own))
 
 abbrev pub endsTooSoon : Bool → PointRole → PointRole → Bool
-endsTooSoon required own proven =
-    not required && (isAnchorProof proven && (not (isAnchorProof own) && isOpen (stickyAnchors proven)))
+endsTooSoon required own proven = not required && (isAnchorProof proven && (not (isAnchorProof own) && isOpen (stickyAnchors proven)))
 
 unfoldable pub proofRow : Bool → PointView → DepView → List InvalidReason
 unfolding concat
@@ -194,8 +193,7 @@ joined old new = record { trail = old .trail ++ new .trail; root = join (old .ro
 -- what a dependency of a point of a round gives, reached through t
 unfoldable pub dependency : Settings → ℕ → Through → (DepView → List (List InvalidReason)) → Entry → Findings
 unfolding dependencyTrail recordOf
-dependency c round t rows e =
-    record { trail = dependencyTrail rows (e .state); root = recordOf c round (e .certified) t (e .state) }
+dependency c round t rows e = record { trail = dependencyTrail rows (e .state); root = recordOf c round (e .certified) t (e .state) }
 
 -- ---- check_valid, of one direct entry
 

@@ -237,8 +237,7 @@ peerRows c k p = concat (evidenceRows c k p) ∷ concat (includesRows k p) ∷ c
 
 unfoldable pub faults : Settings → Schedule → PointInfo → List VerifyError
 unfolding concat newRows wellFormedRows peerRows scheduled
-faults c s p =
-    concat (concat (newRows c s p) ∷ concat (wellFormedRows c p) ∷ concat (peerRows c (scheduled c s p) p) ∷ [])
+faults c s p = concat (concat (newRows c s p) ∷ concat (wellFormedRows c p) ∷ concat (peerRows c (scheduled c s p) p) ∷ [])
 
 unfoldable pub verify : Settings → Schedule → PointInfo → Option VerifyError
 unfolding firstOf faults

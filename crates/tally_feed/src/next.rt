@@ -64,12 +64,10 @@ pub fn next_point(
 pub fn kept(book: &[u8]) -> usize
     ensures { λ r. ⌜ r ≡ keptIn (now (book .entry)) ⌝ }
 {
-    let mut at = [0u32; 4096];
-    let mut next = [0u16; 4096];
-    let mut heads = [0u16; 4096];
-    let read = book_read::read_book(book, &mut at, &mut next, &mut heads);
+    let mut index = [0u16; id_index::LENGTH];
+    let read = book_read::read_book(book, &mut index);
     match read {
-        ReadBook::Book(_, n, _) => n,
+        ReadBook::Book(_, _) => id_index::count(&index),
         ReadBook::Unreadable => 0,
     }
 }

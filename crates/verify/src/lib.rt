@@ -39,31 +39,11 @@ pub fn verify_point(
     let Verified::Passed = new else {
         return new;
     };
-    let includes = point::includes(rec, info);
-    let witness = point::witness(rec, info);
-    let evidence = point::evidence(rec, info);
-    let well_formed = verify_well_formed::check_well_formed(
-        conf,
-        includes,
-        witness,
-        evidence,
-        rec,
-        info,
-    );
+    let well_formed = verify_well_formed::check_well_formed(conf, rec, info);
     let Verified::Passed = well_formed else {
         return well_formed;
     };
-    verify_peers::check_peers(
-        conf,
-        schedule,
-        spans,
-        includes,
-        witness,
-        evidence,
-        rec,
-        info,
-        peers,
-    )
+    verify_peers::check_peers(conf, schedule, spans, rec, info, peers)
 }
 
 // Numbers 1 to 5 in number order, then the verdict.

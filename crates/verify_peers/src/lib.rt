@@ -15,8 +15,8 @@ ghost use lib.ListN.{length};
 ghost use Rattle.base.specs.Base.{concat, firstOf};
 ghost use Rattle.parts.specs.Parts.{oneF};
 ghost use Rattle.parts.specs.Limits.{peersRoom};
-ghost use Rattle.map.specs.Rows.{peersOf, pairsOf, rising};
-ghost use Rattle.point.specs.Code.{pointOf, MapsOf, Reads};
+ghost use Rattle.map.specs.Rows.{peersOf, rising};
+ghost use Rattle.point.specs.Code.{pointOf, Reads};
 ghost use Rattle.schedule.specs.Code.{settingsOf, scheduleOf};
 ghost use Rattle.schedule.specs.Schedule.{readSchedule};
 ghost use Rattle.rules.specs.Verify.{Scheduled, includesRound, evidenceRows, includesRows, witnessRows, bufferWith};
@@ -34,14 +34,12 @@ fn one_f(total: usize) -> PeerCount
 // Evidence, checked against the peers of the point's own round.
 fn check_evidence_peers(
     conf: Settings,
-    evidence: &[u8],
     rec: &[u8],
     info: PointInfo,
     known: &[u8],
     peers: &mut [u8],
 ) -> Verified
     requires { ⌜ Reads (now rec) info ⌝ }
-    requires { ⌜ peersOf 32 (now evidence) ≡ pointOf (now rec) info .evidence ⌝ }
     requires { ⌜ rising (peersOf 32 (now known)) ≡ true ⌝ }
     requires { ⌜ length (peersOf 32 (now known)) ≤ 255 ⌝ }
     requires { ⌜ peersRoom ≤ length (now peers) ⌝ }
@@ -50,6 +48,7 @@ fn check_evidence_peers(
         × (now (peers .exit) ≡ bufferWith k (pointOf (now (rec .entry)) info) (verifiedOf r) (now (peers .entry)))) ⌝ }
 {
     let id = info.id;
+    let evidence = point::evidence(rec, info);
     let len = map::count(evidence, 32);
     if len == 0 {
         return Verified::Passed;
@@ -72,15 +71,8 @@ fn check_evidence_peers(
 }
 
 // Includes, checked against the peers of the round before, at genesis of the same round.
-fn check_includes_peers(
-    includes: &[u8],
-    rec: &[u8],
-    info: PointInfo,
-    known: &[u8],
-    peers: &mut [u8],
-) -> Verified
+fn check_includes_peers(rec: &[u8], info: PointInfo, known: &[u8], peers: &mut [u8]) -> Verified
     requires { ⌜ Reads (now rec) info ⌝ }
-    requires { ⌜ pairsOf (now includes) ≡ pointOf (now rec) info .includes ⌝ }
     requires { ⌜ rising (peersOf 32 (now known)) ≡ true ⌝ }
     requires { ⌜ length (peersOf 32 (now known)) ≤ 255 ⌝ }
     requires { ⌜ peersRoom ≤ length (now peers) ⌝ }
@@ -88,6 +80,7 @@ fn check_includes_peers(
         (verifiedOf r ≡ firstOf (concat (includesRows k (pointOf (now (rec .entry)) info))))
         × (now (peers .exit) ≡ bufferWith k (pointOf (now (rec .entry)) info) (verifiedOf r) (now (peers .entry)))) ⌝ }
 {
+    let includes = point::includes(rec, info);
     let unknown = verify_unknown::unknown_peers(includes, 64, known, peers);
     if 0 < unknown {
         let reason = IllFormedReason::UnknownPeers(unknown as u8, PointMap::Includes);
@@ -105,14 +98,12 @@ fn check_includes_peers(
 // Witness, checked against the peers two rounds before; at genesis and just above it there must be none.
 fn check_witness_peers(
     conf: Settings,
-    witness: &[u8],
     rec: &[u8],
     info: PointInfo,
     known: &[u8],
     peers: &mut [u8],
 ) -> Verified
     requires { ⌜ Reads (now rec) info ⌝ }
-    requires { ⌜ pairsOf (now witness) ≡ pointOf (now rec) info .witness ⌝ }
     requires { ⌜ rising (peersOf 32 (now known)) ≡ true ⌝ }
     requires { ⌜ peersRoom ≤ length (now peers) ⌝ }
     ensures { λ r. ⌜ ((k : Scheduled) → k .witness ≡ peersOf 32 (now (known .entry)) →
@@ -120,6 +111,7 @@ fn check_witness_peers(
         × (now (peers .exit) ≡ bufferWith k (pointOf (now (rec .entry)) info) (verifiedOf r) (now (peers .entry)))) ⌝ }
 {
     let id = info.id;
+    let witness = point::witness(rec, info);
     if map::count(witness, 64) == 0 {
         return Verified::Passed;
     }
@@ -145,21 +137,16 @@ fn includes_round(conf: Settings, round: u32) -> u32
     parts::rounds_back(round, 1)
 }
 
-// Takes the maps of the record too, so that they are looked up once for all checks.
 pub fn check_peers(
     conf: Settings,
     schedule: &[u8],
     spans: Schedule,
-    includes: &[u8],
-    witness: &[u8],
-    evidence: &[u8],
     rec: &[u8],
     info: PointInfo,
     peers: &mut [u8],
 ) -> Verified
     requires { ⌜ readSchedule (now schedule) ≡ some (scheduleOf (now schedule) spans) ⌝ }
     requires { ⌜ Reads (now rec) info ⌝ }
-    requires { ⌜ MapsOf (pointOf (now rec) info) (now includes) (now witness) (now evidence) ⌝ }
     requires { ⌜ peersRoom ≤ length (now peers) ⌝ }
     ensures { λ r. ⌜ PeersChecked conf (now (schedule .entry)) spans (now (rec .entry)) info (verifiedOf r) ⌝ }
     ensures { λ r. ⌜ BufferAfter conf (now (schedule .entry)) spans (now (rec .entry)) info (verifiedOf r) (now (peers .entry)) (now (peers .exit)) ⌝ }
@@ -169,13 +156,13 @@ pub fn check_peers(
     let same_round = schedule::peers_for(schedule, spans, round);
     let included = schedule::peers_for(schedule, spans, includes_round(conf, round));
     let witnessed = schedule::peers_for(schedule, spans, parts::rounds_back(round, 2));
-    let first = check_evidence_peers(conf, evidence, rec, info, same_round, peers);
+    let first = check_evidence_peers(conf, rec, info, same_round, peers);
     let Verified::Passed = first else {
         return first;
     };
-    let second = check_includes_peers(includes, rec, info, included, peers);
+    let second = check_includes_peers(rec, info, included, peers);
     let Verified::Passed = second else {
         return second;
     };
-    check_witness_peers(conf, witness, rec, info, witnessed, peers)
+    check_witness_peers(conf, rec, info, witnessed, peers)
 }

@@ -17,10 +17,9 @@ ghost use mathlib.Core.Path.{_≡_};
 ghost use mathlib.Core.Bool.{not, _&&_};
 ghost use Rattle.parts.specs.Code.{number};
 ghost use Rattle.base.specs.Base.{concat, firstOf, isSome};
-ghost use Rattle.map.specs.Rows.{pairsOf};
 ghost use Rattle.map.specs.Code.{foundOf};
-ghost use Rattle.point.specs.Point.{isAnchorTrigger, requiresPrevPoint, digestSafe, prevDigest, stickyAnchors, targetRoundOf};
-ghost use Rattle.point.specs.Code.{throughOf, linkOf, pointOf, MapsOf, Reads};
+ghost use Rattle.point.specs.Point.{isAnchorTrigger, requiresPrevPoint, stickyAnchors, targetRoundOf};
+ghost use Rattle.point.specs.Code.{throughOf, linkOf, pointOf, Reads};
 ghost use Rattle.schedule.specs.Code.{settingsOf};
 ghost use Rattle.rules.specs.Verify.{linksOwn, isGenesis, isZero, genesisStructureRows, pointMap, targetTooNew, badLink, equal, ownPointRows, linkRows};
 ghost use Rattle.rules.specs.Verify.{structureRows, genesisRows, stickyFault, aboveRows, wellFormedRows};
@@ -122,48 +121,13 @@ fn is_target_too_new(round: u32, link: AnchorLink) -> bool
     }
 }
 
-// point::prev_digest, of includes that were found already.
-fn prev_digest(includes: &[u8], rec: &[u8], info: PointInfo) -> Found
-    requires { ⌜ Reads (now rec) info ⌝ }
-    requires { ⌜ pairsOf (now includes) ≡ pointOf (now rec) info .includes ⌝ }
-    ensures { λ r. ⌜ foundOf r ≡ prevDigest (pointOf (now (rec .entry)) info) ⌝ }
-{
-    let id = info.id;
-    map::get(includes, id.author)
-}
-
-// point::digest_safe, of maps that were found already.
-fn digest_safe(
-    includes: &[u8],
-    witness: &[u8],
-    rec: &[u8],
-    info: PointInfo,
-    through: Through,
-) -> Found
-    requires { ⌜ Reads (now rec) info ⌝ }
-    requires { ⌜ (pairsOf (now includes) ≡ pointOf (now rec) info .includes) × (pairsOf (now witness) ≡ pointOf (now rec) info .witness) ⌝ }
-    ensures { λ r. ⌜ foundOf r ≡ digestSafe (pointOf (now (rec .entry)) info) (throughOf through) ⌝ }
-{
-    match through {
-        Through::Includes(peer) => map::get(includes, peer),
-        Through::Witness(peer) => map::get(witness, peer),
-    }
-}
-
 // Whether the peer that a link goes through is not in its map, or its target is too new.
-fn is_bad_link(
-    includes: &[u8],
-    witness: &[u8],
-    rec: &[u8],
-    info: PointInfo,
-    link: AnchorLink,
-) -> bool
+fn is_bad_link(rec: &[u8], info: PointInfo, link: AnchorLink) -> bool
     requires { ⌜ Reads (now rec) info ⌝ }
-    requires { ⌜ (pairsOf (now includes) ≡ pointOf (now rec) info .includes) × (pairsOf (now witness) ≡ pointOf (now rec) info .witness) ⌝ }
     ensures { λ r. ⌜ r ≡ badLink (pointOf (now (rec .entry)) info) (linkOf link) ⌝ }
 {
     let id = info.id;
-    if !is_found(digest_safe(includes, witness, rec, info, link.through())) {
+    if !is_found(point::digest_safe(rec, info, link.through())) {
         return true;
     }
     is_target_too_new(id.round, link)
@@ -199,51 +163,44 @@ fn is_bad_proof_link(info: PointInfo) -> bool
 }
 
 // The author's own points: the previous one, and none among evidence and witness.
-fn check_own_points(
-    includes: &[u8],
-    witness: &[u8],
-    evidence: &[u8],
-    rec: &[u8],
-    info: PointInfo,
-) -> Checked
+fn check_own_points(rec: &[u8], info: PointInfo) -> Checked
     requires { ⌜ Reads (now rec) info ⌝ }
-    requires { ⌜ MapsOf (pointOf (now rec) info) (now includes) (now witness) (now evidence) ⌝ }
     ensures { λ r. ⌜ checkedOf r ≡ firstOf (concat (ownPointRows (pointOf (now (rec .entry)) info))) ⌝ }
 {
     let id = info.id;
     let role = info.role;
-    let has_prev_point = is_found(prev_digest(includes, rec, info));
+    let has_prev_point = is_found(point::prev_digest(rec, info));
     if lacks_prev_point(role, has_prev_point) {
         return Checked::Issue(StructureIssue::NoPrevPoint);
     }
+    let evidence = point::evidence(rec, info);
     if equal(map::count(evidence, 32) == 0, has_prev_point) {
         return Checked::Issue(StructureIssue::AuthorInMap(PointMap::Includes));
     }
     if map::contains(evidence, 32, id.author) {
         return Checked::Issue(StructureIssue::AuthorInMap(PointMap::Evidence));
     }
-    if map::contains(witness, 64, id.author) {
+    if map::contains(point::witness(rec, info), 64, id.author) {
         return Checked::Issue(StructureIssue::AuthorInMap(PointMap::Witness));
     }
     Checked::Sound
 }
 
 // The anchor links and the times.
-fn check_links(includes: &[u8], witness: &[u8], rec: &[u8], info: PointInfo) -> Checked
+fn check_links(rec: &[u8], info: PointInfo) -> Checked
     requires { ⌜ Reads (now rec) info ⌝ }
-    requires { ⌜ (pairsOf (now includes) ≡ pointOf (now rec) info .includes) × (pairsOf (now witness) ≡ pointOf (now rec) info .witness) ⌝ }
     ensures { λ r. ⌜ checkedOf r ≡ firstOf (concat (linkRows (pointOf (now (rec .entry)) info))) ⌝ }
 {
     if is_bad_proof_link(info) {
         return Checked::Issue(StructureIssue::TriggerBadProofLink);
     }
     let proof = info.anchor_proof;
-    if is_bad_link(includes, witness, rec, info, proof) {
+    if is_bad_link(rec, info, proof) {
         let map = point_map(proof.through());
         return Checked::Issue(StructureIssue::Link(AnchorStageRole::Proof, map));
     }
     let trigger = info.anchor_trigger;
-    if is_bad_link(includes, witness, rec, info, trigger) {
+    if is_bad_link(rec, info, trigger) {
         let map = point_map(trigger.through());
         return Checked::Issue(StructureIssue::Link(AnchorStageRole::Trigger, map));
     }
@@ -254,26 +211,19 @@ fn check_links(includes: &[u8], witness: &[u8], rec: &[u8], info: PointInfo) -> 
 }
 
 // check_structure of any other point.
-fn check_structure(
-    includes: &[u8],
-    witness: &[u8],
-    evidence: &[u8],
-    rec: &[u8],
-    info: PointInfo,
-) -> Checked
+fn check_structure(rec: &[u8], info: PointInfo) -> Checked
     requires { ⌜ Reads (now rec) info ⌝ }
-    requires { ⌜ MapsOf (pointOf (now rec) info) (now includes) (now witness) (now evidence) ⌝ }
     ensures { λ r. ⌜ checkedOf r ≡ firstOf (concat (structureRows (pointOf (now (rec .entry)) info))) ⌝ }
 {
     let role = info.role;
     if is_genesis(role) {
         return Checked::Issue(StructureIssue::ExpectedGenesis(false));
     }
-    let own_points = check_own_points(includes, witness, evidence, rec, info);
+    let own_points = check_own_points(rec, info);
     let Checked::Sound = own_points else {
         return own_points;
     };
-    check_links(includes, witness, rec, info)
+    check_links(rec, info)
 }
 
 fn check_genesis(conf: Settings, rec: &[u8], info: PointInfo) -> Verified
@@ -331,16 +281,8 @@ fn target_round(round: u32, link: AnchorLink) -> u32
     }
 }
 
-fn check_above_genesis(
-    conf: Settings,
-    includes: &[u8],
-    witness: &[u8],
-    evidence: &[u8],
-    rec: &[u8],
-    info: PointInfo,
-) -> Verified
+fn check_above_genesis(conf: Settings, rec: &[u8], info: PointInfo) -> Verified
     requires { ⌜ Reads (now rec) info ⌝ }
-    requires { ⌜ MapsOf (pointOf (now rec) info) (now includes) (now witness) (now evidence) ⌝ }
     ensures { λ r. ⌜ verifiedOf r ≡ firstOf (concat (aboveRows (settingsOf conf) (pointOf (now (rec .entry)) info))) ⌝ }
 {
     let id = info.id;
@@ -349,7 +291,7 @@ fn check_above_genesis(
         let bytes = info.payload_bytes;
         return Verified::Failed(VerifyError::IllFormed(IllFormedReason::TooLargePayload(bytes)));
     }
-    let structure = check_structure(includes, witness, evidence, rec, info);
+    let structure = check_structure(rec, info);
     if let Checked::Issue(i) = structure {
         return Verified::Failed(VerifyError::IllFormed(IllFormedReason::Structure(i)));
     }
@@ -368,22 +310,13 @@ fn check_above_genesis(
     Verified::Passed
 }
 
-// Takes the maps of the record too, so that they are looked up once for all checks.
-pub fn check_well_formed(
-    conf: Settings,
-    includes: &[u8],
-    witness: &[u8],
-    evidence: &[u8],
-    rec: &[u8],
-    info: PointInfo,
-) -> Verified
+pub fn check_well_formed(conf: Settings, rec: &[u8], info: PointInfo) -> Verified
     requires { ⌜ Reads (now rec) info ⌝ }
-    requires { ⌜ MapsOf (pointOf (now rec) info) (now includes) (now witness) (now evidence) ⌝ }
     ensures { λ r. ⌜ verifiedOf r ≡ firstOf (concat (wellFormedRows (settingsOf conf) (pointOf (now (rec .entry)) info))) ⌝ }
 {
     let id = info.id;
     if id.round == conf.genesis_round {
         return check_genesis(conf, rec, info);
     }
-    check_above_genesis(conf, includes, witness, evidence, rec, info)
+    check_above_genesis(conf, rec, info)
 }

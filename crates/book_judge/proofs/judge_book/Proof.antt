@@ -29,9 +29,9 @@ returns c =
     let t = c .before in
     let l = t .before in
     let v = l .before in
-    let st = v .before .before .before .before .before .before in
+    let st = v .before .before .before .before in
     let q = pointOf (now (st .args .rec)) (st .args .info) in
-    let a : Asked (now (st .args .book)) b (st .args .n) (now (st .args .at)) (v .point-view .result) q = record { holds = h; view = v .point-view .ensures } in
+    let a : Asked (now (st .args .book)) b (now (st .args .index)) (v .point-view .result) q = record { holds = h; view = v .point-view .ensures } in
     judged-over (settingsOf (st .args .conf)) (st .args .required) (pointViewOf (v .point-view .result)) q b (judgingOf (l .judge-direct-list .result)) (judgingOf (t .judge-targets .result)) (verdictOf (c .verdict .result))
     (v .point-view .ensures) (l .judge-direct-list .ensures b (st .args .info) a d) (t .judge-targets .ensures b (now (st .args .rec)) a) (c .verdict .ensures)
 

@@ -1,6 +1,6 @@
 -- `judge_target` meets its contract: a direct link has no entry; an indirect one has that of its target.
 use denote.Ref.{now}
-use mathlib.Core.Path.{ap}
+use mathlib.Core.Path.{ap, _∙_}
 use Rattle.judge_valid.specs.Code.{pointViewOf}
 use Rattle.point.specs.Code.{pointIdOf, throughOf, linkOf}
 use Rattle.schedule.specs.Code.{settingsOf}
@@ -20,31 +20,36 @@ enum-known-link c = search needs
 lookup-requires : tie.Need-lookup-requires
 lookup-requires c κs = search needs
 
-sub-judge-indirect : tie.Need-sub-judge-indirect
-sub-judge-indirect c = search needs
+sub-indirect-gives : tie.Need-sub-indirect-gives
+sub-indirect-gives c = search needs
 
-part-judge-indirect-start : tie.Need-part-judge-indirect-start
-part-judge-indirect-start c = search needs
+part-indirect-gives-start : tie.Need-part-indirect-gives-start
+part-indirect-gives-start c = search needs
 
-part-judge-indirect-end : tie.Need-part-judge-indirect-end
-part-judge-indirect-end c = search needs
+part-indirect-gives-end : tie.Need-part-indirect-gives-end
+part-indirect-gives-end c = search needs
 
-judge-indirect-requires : tie.Need-judge-indirect-requires
-judge-indirect-requires c κs = search needs
+indirect-gives-requires : tie.Need-indirect-gives-requires
+indirect-gives-requires c κs = search needs
+
+with-indirect-requires : tie.Need-with-indirect-requires
+with-indirect-requires c κs = search needs
 
 returns : tie.Need-returns
 unfolding indirectFold
 returns c = λ b q a e. rw (c .enum-told .given .1)
 
 returns-2 : tie.Need-returns-2
-returns-2 c =
-    λ b q a e.
-    let l = c .before .before in
+returns-2 c = λ b q a e.
+    let g = c .before in
+    let l = g .before .before in
     let t = l .before .before .before in
-    let st = t .before .before .before .before .before .before in
+    let st = t .before .before .before .before in
     let x = t .link .given .0 .0 in
+    let j = judgingOf (st .args .so-far) in
     target-judged (now (st .args .book)) (l .lookup .result) (marked q b) q (pointIdOf (x .to)) (l .lookup .ensures .1 b q a)
-    (settingsOf (st .args .conf)) (pointViewOf (st .args .p)) (a .view) (judgingOf (st .args .so-far)) (judgingOf (c .judge-indirect .result)) (st .args .role) (throughOf (x .through)) (linkOf (st .args .link)) (ap linkOf (t .link .given .1)) e (c .judge-indirect .ensures)
+    (settingsOf (st .args .conf)) (pointViewOf (st .args .p)) (a .view) j (judgingOf (c .with-indirect .result)) (st .args .role) (throughOf (x .through)) (linkOf (st .args .link)) (ap linkOf (t .link .given .1)) e
+    (λ first. c .with-indirect .ensures ∙ g .indirect-gives .ensures first j)
 
 pub judge-target-spec : {M : Type 1} → statement M
 judge-target-spec =
@@ -53,9 +58,10 @@ judge-target-spec =
     enum-told
     enum-known-link
     lookup-requires
-    sub-judge-indirect
-    part-judge-indirect-start
-    part-judge-indirect-end
-    judge-indirect-requires
+    sub-indirect-gives
+    part-indirect-gives-start
+    part-indirect-gives-end
+    indirect-gives-requires
+    with-indirect-requires
     returns
     returns-2)

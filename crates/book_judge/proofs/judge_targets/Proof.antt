@@ -23,7 +23,7 @@ returns c =
     λ b s a.
     let f = c .before in
     let t = f .before .before in
-    let st = t .before .before .before .before .before in
+    let st = t .before .before .before in
     let q = pointOf s (st .args .info) in
     trigger-first (settingsOf (st .args .conf)) q (marked q b) (judgingOf (st .args .so-far)) (judgingOf (f .judge-target .result)) (judgingOf (c .judge-target2 .result))
     (sym (t .is-trigger-first .ensures) ∙ f .before .if1 .taken) (f .judge-target .ensures b q a refl) (c .judge-target2 .ensures b q a refl)
@@ -39,7 +39,7 @@ returns-2 c =
     λ b s a.
     let f = c .before in
     let t = f .before .before in
-    let st = t .before .before .before .before .before in
+    let st = t .before .before .before in
     let q = pointOf s (st .args .info) in
     proof-first (settingsOf (st .args .conf)) q (marked q b) (judgingOf (st .args .so-far)) (judgingOf (f .judge-target3 .result)) (judgingOf (c .judge-target4 .result))
     (sym (t .is-trigger-first .ensures) ∙ f .before .if1 .left) (f .judge-target3 .ensures b q a refl) (c .judge-target4 .ensures b q a refl)

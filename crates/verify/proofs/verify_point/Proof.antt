@@ -2,7 +2,6 @@
 use mathlib.Core.Path.{_≡_, ap}
 use mathlib.Core.Option.{none}
 use denote.Ref.{now}
-use Rattle.map.specs.Rows.{peersOf, pairsOf}
 use Rattle.point.specs.Point.{PointInfo}
 use Rattle.point.specs.Code.{pointOf}
 use Rattle.schedule.specs.Settings.{Settings}
@@ -40,10 +39,10 @@ new c =
     told-new (settings b) (schedule b) (point b) (sets b) _ _ (c .check-new .ensures)
 
 abbrev first : tie.After-check-well-formed → tie.After-check-new
-first c = c .before .before .before .before .before .before
+first c = c .before .before .before
 
 passed : (c : tie.After-check-well-formed) → verifiedOf (first c .check-new .result) ≡ none
-passed c = ap verifiedOf (c .before .before .before .before .enum-told .given .1)
+passed c = ap verifiedOf (c .before .enum-told .given .1)
 
 formed : (c : tie.After-check-well-formed) →
     let b = start (first c) in
@@ -69,28 +68,8 @@ returns c =
     told-first (sets b) (point b) (newRows (settings b) (schedule b) (point b)) (wellFormedRows (settings b) (point b)) (peerRows (settings b) (sets b) (point b))
     _ (c .enum-told2 .given .0 .0) _ _ (ap verifiedOf (c .enum-told2 .given .1)) (new n)
 
-includes-requires : tie.Need-includes-requires
-includes-requires c κs = search needs
-
-witness-requires : tie.Need-witness-requires
-witness-requires c κs = search needs
-
-evidence-requires : tie.Need-evidence-requires
-evidence-requires c κs = search needs
-
--- the maps that were looked up are the point's
-abbrev handed : tie.After-evidence → tie.Start
-handed c = c .before .before .before .before .before .before .before .before .before
-
-maps : (c : tie.After-evidence) →
-    let p = point (handed c) in
-    (pairsOf (now (c .before .before .includes .result)) ≡ p .includes)
-    × (pairsOf (now (c .before .witness .result)) ≡ p .witness)
-    × (peersOf 32 (now (c .evidence .result)) ≡ p .evidence)
-maps c = (ap pairsOf (c .before .before .includes .ensures), ap pairsOf (c .before .witness .ensures), ap (peersOf 32) (c .evidence .ensures))
-
 check-well-formed-requires : tie.Need-check-well-formed-requires
-check-well-formed-requires c κs = (handed c .pre .1 .0, maps c)
+check-well-formed-requires c κs = search needs
 
 enum-told-3 : tie.Need-enum-told-3
 enum-told-3 c = search needs
@@ -108,9 +87,8 @@ returns-2 c =
 
 check-peers-requires : tie.Need-check-peers-requires
 check-peers-requires c κs =
-    let m = c .before .before .before .before in
-    let b = handed m in
-    (b .pre .0, (b .pre .1 .0, (maps m, b .pre .1 .1)))
+    let b = start (first (c .before .before .before)) in
+    (b .pre .0, (b .pre .1 .0, b .pre .1 .1))
 
 same-length : tie.Need-same-length
 same-length c = search needs
@@ -132,9 +110,6 @@ verify-point-spec =
     enum-told
     enum-told-2
     returns
-    includes-requires
-    witness-requires
-    evidence-requires
     check-well-formed-requires
     enum-told-3
     enum-told-4

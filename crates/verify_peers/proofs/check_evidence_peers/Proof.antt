@@ -21,14 +21,14 @@ use Rattle.verify_peers.proofs.check_evidence_peers.Tie as tie
 abbrev point : tie.Start → PointInfo
 point c = pointOf (now (c .args .rec)) (c .args .info)
 
-abbrev start : tie.After-id → tie.Start
+abbrev start : tie.After-evidence → tie.Start
 start c = c .before .before .before .before .before
 
-abbrev taken : tie.After-unknown-peers → tie.After-id
+abbrev taken : tie.After-unknown-peers → tie.After-evidence
 taken c = c .before .before .before .before .before .before .before
 
-rows : (c : tie.After-id) → point (start c) .evidence ≡ peersOf 32 (now (start c .args .evidence))
-rows c = sym (start c .pre .1 .0)
+rows : (c : tie.After-evidence) → point (start c) .evidence ≡ peersOf 32 (now (c .evidence .result))
+rows c = sym (ap (peersOf 32) (c .evidence .ensures))
 
 counted : (c : tie.After-count) → c .count .result ≡ length (point (start (c .before)) .evidence)
 counted c = c .count .ensures ∙ sym (ap length (rows (c .before)))
@@ -48,12 +48,15 @@ f-is : (c : tie.After-one-f) (k : Scheduled) → k .sameRound ≡ peersOf 32 (no
     c .one-f .result .0 ≡ oneF (length (k .sameRound))
 f-is c k e = rw e (c .one-f .ensures ∙ ap oneF (c .before .count2 .ensures))
 
+evidence-requires : tie.Need-evidence-requires
+evidence-requires c κs = search needs
+
 count-requires : tie.Need-count-requires
 count-requires c κs = search needs
 
 returns : tie.Need-returns
 returns c k e =
-    let b = c .before .before .before .before .before .before .before in
+    let b = start (c .before .before) in
     evidence-none (settingsOf (b .args .conf)) k (point b) _ (sym (counted (c .before)) ∙ c .if1 .taken)
 
 returns-2 : tie.Need-returns-2
@@ -66,13 +69,13 @@ unknown-peers-requires : tie.Need-unknown-peers-requires
 unknown-peers-requires c κs =
     let t = c .before .before .before .before .before .before in
     let r = read (start t) in
-    (omega arith, (rw (← rows t) (r .evidence .rise), (start t .pre .1 .1 .0, rw (← rows t) (omega (arith, r .evidence .few, start t .pre .1 .1 .1 .1)))))
+    (omega arith, (rw (← rows t) (r .evidence .rise), (start t .pre .1 .0, rw (← rows t) (omega (arith, r .evidence .few, start t .pre .1 .1 .1)))))
 
 cast-t19 : tie.Need-cast-t19
 cast-t19 c =
     let u = c .before .before .before in
     let t = taken u in
-    record { fits = omega (arith, u .unknown-peers .ensures .0, unknown-few (peersOf 32 (now (start t .args .known))) (peersOf 32 (now (start t .args .evidence))), ap length (rows t), read (start t) .evidence .few) }
+    record { fits = omega (arith, u .unknown-peers .ensures .0, unknown-few (peersOf 32 (now (start t .args .known))) (peersOf 32 (now (t .evidence .result))), ap length (rows t), read (start t) .evidence .few) }
 
 same-length : tie.Need-same-length
 same-length c = search needs
@@ -87,7 +90,7 @@ count-requires-2 : tie.Need-count-requires-2
 count-requires-2 c κs = search needs
 
 one-f-requires : tie.Need-one-f-requires
-one-f-requires c κs = omega (arith, c .count2 .ensures, start (taken (c .before .before .before .before)) .pre .1 .1 .1 .0)
+one-f-requires c κs = omega (arith, c .count2 .ensures, start (taken (c .before .before .before .before)) .pre .1 .1 .0)
 
 majority-of-others-requires : tie.Need-majority-of-others-requires
 majority-of-others-requires c κs = search needs
@@ -123,6 +126,7 @@ pub check-evidence-peers-spec : {M : Type 1} → statement M
 check-evidence-peers-spec =
     tie.close
     (tie.spec
+    evidence-requires
     count-requires
     returns
     returns-2

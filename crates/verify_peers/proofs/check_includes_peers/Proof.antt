@@ -1,10 +1,12 @@
 -- `check_includes_peers` meets its contract: a lemma says of the map what each call told, and each `return` cites the law of its fault.
+use Prim.Native.Nat.{ℕ}
 use native.Mathlib.Omega.{arith}
 use mathlib.Core.Path.{_≡_, ap, sym, _∙_}
+use mathlib.Core.List.{List}
 use lib.ListN.{length}
 use denote.Ref.{now}
 use Rattle.parts.specs.Parts.{oneF}
-use Rattle.map.specs.Rows.{peersOf, peers}
+use Rattle.map.specs.Rows.{peersOf, pairsOf, peers}
 use Rattle.map.proofs.Laws.{peers-pairsOf, peers-length}
 use Rattle.point.specs.Point.{PointInfo}
 use Rattle.point.specs.Code.{pointOf}
@@ -21,16 +23,16 @@ use Rattle.verify_peers.proofs.check_includes_peers.Tie as tie
 abbrev point : tie.Start → PointInfo
 point c = pointOf (now (c .args .rec)) (c .args .info)
 
-abbrev start : tie.After-slice-known → tie.Start
+abbrev start : tie.After-includes → tie.Start
 start c = c .before .before .before .before
 
-abbrev taken : tie.After-unknown-peers → tie.After-slice-known
+abbrev taken : tie.After-unknown-peers → tie.After-includes
 taken c = c .before .before
 
-rows : (c : tie.After-slice-known) → peers (point (start c) .includes) ≡ peersOf 64 (now (start c .args .includes))
-rows c = ap peers (sym (start c .pre .1 .0)) ∙ peers-pairsOf _
+rows : (c : tie.After-includes) → peers (point (start c) .includes) ≡ peersOf 64 (now (c .includes .result))
+rows c = ap (λ (l : List ℕ). peers (pairsOf l)) (sym (c .includes .ensures)) ∙ peers-pairsOf _
 
-many : (c : tie.After-slice-known) → length (peersOf 64 (now (start c .args .includes))) ≡ length (point (start c) .includes)
+many : (c : tie.After-includes) → length (peersOf 64 (now (c .includes .result))) ≡ length (point (start c) .includes)
 many c = sym (ap length (rows c)) ∙ peers-length _
 
 read : (c : tie.Start) → Readable (now (c .args .rec)) (point c)
@@ -45,17 +47,20 @@ f-is : (c : tie.After-one-f) (k : Scheduled) → k .includes ≡ peersOf 32 (now
     c .one-f .result .0 ≡ oneF (length (k .includes))
 f-is c k e = rw e (c .one-f .ensures ∙ ap oneF (c .before .count2 .ensures))
 
+includes-requires : tie.Need-includes-requires
+includes-requires c κs = search needs
+
 unknown-peers-requires : tie.Need-unknown-peers-requires
 unknown-peers-requires c κs =
     let t = c .before in
     let r = read (start t) in
-    (omega arith, (rw (← rows t) (r .includes .rise), (start t .pre .1 .1 .0, omega (arith, many t, r .includes .few, start t .pre .1 .1 .1 .1))))
+    (omega arith, (rw (← rows t) (r .includes .rise), (start t .pre .1 .0, omega (arith, many t, r .includes .few, start t .pre .1 .1 .1))))
 
 cast-t14 : tie.Need-cast-t14
 cast-t14 c =
     let u = c .before .before .before in
     let t = taken u in
-    record { fits = omega (arith, u .unknown-peers .ensures .0, unknown-few (peersOf 32 (now (start t .args .known))) (peersOf 64 (now (start t .args .includes))), many t, read (start t) .includes .few) }
+    record { fits = omega (arith, u .unknown-peers .ensures .0, unknown-few (peersOf 32 (now (start t .args .known))) (peersOf 64 (now (t .includes .result))), many t, read (start t) .includes .few) }
 
 same-length : tie.Need-same-length
 same-length c = search needs
@@ -104,6 +109,7 @@ pub check-includes-peers-spec : {M : Type 1} → statement M
 check-includes-peers-spec =
     tie.close
     (tie.spec
+    includes-requires
     unknown-peers-requires
     cast-t14
     same-length

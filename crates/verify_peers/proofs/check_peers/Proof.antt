@@ -37,11 +37,11 @@ few c round l e = rw e (peers-few (now (c .args .schedule)) (schedule c) round (
 
 -- evidence
 abbrev start : tie.After-check-evidence-peers → tie.Start
-start c = c .before .before .before .before .before .before .before .before .before .before .before .before .before .before
+start c = c .before .before .before .before .before .before .before .before .before .before .before
 
 evidence : (c : tie.After-check-evidence-peers) →
     let b = start c in
-    Told (sets b) (point b) (evidenceRows (settings b) (sets b) (point b)) (verifiedOf (c .check-evidence-peers .result)) (now (b .args .peers)) (c .check-evidence-peers .last .1 .1 .1 .1 .1 .0)
+    Told (sets b) (point b) (evidenceRows (settings b) (sets b) (point b)) (verifiedOf (c .check-evidence-peers .result)) (now (b .args .peers)) (c .check-evidence-peers .last .1 .1 .1 .1 .0)
 unfolding scheduled
 evidence c = c .check-evidence-peers .ensures (sets (start c)) (sym (c .before .before .before .before .before .before .peers-for .ensures .0))
 
@@ -51,7 +51,7 @@ first c = c .before .before .before .before .before .before
 
 includes : (c : tie.After-check-includes-peers) →
     let b = start (first c) in
-    Told (sets b) (point b) (includesRows (sets b) (point b)) (verifiedOf (c .check-includes-peers .result)) (first c .check-evidence-peers .last .1 .1 .1 .1 .1 .0) (c .check-includes-peers .last .1 .1 .1 .1 .0)
+    Told (sets b) (point b) (includesRows (sets b) (point b)) (verifiedOf (c .check-includes-peers .result)) (first c .check-evidence-peers .last .1 .1 .1 .1 .0) (c .check-includes-peers .last .1 .1 .1 .0)
 unfolding scheduled
 includes c =
     let e = first c in
@@ -67,7 +67,7 @@ second c = c .before .before .before .before .before .before
 
 witness : (c : tie.After-check-witness-peers) →
     let b = start (first (second c)) in
-    Told (sets b) (point b) (witnessRows (settings b) (sets b) (point b)) (verifiedOf (c .check-witness-peers .result)) (second c .check-includes-peers .last .1 .1 .1 .1 .0) (c .check-witness-peers .last .1 .1 .1 .1 .1 .0)
+    Told (sets b) (point b) (witnessRows (settings b) (sets b) (point b)) (verifiedOf (c .check-witness-peers .result)) (second c .check-includes-peers .last .1 .1 .1 .0) (c .check-witness-peers .last .1 .1 .1 .1 .0)
 unfolding scheduled
 witness c =
     let e = first (second c) in
@@ -82,9 +82,9 @@ peers-for-requires c κs = search needs
 
 check-evidence-peers-requires : tie.Need-check-evidence-peers-requires
 check-evidence-peers-requires c κs =
-    let b = c .before .before .before .before .before .before .before .before .before .before .before .before .before in
+    let b = c .before .before .before .before .before .before .before .before .before .before in
     let f = few b _ _ (c .before .before .before .before .before .peers-for .ensures .0) in
-    (b .pre .1 .0, (b .pre .1 .1 .0 .2, (f .rises, (f .few, b .pre .1 .1 .1))))
+    (b .pre .1 .0, (f .rises, (f .few, b .pre .1 .1)))
 
 enum-told : tie.Need-enum-told
 enum-told c = search needs
@@ -114,7 +114,7 @@ check-includes-peers-requires c κs =
     let e = c .before .before .before .before .before in
     let b = start e in
     let f = few b _ _ (e .before .before .before .before .peers-for2 .ensures .0) in
-    (b .pre .1 .0, (b .pre .1 .1 .0 .0, (f .rises, (f .few, omega (arith, b .pre .1 .1 .1, e .check-evidence-peers .kept .1 .1 .1 .1 .1 .0)))))
+    (b .pre .1 .0, (f .rises, (f .few, omega (arith, b .pre .1 .1, e .check-evidence-peers .kept .1 .1 .1 .1 .0))))
 
 enum-told-3 : tie.Need-enum-told-3
 enum-told-3 c = search needs
@@ -144,7 +144,7 @@ check-witness-peers-requires c κs =
     let i = c .before .before .before .before .before in
     let b = start (first i) in
     let f = few b _ _ (first i .before .before .peers-for3 .ensures .0) in
-    (b .pre .1 .0, (b .pre .1 .1 .0 .1, (f .rises, omega (arith, b .pre .1 .1 .1, first i .check-evidence-peers .kept .1 .1 .1 .1 .1 .0, i .check-includes-peers .kept .1 .1 .1 .1 .0))))
+    (b .pre .1 .0, (f .rises, omega (arith, b .pre .1 .1, first i .check-evidence-peers .kept .1 .1 .1 .1 .0, i .check-includes-peers .kept .1 .1 .1 .0)))
 
 same-length-3 : tie.Need-same-length-3
 same-length-3 c = search needs

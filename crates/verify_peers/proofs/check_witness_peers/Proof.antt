@@ -1,10 +1,11 @@
 -- `check_witness_peers` meets its contract: a lemma says of the map what each call told, and each `return` cites the law of its fault.
-use Prim.Native.Nat.{_-_, _≤_}
+use Prim.Native.Nat.{ℕ, _-_, _≤_}
 use native.Mathlib.Omega.{arith}
 use mathlib.Core.Path.{_≡_, ap, sym, _∙_}
+use mathlib.Core.List.{List}
 use lib.ListN.{length}
 use denote.Ref.{now}
-use Rattle.map.specs.Rows.{peersOf, peers}
+use Rattle.map.specs.Rows.{peersOf, pairsOf, peers}
 use Rattle.map.proofs.Laws.{peers-pairsOf, peers-length}
 use Rattle.point.specs.Point.{PointInfo}
 use Rattle.point.specs.Code.{pointOf}
@@ -22,16 +23,16 @@ use Rattle.verify_peers.proofs.check_witness_peers.Tie as tie
 abbrev point : tie.Start → PointInfo
 point c = pointOf (now (c .args .rec)) (c .args .info)
 
-abbrev start : tie.After-id → tie.Start
+abbrev start : tie.After-witness → tie.Start
 start c = c .before .before .before .before .before
 
-abbrev taken : tie.After-unknown-peers → tie.After-id
+abbrev taken : tie.After-unknown-peers → tie.After-witness
 taken c = c .before .before .before .before .before .before .before
 
-rows : (c : tie.After-id) → peers (point (start c) .witness) ≡ peersOf 64 (now (start c .args .witness))
-rows c = ap peers (sym (start c .pre .1 .0)) ∙ peers-pairsOf _
+rows : (c : tie.After-witness) → peers (point (start c) .witness) ≡ peersOf 64 (now (c .witness .result))
+rows c = ap (λ (l : List ℕ). peers (pairsOf l)) (sym (c .witness .ensures)) ∙ peers-pairsOf _
 
-many : (c : tie.After-id) → length (peersOf 64 (now (start c .args .witness))) ≡ length (point (start c) .witness)
+many : (c : tie.After-witness) → length (peersOf 64 (now (c .witness .result))) ≡ length (point (start c) .witness)
 many c = sym (ap length (rows c)) ∙ peers-length _
 
 read : (c : tie.Start) → Readable (now (c .args .rec)) (point c)
@@ -46,6 +47,9 @@ above c = omega (arith, c .before .before .rounds-back .ensures, c .if2 .left)
 told : (c : tie.After-unknown-peers) (k : Scheduled) → k .witness ≡ peersOf 32 (now (start (taken c) .args .known)) →
     Compared (unknownIn (k .witness) (peers (point (start (taken c)) .witness))) (now (start (taken c) .args .peers)) (c .unknown-peers .last .1 .1 .1 .0) (c .unknown-peers .result)
 told c k e = compared _ _ _ _ _ _ _ e (rows (taken c)) (c .unknown-peers .ensures .0) (c .unknown-peers .ensures .1)
+
+witness-requires : tie.Need-witness-requires
+witness-requires c κs = search needs
 
 count-requires : tie.Need-count-requires
 count-requires c κs = search needs
@@ -68,13 +72,13 @@ unknown-peers-requires : tie.Need-unknown-peers-requires
 unknown-peers-requires c κs =
     let t = c .before .before .before .before .before .before in
     let r = read (start t) in
-    (omega arith, (rw (← rows t) (r .witness .rise), (start t .pre .1 .1 .0, omega (arith, many t, r .witness .few, start t .pre .1 .1 .1))))
+    (omega arith, (rw (← rows t) (r .witness .rise), (start t .pre .1 .0, omega (arith, many t, r .witness .few, start t .pre .1 .1))))
 
 cast-t18 : tie.Need-cast-t18
 cast-t18 c =
     let u = c .before .before .before in
     let t = taken u in
-    record { fits = omega (arith, u .unknown-peers .ensures .0, unknown-few (peersOf 32 (now (start t .args .known))) (peersOf 64 (now (start t .args .witness))), many t, read (start t) .witness .few) }
+    record { fits = omega (arith, u .unknown-peers .ensures .0, unknown-few (peersOf 32 (now (start t .args .known))) (peersOf 64 (now (t .witness .result))), many t, read (start t) .witness .few) }
 
 same-length : tie.Need-same-length
 same-length c = search needs
@@ -98,6 +102,7 @@ pub check-witness-peers-spec : {M : Type 1} → statement M
 check-witness-peers-spec =
     tie.close
     (tie.spec
+    witness-requires
     count-requires
     returns
     rounds-back-requires

@@ -26,7 +26,7 @@ use Rattle.verify_well_formed.proofs.check_above_genesis.Statement.{sta
 use Rattle.verify_well_formed.proofs.check_above_genesis.Tie as tie
 
 abbrev start : tie.After-check-structure → tie.Start
-start c = c .before .before .before .before .before .before .before .before .before
+start c = c .before .before .before .before .before .before
 
 abbrev rows : tie.Start → List (List VerifyError)
 rows c = aboveRows (settingsOf (c .args .conf)) (pointOf (now (c .args .rec)) (c .args .info))
@@ -40,10 +40,10 @@ across g c = ltb (targetRound g (pointOf (now (c .args .rec)) (c .args .info))) 
 
 -- what is left of the table
 light : (c : tie.Else1) →
-    let t = rows (c .before .before .before .before .before .before .before .before) in
+    let t = rows (c .before .before .before .before .before) in
     firstOf (concat t) ≡ firstOf (concat (drop 1 t))
 unfolding aboveRows
-light c = row-after _ _ (drop 1 (rows (c .before .before .before .before .before .before .before .before))) (le-ltb _ _ (c .if1 .left))
+light c = row-after _ _ (drop 1 (rows (c .before .before .before .before .before))) (le-ltb _ _ (c .if1 .left))
 
 sound : (c : tie.After-enum-told) →
     let t = rows (start (c .before .before)) in
@@ -82,7 +82,7 @@ trigger-across c =
 
 returns : tie.Need-returns
 unfolding aboveRows
-returns c = sym (row-here _ _ (drop 1 (rows (c .before .before .before .before .before .before .before .before))) (lt-ltb _ _ (c .if1 .taken)))
+returns c = sym (row-here _ _ (drop 1 (rows (c .before .before .before .before .before))) (lt-ltb _ _ (c .if1 .taken)))
 
 check-structure-requires : tie.Need-check-structure-requires
 check-structure-requires c κs = search needs

@@ -14,7 +14,7 @@ use Rattle.verify_well_formed.proofs.check_links.Statement.{statement}
 use Rattle.verify_well_formed.proofs.check_links.Tie as tie
 
 abbrev start : tie.Else1 → tie.Start
-start c = c .before .before .before .before .before
+start c = c .before .before .before
 
 abbrev point : tie.Start → PointInfo
 point c = pointOf (now (c .args .rec)) (c .args .info)

@@ -10,7 +10,7 @@ use denote.Ref.{now}
 use Rattle.base.specs.Base.{concat, firstOf, isSome, isEmpty}
 use Rattle.base.proofs.Tables.{row-here, row-after, last-test}
 use Rattle.base.proofs.Lists.{empty-length}
-use Rattle.map.specs.Rows.{has, peers, rising}
+use Rattle.map.specs.Rows.{peersOf, pairsOf, has, peers, rising}
 use Rattle.map.proofs.Laws.{peers-pairsOf}
 use Rattle.point.specs.Point.{PointInfo, prevDigest, requiresPrevPoint}
 use Rattle.point.specs.Code.{pointOf}
@@ -21,7 +21,7 @@ use Rattle.verify_well_formed.proofs.check_own_points.Statement.{statem
 use Rattle.verify_well_formed.proofs.check_own_points.Tie as tie
 
 abbrev start : tie.After-is-found → tie.Start
-start c = c .before .before .before .before .before .before .before
+start c = c .before .before .before .before
 
 abbrev point : tie.Start → PointInfo
 point c = pointOf (now (c .args .rec)) (c .args .info)
@@ -37,31 +37,41 @@ lacks c =
     let p = point (start (c .before)) in
     sym (c .lacks-prev-point .ensures ∙ ap (λ (b : Bool). requiresPrevPoint (p .role) && not b) (prev (c .before)))
 
+-- the evidence, cut out past the first test
+abbrev cut : tie.After-evidence → tie.Start
+cut c = start (c .before .before .before)
+
+evidence : (c : tie.After-evidence) → peersOf 32 (now (c .evidence .result)) ≡ point (cut c) .evidence
+evidence c = ap (peersOf 32) (c .evidence .ensures)
+
 unequal : (c : tie.After-equal) →
-    let p = point (start (c .before .before .before .before)) in
+    let p = point (cut (c .before .before)) in
     equal (isEmpty (p .evidence)) (isSome (prevDigest p)) ≡ c .equal .result
 unequal c =
-    let f = c .before .before .before .before in
-    let b = start f in
-    let p = point b in
-    let empty : eqb (c .before .count .result) 0 ≡ isEmpty (p .evidence) = rw (c .before .count .ensures, b .pre .1 .2) (sym (empty-length (p .evidence))) in
+    let e = c .before .before in
+    let f = e .before .before .before in
+    let p = point (cut e) in
+    let empty : eqb (c .before .count .result) 0 ≡ isEmpty (p .evidence) = rw (c .before .count .ensures, evidence e) (sym (empty-length (p .evidence))) in
     sym (c .equal .ensures ∙ (ap (λ (b : Bool). equal b (f .is-found .result)) empty ∙ ap (equal (isEmpty (p .evidence))) (prev f)))
 
 among-evidence : (c : tie.After-contains) →
-    let p = point (start (c .before .before .before .before .before .before)) in
+    let p = point (cut (c .before .before .before .before)) in
     has (p .evidence) (p .id .author) ≡ c .contains .result
 among-evidence c =
-    let b = start (c .before .before .before .before .before .before) in
-    let p = point b in
-    sym (c .contains .ensures ∙ ap (λ (l : List ℕ). has l (p .id .author)) (b .pre .1 .2))
+    let e = c .before .before .before .before in
+    sym (c .contains .ensures ∙ ap (λ (l : List ℕ). has l (point (cut e) .id .author)) (evidence e))
+
+abbrev past : tie.After-witness → tie.After-evidence
+past c = c .before .before .before .before .before .before
+
+witness : (c : tie.After-witness) → peersOf 64 (now (c .witness .result)) ≡ peers (point (cut (past c)) .witness)
+witness c = sym (peers-pairsOf (now (c .witness .result))) ∙ ap (λ (l : List ℕ). peers (pairsOf l)) (c .witness .ensures)
 
 among-witness : (c : tie.After-contains2) →
-    let p = point (start (c .before .before .before .before .before .before .before .before)) in
+    let p = point (cut (past (c .before))) in
     has (peers (p .witness)) (p .id .author) ≡ c .contains2 .result
 among-witness c =
-    let b = start (c .before .before .before .before .before .before .before .before) in
-    let p = point b in
-    sym (c .contains2 .ensures ∙ ap (λ (l : List ℕ). has l (p .id .author)) (sym (peers-pairsOf (now (b .args .witness))) ∙ ap peers (b .pre .1 .1)))
+    sym (c .contains2 .ensures ∙ ap (λ (l : List ℕ). has l (point (cut (past (c .before))) .id .author)) (witness (c .before)))
 
 -- what is left of the table
 has-prev : (c : tie.Else1) →
@@ -71,13 +81,13 @@ unfolding ownPointRows
 has-prev c = row-after _ _ _ (lacks (c .before) ∙ c .if1 .left)
 
 proven : (c : tie.Else2) →
-    let p = point (start (c .before .before .before .before .before)) in
+    let p = point (cut (c .before .before .before)) in
     firstOf (concat (ownPointRows p)) ≡ firstOf (concat (drop 2 (ownPointRows p)))
 unfolding ownPointRows
-proven c = has-prev (c .before .before .before) ∙ row-after _ _ _ (unequal (c .before) ∙ c .if2 .left)
+proven c = has-prev (c .before .before .before .before) ∙ row-after _ _ _ (unequal (c .before) ∙ c .if2 .left)
 
 not-evidence : (c : tie.Else3) →
-    let p = point (start (c .before .before .before .before .before .before .before)) in
+    let p = point (cut (c .before .before .before .before .before)) in
     firstOf (concat (ownPointRows p)) ≡ firstOf (concat (drop 3 (ownPointRows p)))
 unfolding ownPointRows
 not-evidence c = proven (c .before .before) ∙ row-after _ _ _ (among-evidence (c .before) ∙ c .if3 .left)
@@ -95,6 +105,9 @@ returns : tie.Need-returns
 unfolding ownPointRows
 returns c = sym (row-here _ _ _ (lacks (c .before) ∙ c .if1 .taken))
 
+evidence-requires : tie.Need-evidence-requires
+evidence-requires c κs = search needs
+
 count-requires : tie.Need-count-requires
 count-requires c κs = search needs
 
@@ -103,29 +116,30 @@ equal-requires c κs = search needs
 
 returns-2 : tie.Need-returns-2
 unfolding ownPointRows
-returns-2 c = sym (has-prev (c .before .before .before) ∙ row-here _ _ _ (unequal (c .before) ∙ c .if2 .taken))
+returns-2 c = sym (has-prev (c .before .before .before .before) ∙ row-here _ _ _ (unequal (c .before) ∙ c .if2 .taken))
 
 contains-requires : tie.Need-contains-requires
 contains-requires c κs =
-    let b = start (c .before .before .before .before .before) in
-    (omega arith, ap rising (b .pre .1 .2) ∙ readable _ _ (b .pre .0 .read) .evidence .rise)
+    let e = c .before .before .before in
+    (omega arith, ap rising (evidence e) ∙ readable _ _ (cut e .pre .read) .evidence .rise)
 
 returns-3 : tie.Need-returns-3
 unfolding ownPointRows
 returns-3 c = sym (proven (c .before .before) ∙ row-here _ _ _ (among-evidence (c .before) ∙ c .if3 .taken))
 
+witness-requires : tie.Need-witness-requires
+witness-requires c κs = search needs
+
 contains-requires-2 : tie.Need-contains-requires-2
-contains-requires-2 c κs =
-    let b = start (c .before .before .before .before .before .before .before) in
-    (omega arith, ap rising (sym (peers-pairsOf (now (b .args .witness))) ∙ ap peers (b .pre .1 .1)) ∙ readable _ _ (b .pre .0 .read) .witness .rise)
+contains-requires-2 c κs = (omega arith, ap rising (witness c) ∙ readable _ _ (cut (past c) .pre .read) .witness .rise)
 
 returns-4 : tie.Need-returns-4
 unfolding ownPointRows
-returns-4 c = sym (not-evidence (c .before .before) ∙ row-here _ _ _ (among-witness (c .before) ∙ c .if4 .taken))
+returns-4 c = sym (not-evidence (c .before .before .before) ∙ row-here _ _ _ (among-witness (c .before) ∙ c .if4 .taken))
 
 returns-5 : tie.Need-returns-5
 unfolding ownPointRows
-returns-5 c = sym (not-evidence (c .before .before) ∙ last-test _ _ (among-witness (c .before) ∙ c .if4 .left))
+returns-5 c = sym (not-evidence (c .before .before .before) ∙ last-test _ _ (among-witness (c .before) ∙ c .if4 .left))
 
 pub check-own-points-spec : {M : Type 1} → statement M
 check-own-points-spec =
@@ -135,11 +149,13 @@ check-own-points-spec =
     is-found-requires
     lacks-prev-point-requires
     returns
+    evidence-requires
     count-requires
     equal-requires
     returns-2
     contains-requires
     returns-3
+    witness-requires
     contains-requires-2
     returns-4
     returns-5)

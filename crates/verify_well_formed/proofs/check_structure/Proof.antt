@@ -18,17 +18,17 @@ rows c = structureRows (pointOf (now (c .args .rec)) (c .args .info))
 
 -- what is left of the table
 no-genesis : (c : tie.Else1) →
-    let t = rows (c .before .before .before .before .before .before) in
+    let t = rows (c .before .before .before) in
     firstOf (concat t) ≡ firstOf (concat (drop 1 t))
 unfolding structureRows
-no-genesis c = row-after _ _ (drop 1 (rows (c .before .before .before .before .before .before))) (sym (c .before .is-genesis .ensures) ∙ c .if1 .left)
+no-genesis c = row-after _ _ (drop 1 (rows (c .before .before .before))) (sym (c .before .is-genesis .ensures) ∙ c .if1 .left)
 
 is-genesis-requires : tie.Need-is-genesis-requires
 is-genesis-requires c κs = search needs
 
 returns : tie.Need-returns
 unfolding structureRows
-returns c = sym (row-here _ _ (drop 1 (rows (c .before .before .before .before .before .before))) (sym (c .before .is-genesis .ensures) ∙ c .if1 .taken))
+returns c = sym (row-here _ _ (drop 1 (rows (c .before .before .before))) (sym (c .before .is-genesis .ensures) ∙ c .if1 .taken))
 
 check-own-points-requires : tie.Need-check-own-points-requires
 check-own-points-requires c κs = search needs
@@ -44,7 +44,7 @@ unfolding structureRows
 returns-2 c =
     let o = c .before .before in
     let told = ap checkedOf (c .enum-told2 .given .1) in
-    told ∙ sym (no-genesis (o .before) ∙ first-here _ (drop 2 (rows (o .before .before .before .before .before .before .before))) _ (sym (o .check-own-points .ensures) ∙ told))
+    told ∙ sym (no-genesis (o .before) ∙ first-here _ (drop 2 (rows (o .before .before .before .before))) _ (sym (o .check-own-points .ensures) ∙ told))
 
 check-links-requires : tie.Need-check-links-requires
 check-links-requires c κs = search needs
@@ -54,7 +54,7 @@ unfolding structureRows
 returns-3 c =
     let t = c .before in
     let o = t .before .before in
-    let all = rows (o .before .before .before .before .before .before .before) in
+    let all = rows (o .before .before .before .before) in
     c .check-links .ensures
     ∙ sym (no-genesis (o .before) ∙ (first-after _ (drop 2 all) (sym (o .check-own-points .ensures) ∙ ap checkedOf (t .enum-told .given .1)) ∙ last-row _))
 

@@ -12,10 +12,10 @@ use Rattle.verify_well_formed.proofs.is_bad_link.Tie as tie
 
 -- whether the peer is in its map
 told : (c : tie.After-is-found) →
-    let a = c .before .before .before .before .before .before .before .args in
+    let a = c .before .before .before .before .before .args in
     isSome (digestSafe (pointOf (now (a .rec)) (a .info)) (through (linkOf (a .link)))) ≡ c .is-found .result
 told c =
-    let a = c .before .before .before .before .before .before .before .args in
+    let a = c .before .before .before .before .before .args in
     sym (c .is-found .ensures ∙ ap isSome (c .before .digest-safe .ensures ∙ ap (digestSafe (pointOf (now (a .rec)) (a .info))) (c .before .before .through .ensures)))
 
 through-requires : tie.Need-through-requires

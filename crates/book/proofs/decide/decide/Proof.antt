@@ -9,12 +9,6 @@ use Rattle.book.proofs.decide.decide.Tie as tie
 slice-aggregate-read-book : tie.Need-slice-aggregate-read-book
 slice-aggregate-read-book c = search needs
 
-slice-aggregate-read-book-2 : tie.Need-slice-aggregate-read-book-2
-slice-aggregate-read-book-2 c = search needs
-
-slice-aggregate-read-book-3 : tie.Need-slice-aggregate-read-book-3
-slice-aggregate-read-book-3 c = search needs
-
 read-book-requires : tie.Need-read-book-requires
 read-book-requires c κs = search needs
 
@@ -24,17 +18,11 @@ enum-known-read c = search needs
 slice-aggregate-decide-in : tie.Need-slice-aggregate-decide-in
 slice-aggregate-decide-in c = search needs
 
-slice-aggregate-decide-in-2 : tie.Need-slice-aggregate-decide-in-2
-slice-aggregate-decide-in-2 c = search needs
-
-slice-aggregate-decide-in-3 : tie.Need-slice-aggregate-decide-in-3
-slice-aggregate-decide-in-3 c = search needs
-
 decide-in-requires : tie.Need-decide-in-requires
 decide-in-requires c κs =
-    let e = c .before .before .before .before .before in
-    let r = e .before .before .before .before .before in
-    subst (BookRead _ _ _ _) (e .read .given .1) (r .read-book .ensures)
+    let e = c .before .before .before in
+    let r = e .before .before .before in
+    subst (BookRead _ _) (e .read .given .1) (r .read-book .ensures)
 
 enum-told : tie.Need-enum-told
 enum-told c = search needs
@@ -51,21 +39,17 @@ returns c = search needs
 returns-2 : tie.Need-returns-2
 returns-2 c =
     let t = c .before in
-    let r = t .before .before .before .before .before in
-    number-decides _ _ 10 _ (unread _ _ (subst (BookRead _ _ _ _) (t .enum-told .given .1) (r .read-book .ensures))) (c .refused .ensures .0) (c .refused .ensures .1)
+    let r = t .before .before .before in
+    number-decides _ _ 10 _ (unread _ _ (subst (BookRead _ _) (t .enum-told .given .1) (r .read-book .ensures))) (c .refused .ensures .0) (c .refused .ensures .1)
 
 pub decide-spec : {M : Type 1} → statement M
 decide-spec =
     tie.close
     (tie.spec
     slice-aggregate-read-book
-    slice-aggregate-read-book-2
-    slice-aggregate-read-book-3
     read-book-requires
     enum-known-read
     slice-aggregate-decide-in
-    slice-aggregate-decide-in-2
-    slice-aggregate-decide-in-3
     decide-in-requires
     enum-told
     refused-requires

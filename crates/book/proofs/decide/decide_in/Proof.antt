@@ -23,13 +23,13 @@ use Rattle.book.proofs.decide.decide_in.Tie as tie
 
 -- the book and the offer
 abbrev start : tie.After-read-schedule → tie.Start
-start c = c .before .before .before .before .before .before .before .before
+start c = c .before .before .before .before .before .before
 
 abbrev bytes-of : tie.After-read-schedule → List ℕ
 bytes-of c = now (start c .args .book)
 
 bytes : (c : tie.After-read-schedule) → Bytes (bytes-of c)
-bytes c k = omega (arith, c .before .before .before .before .shared-slice-known3 .given k)
+bytes c k = omega (arith, c .before .before .shared-slice-known3 .given k)
 
 abbrev settings : tie.After-read-schedule → Settings
 settings c = settingsOf (start c .args .conf)

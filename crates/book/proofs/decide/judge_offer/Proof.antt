@@ -9,10 +9,10 @@ use Rattle.book.proofs.decide.judge_offer.Statement.{statement}
 use Rattle.book.proofs.decide.judge_offer.Tie as tie
 
 abbrev start : tie.After-before-list-arg → tie.Start
-start c = c .before .before .before .before .before .before .before .before
+start c = c .before .before .before .before .before .before
 
 bytes : (c : tie.After-before-list-arg) → Bytes (now (start c .args .book))
-bytes c k = omega (arith, c .before .before .before .before .shared-slice-known3 .given k)
+bytes c k = omega (arith, c .before .before .shared-slice-known3 .given k)
 
 before-list-requires : tie.Need-before-list-requires
 before-list-requires c κs =

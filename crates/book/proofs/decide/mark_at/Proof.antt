@@ -1,5 +1,5 @@
 -- `mark_at` meets its contract: there is no previous point, or the index finds it, or it is not kept.
-use Prim.Native.Nat.{ℕ, _<_}
+use Prim.Native.Nat.{ℕ}
 use native.Mathlib.Omega.{arith}
 use mathlib.Core.Path.{_≡_, ap, sym, _∙_, subst}
 use mathlib.Core.Option.{some}
@@ -10,8 +10,8 @@ use Rattle.parts.specs.Bytes.{Bytes}
 use Rattle.map.specs.Code.{foundOf}
 use Rattle.point.specs.Point.{PointId, PointInfo, prevId}
 use Rattle.point.specs.Code.{pointOf}
-use Rattle.book_index.specs.Code.{FoundAt}
-use Rattle.book_index.specs.declared.Place.the-variants.{At}
+use Rattle.id_index.specs.Code.{FoundAt}
+use Rattle.id_index.specs.declared.Place.the-variants.{At}
 use Rattle.book.proofs.Tests.{prev-none, prev-some}
 use Rattle.book.proofs.OfferLaws.{no-prev, absent-mark, found-mark}
 use borrow.Author.Needs.{needs}
@@ -19,7 +19,7 @@ use Rattle.book.proofs.decide.mark_at.Statement.{statement}
 use Rattle.book.proofs.decide.mark_at.Tie as tie
 
 abbrev start : tie.After-prev-digest → tie.Start
-start c = c .before .before .before .before .before .before
+start c = c .before .before .before .before
 
 abbrev book : tie.After-prev-digest → List ℕ
 book c = now (start c .args .book)
@@ -28,7 +28,7 @@ abbrev point : tie.After-prev-digest → PointInfo
 point c = pointOf (now (start c .args .rec)) (start c .args .info)
 
 bytes : (c : tie.After-prev-digest) → Bytes (book c)
-bytes c k = omega (arith, c .before .before .before .before .shared-slice-known2 .given k)
+bytes c k = omega (arith, c .before .before .shared-slice-known2 .given k)
 
 -- the previous point's id
 abbrev digest : tie.After-find → tie.After-found
@@ -53,11 +53,8 @@ is-prev c =
 abbrev there : tie.After-known-told2 → tie.After-find
 there c = c .before .before .before
 
-found : (c : tie.After-known-told2) → FoundAt (book (first (there c))) (start (first (there c)) .args .n) (now (start (first (there c)) .args .at)) (id (there c)) (At (c .before .place .given .0 .0))
-found c = subst (FoundAt _ _ _ _) (c .before .place .given .1) (there c .find .ensures)
-
-within : (c : tie.After-known-told2) → c .before .place .given .0 .0 < 4096
-within c = omega (arith, found c .0, start (first (there c)) .pre .1 .room)
+found : (c : tie.After-known-told2) → FoundAt (book (first (there c))) (now (start (first (there c)) .args .index)) (id (there c)) (At (c .before .place .given .0 .0))
+found c = subst (FoundAt _ _ _) (c .before .place .given .1) (there c .find .ensures)
 
 prev-digest-requires : tie.Need-prev-digest-requires
 prev-digest-requires c κs = search needs
@@ -82,34 +79,25 @@ find-requires c κs = search needs
 enum-known-place : tie.Need-enum-known-place
 enum-known-place c = search needs
 
-mul-flag-at : tie.Need-mul-flag-at
-mul-flag-at c = omega (arith, within c)
-
-shared-slice-read-flag-at : tie.Need-shared-slice-read-flag-at
-shared-slice-read-flag-at c = omega (arith, within (c .before), start (first (there (c .before))) .pre .1 .places)
-
-cast-flag-at : tie.Need-cast-flag-at
-cast-flag-at c = omega (arith, c .shared-slice-known6 .given (c .before .before .place .given .0 .0))
-
 flag-at-requires : tie.Need-flag-at-requires
 flag-at-requires c κs =
-    let k = c .before in
-    omega (arith, start (first (there k)) .pre .1 .inside (k .before .place .given .0 .0) (found k .0))
+    let f = found c in
+    omega (arith, f .there, start (first (there c)) .pre .1 .places .inside (f .which) (f .within))
 
 enum-told-2 : tie.Need-enum-told-2
 enum-told-2 c = search needs
 
 returns-2 : tie.Need-returns-2
 returns-2 c = λ z r h.
-    let k = c .before .before in
+    let k = c .before in
     let d = first (there k) in
-    rw (is-prev (there k)) (found-mark (book d) (bytes d) z r _ _ h (id (there k)) _ (found k) (c .flag-at .result) (c .flag-at .ensures))
+    rw (is-prev (there k)) (found-mark (book d) (bytes d) z r _ h (id (there k)) _ (found k) (c .flag-at .result) (c .flag-at .ensures))
 
 returns-3 : tie.Need-returns-3
 returns-3 c = λ z r h.
     let k = c .before .before in
     let d = first k in
-    rw (is-prev k) (absent-mark (book d) (bytes d) z r _ _ h (id k) (subst (FoundAt _ _ _ _) (c .enum-told2 .given .1) (k .find .ensures)))
+    rw (is-prev k) (absent-mark (book d) (bytes d) z r _ h (id k) (subst (FoundAt _ _ _) (c .enum-told2 .given .1) (k .find .ensures)))
 
 pub mark-at-spec : {M : Type 1} → statement M
 mark-at-spec =
@@ -122,9 +110,6 @@ mark-at-spec =
     rounds-back-requires
     find-requires
     enum-known-place
-    mul-flag-at
-    shared-slice-read-flag-at
-    cast-flag-at
     flag-at-requires
     enum-told-2
     returns-2

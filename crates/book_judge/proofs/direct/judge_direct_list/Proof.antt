@@ -22,14 +22,14 @@ use Rattle.book_judge.proofs.direct.judge_direct_list.Statement.{statem
 use Rattle.book_judge.proofs.direct.judge_direct_list.Tie as tie
 
 abbrev begin : tie.After-judge-map2 → tie.Start
-begin c = c .before .before .before .before .before .before .before .before .before .before .before .before
+begin c = c .before .before .before .before .before .before .before .before .before .before
 
 abbrev point : tie.After-judge-map2 → code-info.PointInfo → PointInfo
 point c i = pointOf (now (begin c .args .rec)) i
 
 maps : (c : tie.After-judge-map2) (b : Book) (i : code-info.PointInfo) →
     let st = begin c in
-    Asked (now (st .args .book)) b (st .args .n) (now (st .args .at)) (st .args .p) (point c i) → inDomain (point c i) ≡ true →
+    Asked (now (st .args .book)) b (now (st .args .index)) (st .args .p) (point c i) → inDomain (point c i) ≡ true →
     judgingOf (c .judge-map2 .result)
     ≡ inMaps (settingsOf (st .args .conf)) (st .args .required) (pointViewOf (st .args .p)) (marked (point c i) b) (point c i) start
 maps c b i a d =
@@ -68,7 +68,7 @@ enum-told-2 : tie.Need-enum-told-2
 enum-told-2 c = search needs
 
 judge-versions-requires : tie.Need-judge-versions-requires
-judge-versions-requires c κs = let st = begin (c .before .before) in (omega (arith, st .pre .1 .room, st .pre .1 .places), st .pre .1 .inside)
+judge-versions-requires c κs = let st = begin (c .before .before) in st .pre .1
 
 returns : tie.Need-returns
 returns c =

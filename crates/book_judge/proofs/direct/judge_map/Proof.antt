@@ -1,8 +1,9 @@
 -- `judge_map` meets its contract. The invariant: judging so far, over the dependencies that are left, gives what judging over all gives.
 use native.Mathlib.Omega.{arith}
-use mathlib.Core.Path.{_≡_, refl}
+use mathlib.Core.Path.{_≡_, refl, sym}
+use mathlib.Core.Bool.{false}
 use mathlib.Core.List.{List}
-use Prim.Native.Nat.{ℕ, _-_, _≤_, _<_}
+use Prim.Native.Nat.{ℕ, _+_, _-_, _≤_, _<_}
 use lib.ListN.{length, getD}
 use denote.Ref.{now}
 use Rattle.judge_valid.specs.Code.{pointViewOf}
@@ -11,35 +12,41 @@ use Rattle.point.specs.Point as point
 use Rattle.point.specs.Code.{pointIdOf}
 use Rattle.point.specs.declared.info.PointId as code-id
 use Rattle.schedule.specs.Code.{settingsOf}
-use Rattle.judge_step.specs.Code.{directFold, judgingOf}
+use Rattle.judge_entries.specs.Code.{partOf}
+use Rattle.judge_step.specs.Code.{Judging, directStep, directFold, judgingOf}
+use Rattle.judge_step.proofs.Laws.{passed, passed-step}
 use Rattle.judge_mismatch.specs.Code.{noPair}
 use Rattle.rules.specs.Mismatch.{pairId}
 use Rattle.books.specs.Kept.{Book}
 use Rattle.books.specs.Lists.{lookups}
-use Rattle.book_judge.specs.Code.{marked, Asked, NoVersions}
+use Rattle.book_judge.specs.Code.{marked, Asked, lookedOf, NoVersions}
 use Rattle.book_judge.proofs.Laws.{MapLeft, map-step, map-end, row-id, row-count}
+use Rattle.book_judge.proofs.Looked.{dependency-judged}
 use borrow.Author.Needs.{needs}
 use Rattle.book_judge.proofs.direct.judge_map.Statement.{statement}
 use Rattle.book_judge.proofs.direct.judge_map.Tie as tie
 
 abbrev Inv-loop : tie.InvT-loop
-Inv-loop conf required p round rows book n at next heads count judging₀ i₀ judging i =
+Inv-loop conf required p round rows book index quick count judging₀ i₀ judging i =
     (i ≤ length (pairsOf rows))
-    × ((b : Book) (q : point.PointInfo) → Asked book b n at p q → NoVersions q round (pairsOf rows) →
+    × ((b : Book) (q : point.PointInfo) → Asked book b index p q → NoVersions q round (pairsOf rows) →
     MapLeft (settingsOf conf) required (pointViewOf p) (marked q b) q round (pairsOf rows)
     (directFold (settingsOf conf) required (pointViewOf p) (judgingOf judging₀) (lookups (marked q b) q round (pairsOf rows))) i (judgingOf judging))
 
 abbrev μ-loop : tie.MeasureT-loop
-μ-loop conf required p round rows book n at next heads count judging₀ i₀ judging i = length (pairsOf rows) - i
+μ-loop conf required p round rows book index quick count judging₀ i₀ judging i = length (pairsOf rows) - i
 
 abbrev start : tie.At-loop Inv-loop μ-loop → tie.Start Inv-loop μ-loop
-start l = l .before .before .before .before .before .before .before
+start l = l .before .before .before .before .before .before
 
 abbrev rows : tie.At-loop Inv-loop μ-loop → List ℕ
 rows l = now (start l .args .rows)
 
 within : (c : tie.In-loop Inv-loop μ-loop) → c .before .loop .i < length (pairsOf (rows (c .before)))
 within c = omega (arith, c .loop-test .taken, c .before .before .count .ensures, row-count (rows (c .before)))
+
+quick-of-requires : tie.Need-quick-of-requires Inv-loop μ-loop
+quick-of-requires c κs = search needs
 
 count-requires : tie.Need-count-requires Inv-loop μ-loop
 count-requires c κs = search needs
@@ -53,10 +60,10 @@ digest-at-requires c κs = within c
 peer-at-requires : tie.Need-peer-at-requires Inv-loop μ-loop
 peer-at-requires c κs = (search needs, omega (arith, within (c .before), row-count (rows (c .before .before))))
 
-judge-dependency-requires : tie.Need-judge-dependency-requires Inv-loop μ-loop
-judge-dependency-requires c κs = search needs
+lookup-requires : tie.Need-lookup-requires Inv-loop μ-loop
+lookup-requires c κs = search needs
 
-abbrev looked : tie.After-judge-dependency Inv-loop μ-loop → code-id.PointId
+abbrev looked : tie.After-lookup Inv-loop μ-loop → code-id.PointId
 looked c =
     record {
       round = start (c .before .before .before .before) .args .round;
@@ -65,7 +72,7 @@ looked c =
     }
 
 -- the id that was looked up is the row's
-row : (c : tie.After-judge-dependency Inv-loop μ-loop) →
+row : (c : tie.After-lookup Inv-loop μ-loop) →
     let l = c .before .before .before .before in
     pointIdOf (looked c) ≡ pairId (start l .args .round) (getD (pairsOf (rows l)) (l .loop .i) noPair)
 row c =
@@ -73,22 +80,55 @@ row c =
     let l = r .before in
     row-id (rows l) (l .loop .i) (start l .args .round) _ _ (within r) (c .before .before .digest-at .ensures) (c .before .peer-at .ensures)
 
+-- what was looked up makes a step
+goes : (c : tie.After-lookup Inv-loop μ-loop) (j : Judging) →
+    let l = c .before .before .before .before in
+    let a = start l .args in
+    j ≡ directStep (settingsOf (a .conf)) (a .required) (pointViewOf (a .p)) (judgingOf (l .loop .judging)) (lookedOf (now (a .book)) (c .lookup .result) false) →
+    (b : Book) (q : point.PointInfo) → Asked (now (a .book)) b (now (a .index)) (a .p) q → NoVersions q (a .round) (pairsOf (rows l)) →
+    MapLeft (settingsOf (a .conf)) (a .required) (pointViewOf (a .p)) (marked q b) q (a .round) (pairsOf (rows l))
+    (directFold (settingsOf (a .conf)) (a .required) (pointViewOf (a .p)) (judgingOf (a .so-far)) (lookups (marked q b) q (a .round) (pairsOf (rows l)))) (l .loop .i + 1) j
+goes c j h b q asked none =
+    let r = c .before .before .before in
+    let l = r .before in
+    let a = start l .args in
+    let old = judgingOf (l .loop .judging) in
+    map-step (settingsOf (a .conf)) (a .required) (pointViewOf (a .p)) (marked q b) q (a .round) (pairsOf (rows l)) _ (l .loop .i) old (l .loop .inv .1 b q asked none)
+    (within r) none (pointIdOf (looked c)) (row c) j
+    (λ n. dependency-judged (now (a .book)) (c .lookup .result) (marked q b) q (pointIdOf (looked c)) (c .lookup .ensures .1 b q asked) (settingsOf (a .conf)) (pointViewOf (a .p)) (asked .view) old j (a .required) n h)
+
 add-i : tie.Need-add-i Inv-loop μ-loop
 add-i c = search needs
 
+is-quiet-requires : tie.Need-is-quiet-requires Inv-loop μ-loop
+is-quiet-requires c κs = c .lookup .ensures .0
+
 loop-less : tie.Need-loop-less Inv-loop μ-loop
-loop-less c = omega (arith, within (c .before .before .before))
+loop-less c = omega (arith, within (c .before .before .before .before .before))
 
 loop-again : tie.Need-loop-again Inv-loop μ-loop
 loop-again c =
-    let r = c .before .before .before in
+    let k = c .before .before in
+    let r = k .before .before .before in
     let l = r .before in
-    let st = start l in (
+    let a = start l .args in
+    let x = k .lookup .result in
+    let s = partOf (now (a .book)) (x .place) (x .end) in
+    let p = passed (settingsOf (a .conf)) (pointViewOf (a .p)) (l .before .before .quick-of .result) s (x .state) (l .before .before .quick-of .ensures) (k .lookup .ensures .0 .read) (c .before .is-quiet .ensures (c .if1 .taken)) in (
       omega (arith, within r),
-      λ b q a v.
-          map-step (settingsOf (st .args .conf)) (st .args .required) (pointViewOf (st .args .p)) (marked q b) q (st .args .round) (pairsOf (rows l)) _ (l .loop .i) (judgingOf (l .loop .judging)) (l .loop .inv .1 b q a v)
-          (within r) v (pointIdOf (looked c)) (row c) (judgingOf (c .judge-dependency .result)) (c .judge-dependency .ensures b q a),
+      goes k (judgingOf (l .loop .judging)) (sym (passed-step (settingsOf (a .conf)) (a .required) (pointViewOf (a .p)) s (x .state) p (x .certified) false (judgingOf (l .loop .judging)))),
     )
+
+judge-looked-requires : tie.Need-judge-looked-requires Inv-loop μ-loop
+judge-looked-requires c κs = c .before .before .lookup .ensures .0
+
+loop-less-2 : tie.Need-loop-less-2 Inv-loop μ-loop
+loop-less-2 c = omega (arith, within (c .before .before .before .before .before .before))
+
+loop-again-2 : tie.Need-loop-again-2 Inv-loop μ-loop
+loop-again-2 c =
+    let k = c .before .before .before in
+    (omega (arith, within (k .before .before .before)), goes k (judgingOf (c .judge-looked .result)) (c .judge-looked .ensures))
 
 returns : tie.Need-returns Inv-loop μ-loop
 returns c =
@@ -104,12 +144,17 @@ judge-map-spec =
     (tie.spec
     Inv-loop
     μ-loop
+    quick-of-requires
     count-requires
     loop-holds
     digest-at-requires
     peer-at-requires
-    judge-dependency-requires
+    lookup-requires
     add-i
+    is-quiet-requires
     loop-less
     loop-again
+    judge-looked-requires
+    loop-less-2
+    loop-again-2
     returns)

@@ -1,7 +1,8 @@
 -- `judge_versions` meets its contract. The invariant: the versions so far, over the entries that are left, give what all entries give.
 use native.Mathlib.Omega.{arith}
 use mathlib.Core.Path.{refl, ap, _∙_}
-use Prim.Native.Nat.{_-_, _≤_}
+use lib.ListN.{length}
+use Prim.Native.Nat.{_+_, _-_, _≤_, _<_}
 use borrow.Author.Needs.{needs}
 use Rattle.judge_valid.specs.Code.{pointViewOf}
 use Rattle.schedule.specs.Code.{settingsOf}
@@ -9,7 +10,7 @@ use Rattle.judge_step.specs.Code.{judgingOf}
 use Rattle.books.specs.Kept.{Book}
 use Rattle.book_read.specs.Code.{Holds}
 use Rattle.book_judge.specs.Code.{Versions, versionsOf}
-use Rattle.book_index.specs.Code.{idOf}
+use Rattle.id_index.specs.Code.{countOf, idIn}
 use Rattle.book_read.proofs.Laws.{found-kept}
 use denote.Ref.{now}
 use Rattle.point.proofs.Ids.{same-refl}
@@ -18,31 +19,34 @@ use Rattle.book_judge.proofs.direct.judge_versions.Statement.{statement
 use Rattle.book_judge.proofs.direct.judge_versions.Tie as tie
 
 abbrev Inv-loop : tie.InvT-loop
-Inv-loop conf required p book n at so-far₀ j₀ so-far j =
+Inv-loop conf required p book index so-far₀ n j₀ so-far j =
     (j ≤ n)
-    × ((b : Book) → Holds book b n at →
+    × ((b : Book) → Holds book b index →
     VersionsLeft (settingsOf conf) required (pointViewOf p) b (versionsFold (settingsOf conf) required (pointViewOf p) (versionsOf so-far₀) b) j (versionsOf so-far))
 
 abbrev μ-loop : tie.MeasureT-loop
-μ-loop conf required p book n at so-far₀ j₀ so-far j = n - j
+μ-loop conf required p book index so-far₀ n j₀ so-far j = n - j
 
 abbrev start : tie.At-loop Inv-loop μ-loop → tie.Start Inv-loop μ-loop
-start l = l .before .before .before
+start l = l .before .before .before .before
+
+count-requires : tie.Need-count-requires Inv-loop μ-loop
+count-requires c κs = c .before .before .pre .places .sized
 
 loop-holds : tie.Need-loop-holds Inv-loop μ-loop
 loop-holds c = (search needs, λ b h. refl)
 
-mul-judge-version : tie.Need-mul-judge-version Inv-loop μ-loop
-mul-judge-version c = let st = start (c .before) in omega (arith, st .pre .0, st .good)
-
-shared-slice-read-judge-version : tie.Need-shared-slice-read-judge-version Inv-loop μ-loop
-shared-slice-read-judge-version c = let st = start (c .before .before) in omega (arith, st .pre .0)
-
-cast-judge-version : tie.Need-cast-judge-version Inv-loop μ-loop
-cast-judge-version c = omega (arith, c .shared-slice-known3 .given (c .before .before .loop .j))
+place-at-requires : tie.Need-place-at-requires Inv-loop μ-loop
+place-at-requires c κs =
+    let l = c .before in
+    let st = start l in
+    (st .pre .places .sized, omega (arith, c .loop-test .taken, l .before .count .ensures, st .pre .places .room))
 
 judge-version-requires : tie.Need-judge-version-requires Inv-loop μ-loop
-judge-version-requires c κs = start (c .before .before) .pre .1 (c .before .before .loop .j) (c .before .loop-test .taken)
+judge-version-requires c κs =
+    let l = c .before .before in
+    let st = start l in
+    omega (arith, c .place-at .ensures, st .pre .places .inside (l .loop .j) (omega (arith, c .before .loop-test .taken, l .before .count .ensures)))
 
 add-j : tie.Need-add-j Inv-loop μ-loop
 add-j c = search needs
@@ -57,9 +61,11 @@ loop-again c =
     let j = l .loop .j in (
       search needs,
       λ b h.
-          let x = found-kept h (idOf (now (st .args .book)) (now (st .args .at)) j) j (c .before .before .loop-test .taken, same-refl _) in
+          let lt : j < countOf (now (st .args .index)) = omega (arith, c .before .before .loop-test .taken, l .before .count .ensures) in
+          let x = found-kept h (idIn (now (st .args .book)) (now (st .args .index)) j) _ (record { which = j; within = lt; there = refl; same = same-refl (idIn (now (st .args .book)) (now (st .args .index)) j) }) in
+          let e = c .before .place-at .ensures in
           fold-step (settingsOf (st .args .conf)) (st .args .required) (pointViewOf (st .args .p)) b _ j (versionsOf (l .loop .so-far)) (l .loop .inv .1 b h)
-          (x .kept) (x .rest) (versionsOf (c .judge-version .result)) (x .there) (c .judge-version .ensures _ (h .fronts j (x .kept) (x .rest) (x .there)) (h .ids j (x .kept) (x .rest) (x .there))),
+          (x .kept) (x .rest) (versionsOf (c .judge-version .result)) (x .there) (c .judge-version .ensures (record { kept = x .kept; size = length (x .kept .bytes) + 108 }) (rw e (h .placed .fronts j (x .kept) (x .rest) (x .there))) (rw e (h .placed .ids j (x .kept) (x .rest) (x .there)))),
     )
 
 returns : tie.Need-returns Inv-loop μ-loop
@@ -68,7 +74,7 @@ returns c =
     let l = c .before .before in
     let st = start l in
     ap (λ (w : Versions). w .judging)
-    (fold-end (settingsOf (st .args .conf)) (st .args .required) (pointViewOf (st .args .p)) b _ (l .loop .j) (versionsOf (l .loop .so-far)) (l .loop .inv .1 b h) (omega (arith, h .count, c .before .loop-test .left)))
+    (fold-end (settingsOf (st .args .conf)) (st .args .required) (pointViewOf (st .args .p)) b _ (l .loop .j) (versionsOf (l .loop .so-far)) (l .loop .inv .1 b h) (omega (arith, h .placed .count, l .before .count .ensures, c .before .loop-test .left)))
     ∙ versions-folded (settingsOf (st .args .conf)) (st .args .required) (pointViewOf (st .args .p)) b (h .once) (judgingOf (st .args .judging))
 
 pub judge-versions-spec : {M : Type 1} → statement M
@@ -77,10 +83,9 @@ judge-versions-spec =
     (tie.spec
     Inv-loop
     μ-loop
+    count-requires
     loop-holds
-    mul-judge-version
-    shared-slice-read-judge-version
-    cast-judge-version
+    place-at-requires
     judge-version-requires
     add-j
     loop-less

@@ -3,23 +3,23 @@ use native.Mathlib.Omega.{arith}
 use Prim.Native.Nat.{ℕ}
 use denote.Ref.{now}
 use Rattle.point.specs.Code.{pointIdOf}
-use Rattle.book_index.specs.Code.{FoundAt}
-use Rattle.book_index.specs.declared.Place.the-variants.{At, Absent}
+use Rattle.id_index.specs.Code.{FoundAt}
+use Rattle.id_index.specs.declared.Place.the-variants.{At, Absent}
 use Rattle.book_judge.proofs.Looked.{found-there, looks-found, looks-absent}
 use borrow.Author.Needs.{needs}
 use Rattle.book_judge.proofs.look.lookup.Statement.{statement}
 use Rattle.book_judge.proofs.look.lookup.Tie as tie
 
 abbrev start : tie.After-find → tie.Start
-start c = c .before .before .before .before .before .before
+start c = c .before .before .before .before
 
 abbrev entry : tie.After-known-told → ℕ
 entry c = c .before .found .given .0 .0
 
 found : (c : tie.After-known-told) →
     let f = c .before .before .before in
-    FoundAt (now (start f .args .book)) (start f .args .n) (now (start f .args .at)) (pointIdOf (start f .args .id)) (At (entry c))
-found c = let f = c .before .before .before in found-there _ _ _ _ (f .find .result) (At (entry c)) (c .before .found .given .1) (f .find .ensures)
+    FoundAt (now (start f .args .book)) (now (start f .args .index)) (pointIdOf (start f .args .id)) (At (entry c))
+found c = let f = c .before .before .before in found-there _ _ _ (f .find .result) (At (entry c)) (c .before .found .given .1) (f .find .ensures)
 
 is-prev-requires : tie.Need-is-prev-requires
 is-prev-requires c κs = search needs
@@ -30,24 +30,18 @@ find-requires c κs = search needs
 enum-known-found : tie.Need-enum-known-found
 enum-known-found c = search needs
 
-mul-kept-at : tie.Need-mul-kept-at
-mul-kept-at c = let st = start (c .before .before .before) in omega (arith, found c .0, st .pre .room)
-
-shared-slice-read-kept-at : tie.Need-shared-slice-read-kept-at
-shared-slice-read-kept-at c = let st = start (c .before .before .before .before) in omega (arith, found (c .before) .0, st .pre .room, st .pre .places)
-
-cast-kept-at : tie.Need-cast-kept-at
-cast-kept-at c = omega (arith, c .shared-slice-known5 .given (entry (c .before)))
-
 kept-at-requires : tie.Need-kept-at-requires
-kept-at-requires c κs = let st = start (c .before .before .before .before) in omega (arith, st .pre .inside (entry (c .before)) (found (c .before) .0))
+kept-at-requires c κs =
+    let st = start (c .before .before .before) in
+    let f = found c in
+    omega (arith, f .there, st .pre .places .inside (f .which) (f .within))
 
 enum-told : tie.Need-enum-told
 enum-told c = search needs
 
 returns : tie.Need-returns
 returns c =
-    let k = c .before .before in
+    let k = c .before in
     let f = k .before .before .before in
     (c .kept-at .ensures .0, λ b q a. looks-found a (f .before .is-prev .result) _ (f .before .is-prev .ensures) (entry k) (found k) (c .kept-at .result) (c .kept-at .ensures))
 
@@ -56,7 +50,7 @@ returns-2 c =
     let f = c .before .before in
     let st = start f in (
       record { ordered = omega arith; inside = omega arith; read = tt },
-      λ b q a. looks-absent a (f .before .is-prev .result) (st .args .id) (f .before .is-prev .ensures) (found-there _ _ _ _ (f .find .result) Absent (c .enum-told .given .1) (f .find .ensures)),
+      λ b q a. looks-absent a (f .before .is-prev .result) (st .args .id) (f .before .is-prev .ensures) (found-there _ _ _ (f .find .result) Absent (c .enum-told .given .1) (f .find .ensures)),
     )
 
 pub lookup-spec : {M : Type 1} → statement M
@@ -66,9 +60,6 @@ lookup-spec =
     is-prev-requires
     find-requires
     enum-known-found
-    mul-kept-at
-    shared-slice-read-kept-at
-    cast-kept-at
     kept-at-requires
     enum-told
     returns

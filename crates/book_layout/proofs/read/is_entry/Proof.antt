@@ -1,50 +1,66 @@
--- `is_entry` meets its contract: the flag, the status, and whether a point may be kept with it.
+-- `is_entry` meets its contract: the flag, the status, the domain, and the links where the state asks for them.
 use mathlib.Core.Path.{_≡_, ap, sym, _∙_}
-use mathlib.Core.Option.{some}
+use mathlib.Core.Bool.{true}
+use borrow.Author.Tests.{not-true, not-false}
 use denote.Ref.{now}
 use Rattle.base.specs.Base.{isSome}
+use Rattle.base.proofs.Option.{some-of, unfound}
+use Rattle.point.proofs.Laws.{readable}
 use Rattle.books.specs.Layout.{readStatus}
-use Rattle.book_layout.specs.Code.{statusOf, readStatusOf}
-use Rattle.book_layout.proofs.Laws.{entry-unflagged, entry-statusless, entry-some}
+use Rattle.book_layout.proofs.Laws.{entry-unflagged, entry-statusless, entry-outside, entry-ill-formed, entry-listed}
 use borrow.Author.Needs.{needs}
 use Rattle.book_layout.proofs.read.is_entry.Statement.{statement}
 use Rattle.book_layout.proofs.read.is_entry.Tie as tie
 
--- the status that tag 33 says
-status : (c : tie.After-known-told) →
-    let r = c .before .before .before in
-    readStatus (now (r .before .before .before .before .before .args .t)) ≡ some (statusOf (c .before .status .given .0 .0))
-status c =
-    let r = c .before .before .before in
-    sym (r .read-status .ensures) ∙ ap readStatusOf (c .before .status .given .1)
+status : (c : tie.Else2) → isSome (readStatus (now (c .before .before .before .before .before .before .args .t))) ≡ true
+status c = sym (c .before .is-status .ensures) ∙ not-false _ (c .if2 .left)
 
 shared-slice-read-if1 : tie.Need-shared-slice-read-if1
 shared-slice-read-if1 c = search needs
 
 returns : tie.Need-returns
-returns c = sym (ap isSome (entry-unflagged _ _ _ (c .if1 .taken)))
+returns c = λ q h. sym (ap isSome (entry-unflagged _ q _ (c .if1 .taken)))
 
-read-status-requires : tie.Need-read-status-requires
-read-status-requires c κs = search needs
-
-enum-known-status : tie.Need-enum-known-status
-enum-known-status c = search needs
-
-enum-told : tie.Need-enum-told
-enum-told c = search needs
+is-status-requires : tie.Need-is-status-requires
+is-status-requires c κs = search needs
 
 returns-2 : tie.Need-returns-2
-returns-2 c =
-    let r = c .before .before in
-    sym (ap isSome (entry-statusless _ _ _ (r .before .if1 .left) (sym (r .read-status .ensures) ∙ ap readStatusOf (c .enum-told .given .1))))
+returns-2 c = λ q h.
+    let r = c .before in
+    sym (ap isSome (entry-statusless _ q _ (r .before .if1 .left) (unfound _ (sym (r .is-status .ensures) ∙ not-true _ (c .if2 .taken)))))
 
-is-keepable-requires : tie.Need-is-keepable-requires
-is-keepable-requires c κs = search needs
+is-record-in-domain-requires : tie.Need-is-record-in-domain-requires
+is-record-in-domain-requires c κs =
+    let p = c .before .before .before .before .before .before .pre .0 in
+    let q = some-of _ (p .0) in
+    (readable _ (q .0) (q .1) .shaped, p .1)
 
 returns-3 : tie.Need-returns-3
-returns-3 c =
-    let k = c .before in
-    c .is-keepable .ensures ∙ sym (entry-some _ _ _ (k .before .before .before .before .if1 .left) _ (status k))
+returns-3 c = λ q h.
+    let d = c .before in
+    let o = d .before in
+    sym (entry-outside _ q _ (o .before .before .if1 .left) (status o) (sym (d .is-record-in-domain .ensures q h) ∙ not-true _ (c .if3 .taken)))
+
+shared-slice-read-if4 : tie.Need-shared-slice-read-if4
+shared-slice-read-if4 c = search needs
+
+returns-4 : tie.Need-returns-4
+returns-4 c = λ q h.
+    let x = c .before .before in
+    let d = x .before in
+    let o = d .before in
+    sym (entry-ill-formed _ q _ (o .before .before .if1 .left) (status o) (sym (d .is-record-in-domain .ensures q h) ∙ not-false _ (x .if3 .left)) (c .if4 .taken))
+
+are-named-requires : tie.Need-are-named-requires
+are-named-requires c κs = search needs
+
+returns-5 : tie.Need-returns-5
+returns-5 c = λ q h.
+    let x = c .before .before .before in
+    let d = x .before in
+    let o = d .before in
+    c .are-named .ensures q h
+    ∙ sym (entry-listed _ q _ (o .before .before .if1 .left) (status o) (sym (d .is-record-in-domain .ensures q h) ∙ not-false _ (x .if3 .left)) (c .before .if4 .left))
 
 pub is-entry-spec : {M : Type 1} → statement M
 is-entry-spec =
@@ -52,9 +68,11 @@ is-entry-spec =
     (tie.spec
     shared-slice-read-if1
     returns
-    read-status-requires
-    enum-known-status
-    enum-told
+    is-status-requires
     returns-2
-    is-keepable-requires
-    returns-3)
+    is-record-in-domain-requires
+    returns-3
+    shared-slice-read-if4
+    returns-4
+    are-named-requires
+    returns-5)

@@ -1,65 +1,79 @@
--- `kept_end` meets its contract: where the record ends, what it says, and tag 33 after it.
-use Prim.Native.Nat.{ℕ, _-_, _+_, _≤_}
+-- `kept_end` meets its contract: each part of an entry in turn, the record's by the places that the walk over it found.
+use Prim.Native.Nat.{ℕ, _+_, _-_, _≤_}
 use native.Mathlib.Omega.{arith}
-use mathlib.Core.Path.{_≡_, ap, sym, _∙_, subst}
+use mathlib.Core.Path.{_≡_, sym, _∙_}
 use mathlib.Core.Bool.{true}
 use mathlib.Core.Option.{some}
 use mathlib.Core.List.{List}
 use lib.ListN.{length, take}
 use denote.Ref.{now}
 use borrow.Author.Tests.{not-true, not-false}
+use Rattle.base.specs.Base.{isSome}
 use Rattle.base.proofs.Lists.{up-to}
-use Rattle.record.specs.Record.{fieldRow, fieldOk, recordEnd}
-use Rattle.record.specs.Code.{endOf}
-use Rattle.record.proofs.Laws.{end-within, front-shaped}
-use Rattle.point.specs.Code.{Reads, PointRead}
-use Rattle.point.specs.declared.info.PointInfo as code-info
-use Rattle.book_layout.proofs.Laws.{front-endless, front-unread, front-tagless, tag-inside, tag-part, tag-length, front-no-entry, front-entry-to}
+use Rattle.base.proofs.Option.{some-of, unfound}
+use Rattle.record.specs.Record.{fieldRow, fieldOk, wellShaped}
+use Rattle.record.specs.Code.{PlacesOf, Shaped}
+use Rattle.record.specs.declared.Shape.{Shape}
+use Rattle.record.proofs.Laws.{end-within, front-shaped, front-places}
+use Rattle.point.specs.Point.{PointInfo}
+use Rattle.point.specs.Reading.{readPoint}
+use Rattle.book_layout.proofs.Laws.{walk-told, walk-untold, front-endless, front-unread, front-tagless, tag-inside, tag-part, tag-length, front-no-entry, front-entry-to}
 use borrow.Author.Needs.{needs}
 use Rattle.book_layout.proofs.read.kept_end.Statement.{statement}
 use Rattle.book_layout.proofs.read.kept_end.Tie as tie
 
--- the slice, where its record ends, and the part of the slice up to there
-abbrev slice : tie.After-known-told → List ℕ
-slice c = now (c .before .before .before .before .before .args .s)
+-- the slice, the places of its record, and the part of the slice up to where it ends
+abbrev slice : tie.After-at → List ℕ
+slice c = now (c .before .before .before .before .before .before .args .s)
 
-abbrev end : tie.After-known-told → ℕ
-end c = c .before .n .given .0 .0
+abbrev shape : tie.After-at → Shape
+shape c = c .before .before .shape .given .0 .0
 
-abbrev part : tie.After-known-told → List ℕ
+abbrev end : tie.After-at → ℕ
+end c = shape c .end
+
+abbrev part : tie.After-at → List ℕ
 part c = take (end c - 0) (slice c)
 
-ended : (c : tie.After-known-told) → recordEnd (slice c) ≡ some (end c)
-ended c = sym (c .before .before .before .record-end .ensures) ∙ ap endOf (c .before .n .given .1)
+found : (c : tie.After-at) → Shaped (slice c) (shape c)
+found c = walk-told (slice c) _ (shape c) (c .before .before .shape .given .1) (c .before .before .before .before .read-shape .ensures)
+
+places : (c : tie.After-at) → (wellShaped (part c) ≡ true) × PlacesOf (part c) (shape c .at)
+places c =
+    rw (up-to (end c) (slice c))
+    (front-shaped (slice c) (end c) (found c .end), front-places (slice c) (end c) (found c .end) (shape c .at) (found c .at))
 
 -- the point that the part says
-abbrev known : tie.After-known-told2 → tie.After-known-told
-known c = c .before .before .before .before .before
+abbrev walked : tie.Else1 → tie.After-at
+walked c = c .before .before .before
 
-abbrev info : tie.After-known-told2 → code-info.PointInfo
-info c = c .before .info .given .0 .0
+is-read : (c : tie.Else1) → isSome (readPoint (part (walked c))) ≡ true
+is-read c = sym (c .before .is-point .ensures) ∙ not-false _ (c .if1 .left)
 
-read : (c : tie.After-known-told2) → let k = known c in Reads (part k) (info c)
-read c = subst (PointRead (part (known c))) (c .before .info .given .1) (c .before .before .before .read-shaped .ensures)
+point : (c : tie.Else1) → (q : PointInfo) × (readPoint (part (walked c)) ≡ some q)
+point c = some-of _ (is-read c)
 
 -- tag 33 after the part
-tagged : (c : tie.Else1) → let k = known (c .before .before) in fieldOk (fieldRow 33 105 105) (slice k) (end k) ≡ true
-tagged c = sym (c .before .field-ok .ensures) ∙ not-false _ (c .if1 .left)
+abbrev first : tie.Else2 → tie.Else1
+first c = c .before .before
 
-long : (c : tie.Else1) → let k = known (c .before .before) in end k + 108 ≤ length (slice k)
-long c = let k = known (c .before .before) in tag-inside (end k) (slice k) (tagged c)
+tagged : (c : tie.Else2) → let k = walked (first c) in fieldOk (fieldRow 33 105 105) (slice k) (end k) ≡ true
+tagged c = sym (c .before .field-ok .ensures) ∙ not-false _ (c .if2 .left)
 
-record-end-requires : tie.Need-record-end-requires
-record-end-requires c κs = search needs
+long : (c : tie.Else2) → let k = walked (first c) in end k + 108 ≤ length (slice k)
+long c = let k = walked (first c) in tag-inside (end k) (slice k) (tagged c)
 
-enum-known-n : tie.Need-enum-known-n
-enum-known-n c = search needs
+read-shape-requires : tie.Need-read-shape-requires
+read-shape-requires c κs = search needs
+
+enum-known-shape : tie.Need-enum-known-shape
+enum-known-shape c = search needs
 
 enum-told : tie.Need-enum-told
 enum-told c = search needs
 
 returns : tie.Need-returns
-returns c = front-endless _ (sym (c .before .before .record-end .ensures) ∙ ap endOf (c .enum-told .given .1))
+returns c = front-endless _ (walk-untold _ _ (c .enum-told .given .1) (c .before .before .read-shape .ensures))
 
 sub-rec : tie.Need-sub-rec
 sub-rec c = search needs
@@ -68,39 +82,32 @@ part-rec-start : tie.Need-part-rec-start
 part-rec-start c = search needs
 
 part-rec-end : tie.Need-part-rec-end
-part-rec-end c = omega (arith, end-within (slice c) (end c) (ended c))
+part-rec-end c = omega (arith, end-within (slice c) (end c) (found c .end))
 
-read-shaped-requires : tie.Need-read-shaped-requires
-read-shaped-requires c κs =
-    let k = c .before in
-    rw (up-to (end k) (slice k)) (front-shaped (slice k) (end k) (ended k))
-
-enum-known-info : tie.Need-enum-known-info
-enum-known-info c = search needs
-
-enum-told-2 : tie.Need-enum-told-2
-enum-told-2 c = search needs
+is-point-requires : tie.Need-is-point-requires
+is-point-requires c κs = places (c .before)
 
 returns-2 : tie.Need-returns-2
 returns-2 c =
-    let r = c .before .before in
+    let r = c .before in
     let k = r .before .before in
-    front-unread (slice k) (part k) (end k) (ended k) (up-to (end k) (slice k)) (subst (PointRead (part k)) (c .enum-told2 .given .1) (r .read-shaped .ensures))
+    front-unread (slice k) (part k) (end k) (found k .end) (up-to (end k) (slice k)) (unfound _ (sym (r .is-point .ensures) ∙ not-true _ (c .if1 .taken)))
 
 field-ok-requires : tie.Need-field-ok-requires
-field-ok-requires c κs = let k = known c in end-within (slice k) (end k) (ended k)
+field-ok-requires c κs = let k = walked c in end-within (slice k) (end k) (found k .end)
 
 returns-3 : tie.Need-returns-3
 returns-3 c =
     let f = c .before in
-    let k = known (f .before) in
-    front-tagless (slice k) (part k) (end k) (ended k) (up-to (end k) (slice k)) _ (read (f .before) .read) (sym (f .field-ok .ensures) ∙ not-true _ (c .if1 .taken))
+    let q = point (f .before) in
+    let k = walked (f .before) in
+    front-tagless (slice k) (part k) (end k) (found k .end) (up-to (end k) (slice k)) (q .0) (q .1) (sym (f .field-ok .ensures) ∙ not-true _ (c .if2 .taken))
 
 add-is-entry : tie.Need-add-is-entry
-add-is-entry c = let k = known (c .before .before) in omega (arith, long c, k .before .before .before .before .before .good)
+add-is-entry c = let k = walked (first c) in omega (arith, long c, k .before .before .before .before .before .before .good)
 
 add-is-entry-2 : tie.Need-add-is-entry-2
-add-is-entry-2 c = let k = known (c .before .before) in omega (arith, long c, k .before .before .before .before .before .good)
+add-is-entry-2 c = let k = walked (first c) in omega (arith, long c, k .before .before .before .before .before .before .good)
 
 sub-is-entry : tie.Need-sub-is-entry
 sub-is-entry c = search needs
@@ -113,37 +120,38 @@ part-is-entry-end c = omega (arith, long c)
 
 is-entry-requires : tie.Need-is-entry-requires
 is-entry-requires c κs =
-    let k = known (c .before .before .before) in
-    (read (c .before .before .before), tag-length (end k) (slice k) (long (c .before)))
+    let e = c .before in
+    let k = walked (first e) in
+    ((is-read (first e), places k .1), tag-length (end k) (slice k) (long e))
 
 returns-4 : tie.Need-returns-4
 returns-4 c =
     let e = c .before .before .before in
-    let k = known (e .before .before) in
-    front-no-entry (slice k) (part k) (end k) (ended k) (up-to (end k) (slice k)) _ (read (e .before .before) .read) (tagged e) _ (tag-part (end k) (slice k))
-    (sym (c .before .is-entry .ensures) ∙ not-true _ (c .if2 .taken))
+    let q = point (first e) in
+    let k = walked (first e) in
+    front-no-entry (slice k) (part k) (end k) (found k .end) (up-to (end k) (slice k)) (q .0) (q .1) (tagged e) _ (tag-part (end k) (slice k))
+    (sym (c .before .is-entry .ensures (q .0) (q .1)) ∙ not-true _ (c .if3 .taken))
 
 returns-5 : tie.Need-returns-5
 returns-5 c =
     let e = c .before .before .before in
-    let k = known (e .before .before) in
-    front-entry-to (slice k) (part k) (end k) (ended k) (up-to (end k) (slice k)) _ (read (e .before .before) .read) (tagged e) _ (tag-part (end k) (slice k))
-    (sym (c .before .is-entry .ensures) ∙ not-false _ (c .if2 .left))
+    let q = point (first e) in
+    let k = walked (first e) in
+    front-entry-to (slice k) (part k) (end k) (found k .end) (up-to (end k) (slice k)) (q .0) (q .1) (tagged e) _ (tag-part (end k) (slice k))
+    (sym (c .before .is-entry .ensures (q .0) (q .1)) ∙ not-false _ (c .if3 .left))
 
 pub kept-end-spec : {M : Type 1} → statement M
 kept-end-spec =
     tie.close
     (tie.spec
-    record-end-requires
-    enum-known-n
+    read-shape-requires
+    enum-known-shape
     enum-told
     returns
     sub-rec
     part-rec-start
     part-rec-end
-    read-shaped-requires
-    enum-known-info
-    enum-told-2
+    is-point-requires
     returns-2
     field-ok-requires
     returns-3

@@ -5,8 +5,9 @@ use mathlib.Core.Path.{_≡_, refl, sym, _∙_}
 use lib.ListN.{length, drop}
 use denote.Ref.{now}
 use borrow.Author.Needs.{needs}
+use borrow.Author.Tests.{not-true, not-false}
 use Rattle.books.specs.Layout.{isZeros}
-use Rattle.book_layout.proofs.Laws.{word-not, word-zero}
+use Rattle.book_layout.proofs.Laws.{line-not, line-zero}
 use Rattle.book_layout.proofs.zeros.is_zeros.Statement.{statement}
 use Rattle.book_layout.proofs.zeros.is_zeros.Tie as tie
 
@@ -22,14 +23,14 @@ loop-holds c = (search needs, refl)
 sub-loop : tie.Need-sub-loop Inv-loop μ-loop
 sub-loop c = search needs
 
-u64-at-requires : tie.Need-u64-at-requires Inv-loop μ-loop
-u64-at-requires c κs = omega arith
+is-line-zero-requires : tie.Need-is-line-zero-requires Inv-loop μ-loop
+is-line-zero-requires c κs = omega arith
 
 returns : tie.Need-returns Inv-loop μ-loop
 returns c =
     let u = c .before in
     let l = u .before .before in
-    sym (sym (l .loop .inv .1) ∙ word-not (now (l .before .before .args .s)) (l .loop .at) _ (u .u64-at .ensures) (c .if1 .taken))
+    sym (sym (l .loop .inv .1) ∙ line-not (now (l .before .before .args .s)) (l .loop .at) _ (u .is-line-zero .ensures) (not-true _ (c .if1 .taken)))
 
 add-at : tie.Need-add-at Inv-loop μ-loop
 add-at c = omega arith
@@ -41,13 +42,13 @@ loop-again : tie.Need-loop-again Inv-loop μ-loop
 loop-again c =
     let u = c .before in
     let l = u .before .before in
-    (omega arith, word-zero (now (l .before .before .args .s)) (l .loop .at) _ (u .u64-at .ensures) (c .if1 .left) ∙ l .loop .inv .1)
+    (omega arith, line-zero (now (l .before .before .args .s)) (l .loop .at) _ (u .is-line-zero .ensures) (not-false _ (c .if1 .left)) ∙ l .loop .inv .1)
 
-are-bytes-zero-requires : tie.Need-are-bytes-zero-requires Inv-loop μ-loop
-are-bytes-zero-requires c κs = search needs
+are-words-zero-requires : tie.Need-are-words-zero-requires Inv-loop μ-loop
+are-words-zero-requires c κs = search needs
 
 returns-2 : tie.Need-returns-2 Inv-loop μ-loop
-returns-2 c = c .are-bytes-zero .ensures ∙ c .before .before .loop .inv .1
+returns-2 c = c .are-words-zero .ensures ∙ c .before .before .loop .inv .1
 
 pub is-zeros-spec : {M : Type 1} → statement M
 is-zeros-spec =
@@ -57,10 +58,10 @@ is-zeros-spec =
     μ-loop
     loop-holds
     sub-loop
-    u64-at-requires
+    is-line-zero-requires
     returns
     add-at
     loop-less
     loop-again
-    are-bytes-zero-requires
+    are-words-zero-requires
     returns-2)
