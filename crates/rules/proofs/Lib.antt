@@ -1,5 +1,8 @@
 pub mod Folds
 pub mod Passed
+pub mod Joins
+pub mod Halves
+pub mod Pieces
 pub mod Records
 pub mod Mismatch
 pub mod Fits
@@ -10,5 +13,6 @@ pub mod Faults
 pub mod Roots
 pub mod Reasons
 pub mod Entries
+pub mod Joined
 pub mod Told
 pub mod Edges

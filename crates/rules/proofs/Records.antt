@@ -7,7 +7,7 @@ use mathlib.Core.Bool.{Bool, true, false, not, _&&_}
 use mathlib.Core.Option.{Option, none, some}
 use mathlib.Core.List.{List, [], _∷_, List·Memᴰ, List·Memᴰ·head, List·Memᴰ·tail, List·Memᴰ·not-nil, List·Memᴰ·cases-cons}
 use Rattle.base.specs.Base.{pick, lastOf, isEmpty}
-use Rattle.base.proofs.Option.{none-some, some-none}
+use Rattle.base.proofs.Option.{none-some}
 use Rattle.base.proofs.Impossible.{impossible}
 use Rattle.point.specs.Point.{PointId, PointInfo, through, anchorLink}
 use Rattle.point.specs.declared.data.PointMap.the-variants as map
@@ -16,32 +16,11 @@ use Rattle.reasons.specs.Invalid.{InvalidReason, NoRoundInDag, InvalidDependenc
 use Rattle.reasons.specs.Verdict as verdict
 use Rattle.reasons.specs.Verdict.{Verdict}
 use Rattle.rules.specs.DagPoint.{Entry, IndirectEntry, entryId, isDropped, PointView, pointView}
-use Rattle.rules.specs.Validate.{Taken, asDependency, asPrevPoint, asVersion, aside, taken, recordOf, isNewer, join, directThrough, dependency, findingsAs, entryFindings, indirectFindings, resultWith, overLists, validate}
+use Rattle.rules.specs.Validate.{Taken, asDependency, asPrevPoint, asVersion, aside, taken, recordOf, join, directThrough, dependency, findingsAs, entryFindings, indirectFindings, resultWith, overLists, validate}
+use Rattle.rules.proofs.Joins.{join-absent, join-one}
 use Rattle.rules.proofs.Folds.{directTrail, directRecord, indirectTrail, indirectRecord, lists-apart}
 use Rattle.rules.specs.Passed.{hasReason}
 use Rattle.rules.proofs.Passed.{validate-all}
-
--- ---- one of two
-
-join-none : (a b : Option InvalidDependency) → join a b ≡ none → (a ≡ none) × (b ≡ none)
-unfolding join
-join-none none b h = (refl, h)
-join-none (some a) none h = some-none h
-join-none (some a) (some b) h = go (isNewer a b) h
-  where
-    go : (t : Bool) → pick t (some b) (some a) ≡ none → (some a ≡ none) × (some b ≡ none)
-    go true k = some-none k
-    go false k = some-none k
-
-join-some : (a b : Option InvalidDependency) (d : InvalidDependency) → join a b ≡ some d → (a ≡ some d) ⊎ (b ≡ some d)
-unfolding join
-join-some none b d h = inr h
-join-some (some a) none d h = inl h
-join-some (some a) (some b) d h = go (isNewer a b) h
-  where
-    go : (t : Bool) → pick t (some b) (some a) ≡ some d → (some a ≡ some d) ⊎ (some b ≡ some d)
-    go true k = inr k
-    go false k = inl k
 
 -- ---- one of a list
 
@@ -61,7 +40,7 @@ module _ {A : Type 0} (f : A → Option InvalidDependency) (x : A) (l : List A) 
       go (inr n) = g y n
 
   one-more : (old : Option InvalidDependency) (d : InvalidDependency) → (join old (f x) ≡ some d) ⊎ OneIn f l d → (old ≡ some d) ⊎ OneIn f (x ∷ l) d
-  one-more old d (inl h) = go (join-some old (f x) d h)
+  one-more old d (inl h) = go (join-one old (f x) d h)
     where
       go : (old ≡ some d) ⊎ (f x ≡ some d) → (old ≡ some d) ⊎ OneIn f (x ∷ l) d
       go (inl e) = inl e
@@ -126,7 +105,7 @@ module _ (c : Settings) (required : Bool) (p : PointView) where
   direct-none old [] u h = (h, λ e m. absurd (List·Memᴰ·not-nil m))
   direct-none old (x ∷ l) u h =
       let r = direct-none (join old (rootOf x)) l (λ e m. u e (List·Memᴰ·tail m)) (rw (u x (List·Memᴰ·head refl)) at h) in
-      let j = join-none old (rootOf x) (r .0) in
+      let j = join-absent old (rootOf x) (r .0) in
       (j .0, none-more rootOf x l (j .1) (r .1))
 
   direct-some : (old : Option InvalidDependency) (es : List Entry) (d : InvalidDependency) → directRecord c required p old es ≡ some d →
@@ -146,7 +125,7 @@ module _ (c : Settings) (p : PointInfo) where
   indirect-none old [] h = (h, λ a m. absurd (List·Memᴰ·not-nil m))
   indirect-none old (x ∷ l) h =
       let r = indirect-none (join old (targetRecord c p x)) l h in
-      let j = join-none old (targetRecord c p x) (r .0) in
+      let j = join-absent old (targetRecord c p x) (r .0) in
       (j .0, none-more (targetRecord c p) x l (j .1) (r .1))
 
   indirect-some : (old : Option InvalidDependency) (ts : List IndirectEntry) (d : InvalidDependency) → indirectRecord c p old ts ≡ some d →

@@ -10,3 +10,4 @@ pub mod Answer
 pub mod Told
 pub mod Passed
 pub mod Edges
+pub mod Joined

@@ -1,7 +1,7 @@
 //! Cases for judging, in pairs that are told apart by one thing in their lists.
 
 use wutherdish::AnchorStageRole::{Proof, Trigger};
-use wutherdish::{Dependency, List, Point, State};
+use wutherdish::{Dependency, List, PeerId, Point, State};
 
 use crate::input::{judge, written};
 use crate::invalid::invalid;
@@ -11,7 +11,7 @@ use crate::{Answer, Drill};
 
 pub fn drills() -> Vec<Drill> {
     let mut drills = vec![with_version(), without_version(), with_target(), without_target()];
-    drills.extend([flag_of_judging(), flag_of_arrival()]);
+    drills.extend([flag_of_judging(), flag_of_arrival(), tie_first(), tie_second()]);
     drills
 }
 
@@ -102,4 +102,27 @@ fn flag_of_arrival() -> Drill {
     let (world, point, list) = above_bad_witness(false);
     let what = "the case of flag-of-judging, with the witness as it was when it arrived: not certified";
     case("flag-of-arrival", what, &world, &point, &list, TRANS_INVALID)
+}
+
+/// C's point of round 12 includes two bad ones of round 11, A's and B's, here in the order of their arrival. Neither root
+/// cause is newer than the other.
+fn tie(arrived: [PeerId; 2]) -> (World, Point, List) {
+    let world = World::new(E, &[A, B, C]);
+    let point = world.above_all(12, C);
+    let bad_one = |author| bad(&Point { anchor_time: WRONG_ANCHOR_TIME, ..world.first(author) }, 8);
+    let list = arrived.iter().fold(List::new(), |list, author| list.direct(bad_one(*author)));
+    let list = with_targets(list.direct(valid(&world.first(C)).certified()), &valid(&world.genesis()));
+    (world, point, list)
+}
+
+fn tie_first() -> Drill {
+    let (world, point, list) = tie([A, B]);
+    let what = "a case for judging: of two root causes of one round the first that arrived is named, 0a0a..'s";
+    case("tie-first", what, &world, &point, &list, TRANS_INVALID)
+}
+
+fn tie_second() -> Drill {
+    let (world, point, list) = tie([B, A]);
+    let what = "the case of tie-first, the two entries in the other order: the root cause is 0b0b..'s";
+    case("tie-second", what, &world, &point, &list, TRANS_INVALID)
 }

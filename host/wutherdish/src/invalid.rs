@@ -123,6 +123,46 @@ pub struct InvalidDependency {
     pub reason: u8,
 }
 
+impl InvalidDependency {
+    /// Of two records the one that judging keeps, where entries of the first come before those of the second: the first
+    /// stays unless the second is newer, by the rule of the source's `dependency`. So a host that judges a long list in two
+    /// halves gets the whole list's record, if no entry is dropped or gives a reason. The order counts: of two root
+    /// causes of one round, neither newer than the other, the first stays.
+    ///
+    /// ```
+    /// use wutherdish::{Digest, IndirectLink, InvalidDependency, PeerId, PointId, Through};
+    ///
+    /// let root = |round, byte| {
+    ///     let author = PeerId([byte; 32]);
+    ///     let to = PointId { round, digest: Digest([byte; 32]), author };
+    ///     InvalidDependency { link: IndirectLink { to, through: Through::Includes(author) }, reason: 8 }
+    /// };
+    /// let [old, one, other] = [root(11, 1), root(12, 2), root(12, 3)];
+    /// assert_eq!(InvalidDependency::join(Some(old), Some(one)), Some(one));
+    /// assert_eq!(InvalidDependency::join(Some(one), Some(old)), Some(one));
+    /// assert_eq!(InvalidDependency::join(Some(one), None), Some(one));
+    /// assert_eq!(InvalidDependency::join(Some(one), Some(other)), Some(one));
+    /// assert_eq!(InvalidDependency::join(Some(other), Some(one)), Some(other));
+    /// ```
+    pub fn join(first: Option<Self>, second: Option<Self>) -> Option<Self> {
+        match (first, second) {
+            (Some(old), Some(new)) if !new.is_newer_than(&old) => Some(old),
+            (old, None) => old,
+            (_, new) => new,
+        }
+    }
+
+    fn is_newer_than(&self, old: &Self) -> bool {
+        let (new_round, old_round) = (self.link.to.round, old.link.to.round);
+        old_round < new_round || (old_round == new_round && !old.has_dag_round() && self.has_dag_round())
+    }
+
+    /// "Reason numbers 2, 3 and 20 have no DAG round."
+    fn has_dag_round(&self) -> bool {
+        !matches!(self.reason, 2 | 3 | 20)
+    }
+}
+
 impl InvalidReason {
     /// Document 01's number: the place of the variant as the source declares it.
     pub fn number(&self) -> u8 {

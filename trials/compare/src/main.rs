@@ -4,6 +4,7 @@ mod book_file;
 mod difference;
 mod feeds;
 mod file;
+mod joins;
 mod lent;
 mod program;
 mod report;
@@ -28,6 +29,7 @@ const USAGE: &str = "compare COMMAND
   feeds SEED COUNT [THREADS]           feeds of offers, through the plain book and the library
   books-damaged SEED COUNT [THREADS]   the same offers to damaged copies of their books
   file FILE                            the cases of a file, against the answers in it
+  joins FILE                           the joins of a file, by the host's crate, against the records in it
   tally PROGRAM SEED COUNT             feeds to the program tally, through the plain book and the program
   tally-file PROGRAM FILE              the standard inputs of a file, against the outputs in it
 THREADS is 1 or 2, by default 2";
@@ -53,6 +55,7 @@ fn main() -> ExitCode {
         ["feeds", ref words @ ..] => range(words).and_then(|range| feeds::feeds(&range)),
         ["books-damaged", ref words @ ..] => range(words).and_then(|range| feeds::books_damaged(&range)),
         ["file", path] => file::run(path),
+        ["joins", path] => joins::run(path),
         ["tally", program, ref words @ ..] => {
             range(words).and_then(|range| program::feeds(program, range.seed, range.count))
         }

@@ -1,5 +1,6 @@
 //! The two cases of a pair differ in their lists alone.
 
+use wutherdish::{PeerId, Verdict, judge};
 use wutherdish_drills::Input;
 
 use crate::run::{blobs, drill};
@@ -39,4 +40,23 @@ fn a_flag_is_another() {
     let different: Vec<usize> = (0..judging.len()).filter(|at| judging[*at] != arrival[*at]).collect();
     assert_eq!((judging.len(), different), (arrival.len(), vec![4]));
     assert_eq!((judging[4], arrival[4]), (1, 0));
+}
+
+/// The author of the root cause that judging names.
+fn root_author(name: &str) -> PeerId {
+    let (blobs, list) = parts(name);
+    let [settings, schedule, record, flags, _] = &blobs[..] else { panic!("a case of judging has six blobs") };
+    match judge(settings, schedule, record, flags[0], flags[1], &list) {
+        Ok(Verdict::TransInvalid(dependency)) => dependency.link.to.author,
+        other => panic!("{name}: {other:?}"),
+    }
+}
+
+/// The first two entries change places, and each order names its first.
+#[test]
+fn a_tie_is_decided_by_the_order() {
+    let [first, second] = lists(["tie-first", "tie-second"]);
+    let is_swapped = |size: usize| [&first[size..2 * size], &first[..size], &first[2 * size..]].concat() == second;
+    assert!(first != second && (1..first.len() / 2).any(is_swapped));
+    assert_eq!(["tie-first", "tie-second"].map(root_author), [PeerId([0x0a; 32]), PeerId([0x0b; 32])]);
 }

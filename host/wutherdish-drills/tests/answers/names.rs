@@ -7,13 +7,15 @@ use wutherdish_drills::{Answer, Input, all, named};
 
 use crate::run::{Feed, STORIES};
 
-const LISTS: [&str; 6] = [
+const LISTS: [&str; 8] = [
     "list-with-version",
     "list-without-version",
     "list-with-target",
     "list-without-target",
     "flag-of-judging",
     "flag-of-arrival",
+    "tie-first",
+    "tie-second",
 ];
 
 const STRUCTURE: [&str; 7] = [

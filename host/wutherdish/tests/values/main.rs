@@ -2,6 +2,7 @@
 
 mod book;
 mod damage;
+mod halves;
 mod inverse;
 mod lists;
 mod network;
