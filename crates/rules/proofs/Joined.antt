@@ -1,18 +1,17 @@
 -- Ticket U10's statement holds.
 use Prim.Native.Nat.{ℕ}
 use native.Mathlib.Omega.{arith}
-use lib.Dec.{eqb}
 use mathlib.Core.Path.{_≡_, refl, sym, ap, _∙_}
-use mathlib.Core.Bool.{Bool, true, false, not, _&&_}
+use mathlib.Core.Bool.{Bool, false}
 use mathlib.Core.Option.{Option, none, some}
 use mathlib.Core.List.{List, _++_}
-use Rattle.base.specs.Base.{pick, concat, lastOf, isEmpty}
+use Rattle.base.specs.Base.{concat, lastOf}
 use Rattle.base.proofs.Impossible.{impossible}
 use Rattle.map.specs.Rows.{get, find, findFrom, has, peers}
 use Rattle.point.specs.Point.{PointInfo, digestSafe, prevDigest, source, target, top, sameId}
 use Rattle.point.specs.declared.data.PointMap.the-variants as map
 use Rattle.schedule.specs.Settings.{Settings}
-use Rattle.reasons.specs.Invalid.{InvalidReason, NoRoundInDag, InvalidDependency, dagRound}
+use Rattle.reasons.specs.Invalid.{InvalidReason, InvalidDependency, dagRound}
 use Rattle.reasons.specs.Verdict as verdict
 use Rattle.rules.specs.DagPoint.{linkIds, pointView, depView}
 use Rattle.rules.specs.List.{Listed, readList, directs, indirects}
@@ -20,6 +19,7 @@ use Rattle.rules.specs.Validate.{proofRow, triggerProofRow, timeRow, new
 use Rattle.rules.specs.Passed.{hasReason}
 use Rattle.rules.specs.Edges.{conf}
 use Rattle.rules.specs.Joined.{listFindings, recorded, Silent, Joined}
+use Rattle.rules.proofs.Passed.{validate-lists}
 use Rattle.rules.proofs.Joins.{newer-replaces, first-stays, none-first, none-second, join-self, join-assoc}
 use Rattle.rules.proofs.Halves.{direct-reasons, lists-joined, silent-reasons}
 use Rattle.rules.proofs.Pieces.{list-append}
@@ -30,25 +30,13 @@ unreasoned : (o : Option InvalidReason) (d : Option InvalidDependency) → hasRe
 unreasoned none d h = refl
 unreasoned (some r) d h = impossible (cc)
 
-module _ (c : Settings) (required : Bool) (presence : ℕ) (p : PointInfo) (l : List Listed) where
-  abbrev over-list : verdict.Verdict
-  over-list = resultWith (lastOf (listFindings c required p l .trail)) (recorded c required p l)
-
-  abbrev by-presence : Bool → Bool → Bool → verdict.Verdict
-  by-presence x y z =
-      pick x (verdict.Invalid (NoRoundInDag map.Evidence))
-      (pick y (verdict.Invalid (NoRoundInDag map.Includes)) (pick z (verdict.Invalid (NoRoundInDag map.Witness)) over-list))
-
-  pub judging-records : hasReason (validate c required presence p (directs l) (indirects l)) ≡ false →
-      validate c required presence p (directs l) (indirects l) ≡ resultWith none (recorded c required p l)
-  unfolding validate overLists
-  judging-records h = go (eqb presence 0) (eqb presence 1) (eqb presence 2 && not (isEmpty (p .witness))) h
-    where
-      go : (x y z : Bool) → hasReason (by-presence x y z) ≡ false → by-presence x y z ≡ resultWith none (recorded c required p l)
-      go true y z k = impossible (cc)
-      go false true z k = impossible (cc)
-      go false false true k = impossible (cc)
-      go false false false k = unreasoned (lastOf (listFindings c required p l .trail)) (recorded c required p l) k
+pub judging-records : (c : Settings) (required : Bool) (presence : ℕ) (p : PointInfo) (l : List Listed) →
+    hasReason (validate c required presence p (directs l) (indirects l)) ≡ false →
+    validate c required presence p (directs l) (indirects l) ≡ resultWith none (recorded c required p l)
+unfolding overLists
+judging-records c required presence p l h =
+    let e = validate-lists c required p (directs l) (indirects l) presence h in
+    e ∙ unreasoned (lastOf (listFindings c required p l .trail)) (recorded c required p l) (ap hasReason (sym e) ∙ h)
 
 -- ---- two lists of bytes
 

@@ -14,5 +14,13 @@ pub mod Roots
 pub mod Reasons
 pub mod Entries
 pub mod Joined
+pub mod Perms
+pub mod Places
+pub mod Greatest
+pub mod Orders
+pub mod Arranged
+pub mod Brought
+pub mod Given
+pub mod AnyOrder
 pub mod Told
 pub mod Edges

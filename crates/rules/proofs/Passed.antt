@@ -107,12 +107,17 @@ both-none [] b h = (refl, h)
 both-none (x ∷ a) b h = impossible (cc)
 
 module _ (c : Settings) (required : Bool) (p : PointInfo) (es : List Entry) (ts : List IndirectEntry) where
-  -- Valid or TransInvalid: every check passed for every entry
+  -- Valid or TransInvalid: neither list gave a reason
+  pub lists-silent : hasReason (overLists c required p es ts) ≡ false → (directTrail c required (pointView p) false es ≡ []) × (indirectTrail c p ts ≡ [])
+  lists-silent h =
+      both-none (directTrail c required (pointView p) false es) (indirectTrail c p ts)
+      (last-none _ (no-reason _ _ (ap hasReason (sym (lists-apart c p ts required es)) ∙ h)))
+
+  -- so every check passed for every entry
   pub trail-all : hasReason (overLists c required p es ts) ≡ false → Passed c required (pointView p) es ts
   unfolding entryFindings indirectFindings dependency
   trail-all h =
-      let direct = directTrail c required (pointView p) false es in
-      let n = both-none direct (indirectTrail c p ts) (last-none _ (no-reason _ _ (ap hasReason (sym (lists-apart c p ts required es)) ∙ h))) in
+      let n = lists-silent h in
       record {
         entries =
             λ e m.
@@ -121,17 +126,23 @@ module _ (c : Settings) (required : Bool) (p : PointInfo) (es : List Entry) (ts 
         targets = λ a m. target-rows-none c (a .role) (pointView p) (a .entry .state) (target-all c p ts (n .1) a m);
       }
 
-  pub validate-all : (presence : ℕ) → hasReason (validate c required presence p es ts) ≡ false → Passed c required (pointView p) es ts
+  -- a reason of presence aside, the verdict is that over the lists
+  pub validate-lists : (presence : ℕ) → hasReason (validate c required presence p es ts) ≡ false → validate c required presence p es ts ≡ overLists c required p es ts
   unfolding validate
-  validate-all presence h = go (eqb presence 0) (eqb presence 1) (eqb presence 2 && not (isEmpty (p .witness))) h
+  validate-lists presence h = go (eqb presence 0) (eqb presence 1) (eqb presence 2 && not (isEmpty (p .witness))) h
     where
       go : (x y z : Bool) →
           hasReason
           (pick x (verdict.Invalid (NoRoundInDag map.Evidence))
           (pick y (verdict.Invalid (NoRoundInDag map.Includes)) (pick z (verdict.Invalid (NoRoundInDag map.Witness)) (overLists c required p es ts))))
           ≡ false →
-          Passed c required (pointView p) es ts
+          pick x (verdict.Invalid (NoRoundInDag map.Evidence))
+          (pick y (verdict.Invalid (NoRoundInDag map.Includes)) (pick z (verdict.Invalid (NoRoundInDag map.Witness)) (overLists c required p es ts)))
+          ≡ overLists c required p es ts
       go true y z k = impossible (cc)
       go false true z k = impossible (cc)
       go false false true k = impossible (cc)
-      go false false false k = trail-all k
+      go false false false k = refl
+
+  pub validate-all : (presence : ℕ) → hasReason (validate c required presence p es ts) ≡ false → Passed c required (pointView p) es ts
+  validate-all presence h = trail-all (ap hasReason (sym (validate-lists presence h)) ∙ h)

@@ -1,13 +1,13 @@
 -- An entry at the front of bytes is read as far as it goes: what follows it makes no difference. So lists that follow one another.
-use Prim.Native.Nat.{ℕ, zero, suc, _+_, _-_, _≤_}
+use Prim.Native.Nat.{ℕ, zero, suc, _+_, _-_, _≤_, _<_}
 use native.Mathlib.Omega.{arith}
 use mathlib.Core.Path.{_≡_, refl, sym, ap, _∙_, subst}
 use mathlib.Core.Logic.{_⊎_, inl, inr}
 use mathlib.Core.Bool.{Bool, true, false, _&&_}
 use mathlib.Core.Option.{Option, none, some, Option·map, Option·getD, Option·some-injective, map-eq-some-iff}
 use mathlib.Core.List.{List, [], _∷_, _++_}
-use lib.ListN.{length, getD, take, drop, length-drop, List·getD-append}
-use lib.Seq.{take-append-le, drop-append-le}
+use lib.ListN.{length, getD, take, drop, length-drop}
+use lib.Seq.{drop-append-le, getD-take}
 use lib.Dec.{leb, eqb}
 use borrow.Author.Tests.{eqb-true}
 use Rattle.base.specs.Base.{pick, isSome, andThen}
@@ -16,7 +16,8 @@ use Rattle.base.proofs.Lists.{append-none}
 use Rattle.base.proofs.Option.{none-some, picked, and-then}
 use Rattle.parts.specs.Bytes.{bytesAt, littleAt, bigAt}
 use Rattle.record.specs.Record.{fieldRow, fieldOk, recordEnd}
-use Rattle.record.proofs.Laws.{fitting, field-same, end-same, end-within, append-agrees}
+use Rattle.parts.proofs.Laws.{part-front}
+use Rattle.record.proofs.Laws.{Agree, fitting, field-same, end-same, end-within, front-agrees, append-agrees}
 use Rattle.point.specs.Point.{PointId, PointInfo}
 use Rattle.point.specs.Reading.{pointIdAt, readPoint}
 use Rattle.point.specs.declared.data.AnchorStageRole.{AnchorStageRole}
@@ -27,28 +28,38 @@ use Rattle.rules.proofs.Halves.{directs-append}
 
 -- ---- bytes at the front
 
-module _ (s rest : List ℕ) where
-  bytes-front : (n at : ℕ) → at + n ≤ length s → bytesAt n (s ++ rest) at ≡ bytesAt n s at
-  bytes-front n at h =
-      ap (take n) (drop-append-le at s rest (omega arith)) ∙ take-append-le n (drop at s) rest (rw (length-drop at s) (omega arith))
+module _ (e : ℕ) (s t : List ℕ) (a : Agree e s t) where
+  bytes-alike : (n at : ℕ) → at + n ≤ e → bytesAt n t at ≡ bytesAt n s at
+  bytes-alike n at h = sym (part-front e n at t h) ∙ (ap (λ (l : List ℕ). bytesAt n l at) (sym (a .same)) ∙ part-front e n at s h)
 
-id-front : (s rest : List ℕ) → 71 ≤ length s → pointIdAt (s ++ rest) 3 ≡ pointIdAt s 3
-unfolding pointIdAt littleAt bigAt
-id-front s rest h = rw (bytes-front s rest 4 3 (omega arith), bytes-front s rest 32 7 (omega arith), bytes-front s rest 32 39 (omega arith))
+  byte-alike : (at : ℕ) → at < e → getD t at 0 ≡ getD s at 0
+  byte-alike at h = sym (getD-take e t at 0 h) ∙ (ap (λ (l : List ℕ). getD l at 0) (sym (a .same)) ∙ getD-take e s at 0 h)
 
-module _ (t n : ℕ) (s : List ℕ) (h : fieldOk (fieldRow t n n) s 0 ≡ true) where
-  field-length : 3 + n ≤ length s
-  field-length = let f = fitting (fieldRow t n n) s 0 h in omega (arith, f .least, f .end)
+  shorter : (n : ℕ) → n ≤ e → Agree n s t
+  shorter n h = record { same = sym (bytes-alike n 0 (omega arith)); in-left = omega (arith, a .in-left); in-right = omega (arith, a .in-right) }
 
-  field-front : (rest : List ℕ) → fieldOk (fieldRow t n n) (s ++ rest) 0 ≡ true
-  field-front rest =
-      let f = fitting (fieldRow t n n) s 0 h in field-same (length s) s (s ++ rest) (append-agrees s rest) 0 (f .end) (fieldRow t n n) f
+  -- the bytes after the first k
+  agree-after : (k n : ℕ) → k + n ≤ e → Agree n (drop k s) (drop k t)
+  agree-after k n h =
+      let l = length-drop k s in
+      let r = length-drop k t in
+      record { same = sym (bytes-alike n k h); in-left = omega (arith, a .in-left); in-right = omega (arith, a .in-right) }
+
+  id-alike : 71 ≤ e → pointIdAt t 3 ≡ pointIdAt s 3
+  unfolding pointIdAt littleAt bigAt
+  id-alike h = rw (bytes-alike 4 3 (omega arith), bytes-alike 32 7 (omega arith), bytes-alike 32 39 (omega arith))
+
+  field-alike : (tag n : ℕ) → fieldOk (fieldRow tag n n) s 0 ≡ true → 3 + n ≤ e → fieldOk (fieldRow tag n n) t 0 ≡ true
+  field-alike tag n h k = let f = fitting (fieldRow tag n n) s 0 h in field-same e s t a 0 (omega (arith, f .greatest)) (fieldRow tag n n) f
+
+field-length : (tag n : ℕ) (s : List ℕ) → fieldOk (fieldRow tag n n) s 0 ≡ true → 3 + n ≤ length s
+field-length tag n s h = let f = fitting (fieldRow tag n n) s 0 h in omega (arith, f .least, f .end)
 
 -- ---- what stands after tag 16
 
--- a reader takes no more bytes than there are, and gives the same whatever follows them
+-- a reader takes no more bytes than there are, and gives the same of any bytes that begin with those
 abbrev Fronted : {A : Type 0} → (A → ℕ) → (List ℕ → Option A) → List ℕ → Type 0
-Fronted {A} size f s = (x : A) → f s ≡ some x → (size x ≤ length s) × ((rest : List ℕ) → f (s ++ rest) ≡ some x)
+Fronted {A} size f s = (x : A) → f s ≡ some x → (size x ≤ length s) × ((t : List ℕ) → Agree (size x) s t → f t ≡ some x)
 
 front-is : (s : List ℕ) (n : ℕ) (q : PointInfo) → recordEnd s ≡ some n → readPoint (take n s) ≡ some q → isListable q ≡ true →
     recordFront s ≡ some (record { point = q; size = n })
@@ -64,13 +75,19 @@ record-front s x h =
     let w = end-within s (n .0) (n .1) in
     let e : n .0 ≡ x .size = ap (λ (y : RecordFront). y .size) (Option·some-injective _ _ (k .1)) in (
       omega arith,
-      λ rest.
-          front-is (s ++ rest) (n .0) (q .0)
-          (end-same (length s) s (s ++ rest) (append-agrees s rest) (n .0) (n .1) w)
-          (ap readPoint (take-append-le (n .0) s rest w) ∙ q .1)
+      λ t a.
+          front-is t (n .0) (q .0)
+          (end-same (x .size) s t a (n .0) (n .1) (omega arith))
+          (ap readPoint (bytes-alike (x .size) s t a (n .0) 0 (omega arith)) ∙ q .1)
           (k .0)
           ∙ k .1,
     )
+
+record-size : (state : PointInfo → DagPoint) (front : ℕ) (s : List ℕ) (x : Stated) → recordAt state front s ≡ some x → front ≤ x .size
+record-size state front s x h =
+    let y = map-eq-some-iff _ (recordFront (drop front s)) .0 h in
+    let e : front + y .0 .size ≡ x .size = ap (λ (z : Stated). z .size) (y .2) in
+    omega arith
 
 record-at : (state : PointInfo → DagPoint) (front : ℕ) (s : List ℕ) → front ≤ length s → Fronted (λ x. x .size) (recordAt state front) s
 record-at state front s g x h =
@@ -79,28 +96,31 @@ record-at state front s g x h =
     let e : front + y .0 .size ≡ x .size = ap (λ (z : Stated). z .size) (y .2) in
     let l = length-drop front s in
     let b = f .0 in
-    (omega arith, λ rest. rw (drop-append-le front s rest g, f .1 rest) (ap some (y .2)))
+    (omega arith, λ t a. rw (f .1 (drop front t) (agree-after (x .size) s t a front (y .0 .size) (omega arith))) (ap some (y .2)))
 
 id-at : (state : PointId → DagPoint) (s : List ℕ) → Fronted (λ x. x .size) (idAt17 state) s
 id-at state s x h =
     let k = picked (fieldOk (fieldRow 17 68 68) s 0) _ x h in
     let l = field-length 17 68 s (k .0) in
     let e : 71 ≡ x .size = ap (λ (z : Stated). z .size) (Option·some-injective _ _ (k .1)) in
-    (omega arith, λ rest. rw (field-front 17 68 s (k .0) rest, id-front s rest l) (k .1))
+    (omega arith, λ t a. rw (field-alike (x .size) s t a 17 68 (k .0) (omega arith), id-alike (x .size) s t a (omega arith)) (k .1))
 
-root-front : (s rest : List ℕ) → isRoot s ≡ true → (72 ≤ length s) × (isRoot (s ++ rest) ≡ true)
+root-length : (s : List ℕ) → isRoot s ≡ true → 72 ≤ length s
+unfolding isRoot
+root-length s h = field-length 18 69 s (and-left (fieldOk (fieldRow 18 69 69) s 0) _ h)
+
+root-alike : (e : ℕ) (s t : List ℕ) → Agree e s t → 72 ≤ e → isRoot s ≡ true → isRoot t ≡ true
 unfolding isRoot littleAt
-root-front s rest h =
+root-alike e s t a l h =
     let f = and-left (fieldOk (fieldRow 18 69 69) s 0) _ h in
-    let l = field-length 18 69 s f in
-    (l, rw (field-front 18 69 s f rest, bytes-front s rest 4 3 (omega arith), List·getD-append s rest 0 71 (omega arith)) (and-right (fieldOk (fieldRow 18 69 69) s 0) _ h))
-
-guarded : (b : Bool) (f : List ℕ → Option Stated) (s : List ℕ) → (b ≡ true → Fronted (λ x. x .size) f s) → Fronted (λ x. x .size) (λ t. pick b (f t) none) s
-guarded true f s g x h = g refl x h
-guarded false f s g x h = none-some h
+    rw (field-alike e s t a 18 69 f l, bytes-alike e s t a 4 3 (omega arith), byte-alike e s t a 71 (omega arith)) (and-right (fieldOk (fieldRow 18 69 69) s 0) _ h)
 
 abbrev OfState : (List ℕ → Option Stated) → List ℕ → Type 0
 OfState f s = Fronted (λ x. x .size) f s
+
+guarded : (b : Bool) (f : List ℕ → Option Stated) (s : List ℕ) → (b ≡ true → OfState f s) → OfState (λ t. pick b (f t) none) s
+guarded true f s g x h = g refl x h
+guarded false f s g x h = none-some h
 
 by-state : (a b d e g : Bool) (f0 f1 f2 f3 f4 f5 : List ℕ → Option Stated) (s : List ℕ) → OfState f0 s → OfState f1 s → OfState f2 s → OfState f3 s → OfState f4 s → OfState f5 s →
     OfState (λ t. pick a (f0 t) (pick b (f1 t) (pick d (f2 t) (pick e (f3 t) (pick g (f4 t) (f5 t)))))) s
@@ -111,14 +131,14 @@ by-state false false false true g f0 f1 f2 f3 f4 f5 s o0 o1 o2 o3 o4 o5 = o3
 by-state false false false false true f0 f1 f2 f3 f4 f5 s o0 o1 o2 o3 o4 o5 = o4
 by-state false false false false false f0 f1 f2 f3 f4 f5 s o0 o1 o2 o3 o4 o5 = o5
 
-rooted : (state : List ℕ → PointInfo → DagPoint) (reason : ℕ) (s : List ℕ) → ((rest : List ℕ) → 72 ≤ length s → state (s ++ rest) ≡ state s) →
-    Fronted (λ x. x .size) (λ t. pick (eqb reason 0 && isRoot t) (recordAt (state t) 72 t) none) s
+rooted : (state : List ℕ → PointInfo → DagPoint) (reason : ℕ) (s : List ℕ) → ((e : ℕ) (t : List ℕ) → Agree e s t → 72 ≤ e → state t ≡ state s) →
+    OfState (λ t. pick (eqb reason 0 && isRoot t) (recordAt (state t) 72 t) none) s
 rooted state reason s f x h =
     let k = picked (eqb reason 0 && isRoot s) _ x h in
     let r = and-right (eqb reason 0) _ (k .0) in
-    let l = root-front s [] r .0 in
-    let g = record-at (state s) 72 s l x (k .1) in
-    (g .0, λ rest. rw (and-left (eqb reason 0) _ (k .0), root-front s rest r .1, f rest l) (g .1 rest))
+    let g = record-at (state s) 72 s (root-length s r) x (k .1) in
+    let l = record-size (state s) 72 s x (k .1) in
+    (g .0, λ t a. rw (and-left (eqb reason 0) _ (k .0), root-alike (x .size) s t a l r, f (x .size) t a l) (g .1 t a))
 
 state-front : (state reason : ℕ) (s : List ℕ) → OfState (readState state reason) s
 unfolding readState
@@ -133,11 +153,11 @@ state-front state reason s =
     (λ t. pick (eqb state 5 && eqb reason 0) (some (record { point = Dropped; size = 0 })) none)
     s
     (guarded (eqb reason 0) (recordAt Valid 0) s (λ e. record-at Valid 0 s (omega arith)))
-    (rooted root reason s (λ rest l. rw (id-front s rest (omega arith), List·getD-append s rest 0 71 (omega arith))))
+    (rooted root reason s (λ e t a l. rw (id-alike e s t a (omega arith), byte-alike e s t a 71 (omega arith))))
     (guarded (isSome (dagRound reason)) (recordAt (λ q. Invalid q reason) 0) s (λ e. record-at (λ q. Invalid q reason) 0 s (omega arith)))
     (guarded (leb 1 reason && leb reason 16) (idAt17 (λ i. IllFormed i reason)) s (λ e. id-at (λ i. IllFormed i reason) s))
     (guarded (eqb reason 0) (idAt17 NotFound) s (λ e. id-at NotFound s))
-    (guarded (eqb state 5 && eqb reason 0) (λ t. some (record { point = Dropped; size = 0 })) s (λ e x h. (nothing x h, λ rest. h)))
+    (guarded (eqb state 5 && eqb reason 0) (λ t. some (record { point = Dropped; size = 0 })) s (λ e x h. (nothing x h, λ t a. h)))
   where
     nothing : (x : Stated) → some (record { point = Dropped; size = 0 }) ≡ some x → x .size ≤ length s
     nothing x h = let e : _≡_ {A = ℕ} 0 (x .size) = ap (λ (z : Stated). z .size) (Option·some-injective _ _ h) in omega arith
@@ -152,8 +172,14 @@ at-is : (aim : Option AnchorStageRole) (front : ℕ) (s t : List ℕ) (state k f
 unfolding entryAt
 at-is aim front s t state k f reason x o e3 e4 e5 e6 l d r = rw (o, e3, e4, e5, e6, l, d, r)
 
-at-front : (aim : Option AnchorStageRole) (front : ℕ) (s : List ℕ) (x : Listed) → entryAt aim front s ≡ some x →
-    (x .aim ≡ aim) × (x .size ≤ front + length s) × (7 ≤ length s) × ((rest : List ℕ) → entryAt aim front (s ++ rest) ≡ some x)
+-- `front` bytes stand before it
+record AtFront (aim : Option AnchorStageRole) (front : ℕ) (s : List ℕ) (x : Listed) : Type 0 where
+  aimed : x .aim ≡ aim
+  least : front + 7 ≤ x .size
+  within : x .size ≤ front + length s
+  alike : (n : ℕ) (t : List ℕ) → Agree n s t → x .size ≤ front + n → entryAt aim front t ≡ some x
+
+at-front : (aim : Option AnchorStageRole) (front : ℕ) (s : List ℕ) (x : Listed) → entryAt aim front s ≡ some x → AtFront aim front s x
 unfolding entryAt
 at-front aim front s x h =
     let k = picked (fieldOk (fieldRow 16 4 4) s 0 && (leb (getD s 4 0) 1 && leb (getD s 5 0) 1)) _ x h in
@@ -163,22 +189,24 @@ at-front aim front s x h =
     let l = field-length 16 4 s o in
     let e : front + 7 + y .0 .size ≡ x .size = ap (λ (z : Listed). z .size) (y .2) in
     let b = f .0 in
-    let d = length-drop 7 s in (
-      sym (ap (λ (z : Listed). z .aim) (y .2)),
-      omega arith,
-      l,
-      λ rest.
-          at-is aim front (s ++ rest) (drop 7 s ++ rest) (getD s 3 0) (getD s 4 0) (getD s 5 0) (getD s 6 0) (y .0)
-          (field-front 16 4 s o rest)
-          (List·getD-append s rest 0 3 (omega arith))
-          (List·getD-append s rest 0 4 (omega arith))
-          (List·getD-append s rest 0 5 (omega arith))
-          (List·getD-append s rest 0 6 (omega arith))
+    let d = length-drop 7 s in
+    record {
+      aimed = sym (ap (λ (z : Listed). z .aim) (y .2));
+      least = omega arith;
+      within = omega arith;
+      alike =
+          λ n t a m.
+          at-is aim front t (drop 7 t) (getD s 3 0) (getD s 4 0) (getD s 5 0) (getD s 6 0) (y .0)
+          (field-alike n s t a 16 4 o (omega arith))
+          (byte-alike n s t a 3 (omega arith))
+          (byte-alike n s t a 4 (omega arith))
+          (byte-alike n s t a 5 (omega arith))
+          (byte-alike n s t a 6 (omega arith))
           (and-right (fieldOk (fieldRow 16 4 4) s 0) _ (k .0))
-          (drop-append-le 7 s rest l)
-          (f .1 rest)
-          ∙ ap some (y .2),
-    )
+          refl
+          (f .1 (drop 7 t) (agree-after n s t a 7 (y .0 .size) (omega arith)))
+          ∙ ap some (y .2);
+    }
 
 direct-is : (s : List ℕ) → eqb (getD s 0 0) 19 ≡ false → readEntry s ≡ entryAt none 0 s
 unfolding readEntry
@@ -191,9 +219,9 @@ indirect-is s t o = pick-true (eqb (getD s 0 0) 19) _ _ t ∙ pick-true (fieldOk
 
 -- it takes a byte at least, and no more than there are
 pub record Front (s : List ℕ) (x : Listed) : Type 0 where
-  pub some-bytes : 1 ≤ length s
+  pub least : 1 ≤ x .size
   pub within : x .size ≤ length s
-  pub same : (rest : List ℕ) → readEntry (s ++ rest) ≡ some x
+  pub alike : (t : List ℕ) → Agree (x .size) s t → readEntry t ≡ some x
 
 pub entry-front : (s : List ℕ) (x : Listed) → readEntry s ≡ some x → Front s x
 unfolding readEntry
@@ -207,29 +235,41 @@ entry-front s x h = go (eqb (getD s 0 0) 19) refl h
         let o = and-left (fieldOk (fieldRow 19 1 1) s 0) _ (w .0) in
         let l = field-length 19 1 s o in
         let f = at-front (some (roleOf (getD s 3 0))) 4 (drop 4 s) x (w .1) in
-        let b = f .1 in
+        let b = f .within in
+        let m = f .least in
         let d = length-drop 4 s in
         record {
-          some-bytes = omega arith;
+          least = omega arith;
           within = omega arith;
-          same =
-              λ rest.
-              (let g = List·getD-append s rest 0 3 (omega arith) in
-              indirect-is (s ++ rest) (ap (λ (y : ℕ). eqb y 19) (List·getD-append s rest 0 0 (omega arith)) ∙ t)
-              (and-both _ _ (field-front 19 1 s o rest) (ap (λ (y : ℕ). leb y 1) g ∙ and-right (fieldOk (fieldRow 19 1 1) s 0) _ (w .0)))
-              ∙ ap (λ (y : ℕ). entryAt (some (roleOf y)) 4 (drop 4 (s ++ rest))) g
-              ∙ ap (entryAt (some (roleOf (getD s 3 0))) 4) (drop-append-le 4 s rest l)
-              ∙ f .3 rest);
+          alike =
+              λ u a.
+              (let g = byte-alike (x .size) s u a 3 (omega arith) in
+              indirect-is u (ap (λ (y : ℕ). eqb y 19) (byte-alike (x .size) s u a 0 (omega arith)) ∙ t)
+              (and-both _ _ (field-alike (x .size) s u a 19 1 o (omega arith)) (ap (λ (y : ℕ). leb y 1) g ∙ and-right (fieldOk (fieldRow 19 1 1) s 0) _ (w .0)))
+              ∙ ap (λ (y : ℕ). entryAt (some (roleOf y)) 4 (drop 4 u)) g
+              ∙ f .alike (x .size - 4) (drop 4 u) (agree-after (x .size) s u a 4 (x .size - 4) (omega arith)) (omega arith));
         }
     go false t k =
         let f = at-front none 0 s x k in
-        let b = f .1 in
-        let l = f .2 in
+        let b = f .within in
+        let m = f .least in
         record {
-          some-bytes = omega arith;
+          least = omega arith;
           within = omega arith;
-          same = λ rest. direct-is (s ++ rest) (ap (λ (y : ℕ). eqb y 19) (List·getD-append s rest 0 0 (omega arith)) ∙ t) ∙ f .3 rest;
+          alike = λ u a. direct-is u (ap (λ (y : ℕ). eqb y 19) (byte-alike (x .size) s u a 0 (omega arith)) ∙ t) ∙ f .alike (x .size) u a (omega arith);
         }
+
+module _ (s : List ℕ) (x : Listed) (h : readEntry s ≡ some x) where
+  pub some-bytes : 1 ≤ length s
+  some-bytes = let f = entry-front s x h in omega (arith, f .least, f .within)
+
+  -- whatever follows, and without what follows
+  pub entry-append : (rest : List ℕ) → readEntry (s ++ rest) ≡ some x
+  entry-append rest =
+      entry-front s x h .alike (s ++ rest) (shorter (length s) s (s ++ rest) (append-agrees s rest) (x .size) (entry-front s x h .within))
+
+  pub entry-alone : readEntry (take (x .size) s) ≡ some x
+  entry-alone = entry-front s x h .alike (take (x .size) s) (front-agrees (x .size) s (entry-front s x h .within))
 
 -- ---- lists one after the other
 
@@ -263,9 +303,9 @@ list-suc n a s l h = go (eqb (length s) 0) refl h
 
 -- an empty slice has no entry at its front
 no-entry : {A : Type 0} (s : List ℕ) (x : Listed) → length s ≡ 0 → readEntry s ≡ some x → A
-no-entry s x e h = let f = entry-front s x h .some-bytes in absurd (omega arith)
+no-entry s x e h = let f = some-bytes s x h in absurd (omega arith)
 
-empty-is : (s : List ℕ) → length s ≡ 0 → s ≡ []
+pub empty-is : (s : List ℕ) → length s ≡ 0 → s ≡ []
 empty-is [] h = refl
 empty-is (x ∷ s) h = absurd (omega arith)
 
@@ -296,7 +336,7 @@ same-list (suc n) (suc k) a b s l m h g = go (list-suc n a s l h) (list-suc k b 
         sym (u .is) ∙ ap (λ (x : Listed). x ∷ u .rest) e ∙ ap (λ (x : List Listed). v .first ∷ x) z ∙ v .is
 
 -- after an indirect entry no direct one stands
-after-indirect : (n : ℕ) (s : List ℕ) (l : List Listed) → listFrom n true s ≡ some l → directs l ≡ []
+pub after-indirect : (n : ℕ) (s : List ℕ) (l : List Listed) → listFrom n true s ≡ some l → directs l ≡ []
 unfolding directs
 after-indirect zero s l h = rw (← list-zero true s l h .1)
 after-indirect (suc n) s l h = go (list-suc n true s l h) (after-indirect n)
@@ -325,14 +365,14 @@ step-first x l m o f = go (x .aim) refl o
 -- the first entry of a list, before another list
 append-step : (j : ℕ) (a : Bool) (s t : List ℕ) (x : Listed) (whole : List Listed) → readEntry s ≡ some x → listFrom j a (s ++ t) ≡ some whole →
     (i : ℕ) × (rest : List Listed) × (listFrom i (isSome (x .aim)) (drop (x .size) s ++ t) ≡ some rest) × (x ∷ rest ≡ whole)
-append-step zero a s t x whole h w = no-entry (s ++ t) x (list-zero a (s ++ t) whole w .0) (entry-front s x h .same t)
+append-step zero a s t x whole h w = no-entry (s ++ t) x (list-zero a (s ++ t) whole w .0) (entry-append s x h t)
 append-step (suc j) a s t x whole h w = go (list-suc j a (s ++ t) whole w)
   where
     go : ((length (s ++ t) ≡ 0) × ([] ≡ whole)) ⊎ Step j a (s ++ t) whole →
         (i : ℕ) × (rest : List Listed) × (listFrom i (isSome (x .aim)) (drop (x .size) s ++ t) ≡ some rest) × (x ∷ rest ≡ whole)
-    go (inl e) = no-entry (s ++ t) x (e .0) (entry-front s x h .same t)
+    go (inl e) = no-entry (s ++ t) x (e .0) (entry-append s x h t)
     go (inr u) =
-        let e : x ≡ u .first = Option·some-injective _ _ (sym (entry-front s x h .same t) ∙ u .reads) in (
+        let e : x ≡ u .first = Option·some-injective _ _ (sym (entry-append s x h t) ∙ u .reads) in (
           j,
           u .rest,
           ap (listFrom j (isSome (x .aim))) (sym (drop-append-le (x .size) s t (entry-front s x h .within)))

@@ -73,7 +73,7 @@ abbrev pub IsRoot : Settings → PointInfo → List Entry → List IndirectEntry
 IsRoot c p es ts d = TakenIn c p es d ⊎ OneIn (targetRecord c p) ts d
 
 module _ (c : Settings) (required : Bool) (p : PointView) (e : Entry) where
-  taken-record : IsTaken p (entryId (e .state)) → entryFindings c required p e .root ≡ takenRecord c (p .id .round) e
+  pub taken-record : IsTaken p (entryId (e .state)) → entryFindings c required p e .root ≡ takenRecord c (p .id .round) e
   unfolding entryFindings dependency
   taken-record w = ap (λ (t : Taken). findingsAs c required p t e .root) (w .1) ∙ go (w .0)
     where
@@ -82,7 +82,7 @@ module _ (c : Settings) (required : Bool) (p : PointView) (e : Entry) where
       go false = refl
 
   -- others record nothing
-  record-taken : (d : InvalidDependency) → entryFindings c required p e .root ≡ some d → IsTaken p (entryId (e .state))
+  pub record-taken : (d : InvalidDependency) → entryFindings c required p e .root ≡ some d → IsTaken p (entryId (e .state))
   unfolding entryFindings dependency
   record-taken d h = go (taken p (entryId (e .state))) refl h
     where

@@ -11,3 +11,4 @@ pub mod Told
 pub mod Passed
 pub mod Edges
 pub mod Joined
+pub mod AnyOrder

@@ -12,6 +12,7 @@ use crate::{Answer, Drill};
 pub fn drills() -> Vec<Drill> {
     let mut drills = vec![with_version(), without_version(), with_target(), without_target()];
     drills.extend([flag_of_judging(), flag_of_arrival(), tie_first(), tie_second()]);
+    drills.extend([two_reasons(), two_reasons_reversed()]);
     drills
 }
 
@@ -125,4 +126,30 @@ fn tie_second() -> Drill {
     let (world, point, list) = tie([B, A]);
     let what = "the case of tie-first, the two entries in the other order: the root cause is 0b0b..'s";
     case("tie-second", what, &world, &point, &list, TRANS_INVALID)
+}
+
+/// C's point of round 12 includes A's of round 11, which was not found, and B's, which is too late. Each gives a reason, and the
+/// later one stays.
+fn with_two_reasons(is_lost_first: bool) -> (World, Point, List) {
+    let world = World::new(E, &[A, B, C]);
+    let point = world.above_all(12, C);
+    let lost = Dependency::new(State::NotFound { id: id(11, A) });
+    let late = valid(&Point { time: point.time + 501, ..world.first(B) });
+    let arrived = if is_lost_first { [lost, late] } else { [late, lost] };
+    let list = arrived.into_iter().fold(List::new(), List::direct);
+    let list = with_targets(list.direct(valid(&world.first(C)).certified()), &valid(&world.genesis()));
+    (world, point, list)
+}
+
+fn two_reasons() -> Drill {
+    let (world, point, list) = with_two_reasons(true);
+    let what =
+        "a case for judging: a dependency was not found, and then one comes that is too late: the last reason stays";
+    case("two-reasons", what, &world, &point, &list, invalid(11))
+}
+
+fn two_reasons_reversed() -> Drill {
+    let (world, point, list) = with_two_reasons(false);
+    let what = "the case of two-reasons, the two entries in the other order: invalid as well, for the other reason";
+    case("two-reasons-reversed", what, &world, &point, &list, invalid(19))
 }

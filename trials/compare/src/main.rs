@@ -6,6 +6,7 @@ mod feeds;
 mod file;
 mod joins;
 mod lent;
+mod orders;
 mod program;
 mod report;
 mod run_cases;
@@ -16,7 +17,6 @@ use std::process::ExitCode;
 use cases::case;
 use compare::damage::{damaged, judge_damaged};
 use compare::kind::{as_judge, as_verify};
-use compare::permute::permuted;
 use compare::run;
 use oracle::file::Case;
 
@@ -41,7 +41,6 @@ const CASES: Comparison = ("generated", |seed, place| vec![as_verify(case(seed, 
 const DAMAGED: Comparison = ("damaged", |seed, place| vec![as_verify(damaged(seed, place))]);
 const JUDGE: Comparison = ("generated judge", |seed, place| vec![as_judge(case(seed, place))]);
 const JUDGE_DAMAGED: Comparison = ("damaged judge", |seed, place| vec![judge_damaged(seed, place)]);
-const PERMUTATIONS: Comparison = ("permuted", permuted);
 
 fn main() -> ExitCode {
     let arguments: Vec<String> = std::env::args().skip(1).collect();
@@ -51,7 +50,7 @@ fn main() -> ExitCode {
         ["damaged", ref words @ ..] => compare(DAMAGED, words),
         ["judge", ref words @ ..] => compare(JUDGE, words),
         ["judge-damaged", ref words @ ..] => compare(JUDGE_DAMAGED, words),
-        ["permutations", ref words @ ..] => compare(PERMUTATIONS, words),
+        ["permutations", ref words @ ..] => range(words).and_then(|range| orders::permutations(&range)),
         ["feeds", ref words @ ..] => range(words).and_then(|range| feeds::feeds(&range)),
         ["books-damaged", ref words @ ..] => range(words).and_then(|range| feeds::books_damaged(&range)),
         ["file", path] => file::run(path),

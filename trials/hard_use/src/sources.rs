@@ -29,7 +29,7 @@ pub enum Source {
     Dear,
 }
 
-/// Sources with their parts of the places. A feed's place has 200 offers, a permuted one up to 48 calls.
+/// Sources with their parts of the places. A feed's place has 200 offers, a permuted one up to 96 calls.
 const PARTS: [(Source, usize); 11] = [
     (Source::Generated, 450),
     (Source::Damaged, 500),
@@ -83,7 +83,7 @@ pub fn calls(source: Source, seed: u64, place: u64) -> Vec<Call> {
     let cases = match source {
         Source::Generated => vec![as_verify(case(seed, place)), as_judge(case(seed, place))],
         Source::Damaged => vec![as_verify(damaged(seed, place)), judge_damaged(seed, place)],
-        Source::Permuted => permuted(seed, place),
+        Source::Permuted => permuted(seed, place).concat(),
         Source::Spliced => vec![wild::spliced(&mut random, seed, place)],
         Source::Wild => vec![wild::wild(&mut random, case(seed, place))],
         Source::SmallBook => return small_book::offers(&mut random, seed, place),

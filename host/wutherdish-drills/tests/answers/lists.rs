@@ -52,11 +52,28 @@ fn root_author(name: &str) -> PeerId {
     }
 }
 
-/// The first two entries change places, and each order names its first.
+/// Two cases whose lists differ in the order of the first two entries alone.
+fn assert_swapped(pair: [&str; 2]) {
+    let [one, other] = lists(pair);
+    let is_swapped = |first: usize, second: usize| {
+        let [first, second] = [first, first + second];
+        [&one[first..second], &one[..first], &one[second..]].concat() == other
+    };
+    let places = 1..one.len();
+    let swapped =
+        places.clone().any(|first| places.clone().take(one.len() - first).any(|second| is_swapped(first, second)));
+    assert!(one != other && swapped, "{pair:?}");
+}
+
+/// Each order names the first.
 #[test]
 fn a_tie_is_decided_by_the_order() {
-    let [first, second] = lists(["tie-first", "tie-second"]);
-    let is_swapped = |size: usize| [&first[size..2 * size], &first[..size], &first[2 * size..]].concat() == second;
-    assert!(first != second && (1..first.len() / 2).any(is_swapped));
-    assert_eq!(["tie-first", "tie-second"].map(root_author), [PeerId([0x0a; 32]), PeerId([0x0b; 32])]);
+    let pair = ["tie-first", "tie-second"];
+    assert_swapped(pair);
+    assert_eq!(pair.map(root_author), [PeerId([0x0a; 32]), PeerId([0x0b; 32])]);
+}
+
+#[test]
+fn two_reasons_in_two_orders() {
+    assert_swapped(["two-reasons", "two-reasons-reversed"]);
 }

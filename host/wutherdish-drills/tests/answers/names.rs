@@ -7,7 +7,7 @@ use wutherdish_drills::{Answer, Input, all, named};
 
 use crate::run::{Feed, STORIES};
 
-const LISTS: [&str; 8] = [
+const LISTS: [&str; 10] = [
     "list-with-version",
     "list-without-version",
     "list-with-target",
@@ -16,6 +16,8 @@ const LISTS: [&str; 8] = [
     "flag-of-arrival",
     "tie-first",
     "tie-second",
+    "two-reasons",
+    "two-reasons-reversed",
 ];
 
 const STRUCTURE: [&str; 7] = [
