@@ -9,6 +9,8 @@ pub const BEGIN: u8 = 4;
 pub const OFFER: u8 = 5;
 pub const OFFER_TO: u8 = 6;
 const TALLY: u8 = 7;
+/// A batch of records to the book begun by 4: no call that there is.
+const BATCH: u8 = 24;
 
 /// A case with its answer.
 #[derive(Clone)]
@@ -70,9 +72,14 @@ fn write_offer(kind: u8, book: Option<&Vec<u8>>, offer: &Offer, after: &After, o
     file::write(kind, &book.into_iter().chain(inputs).collect::<Vec<_>>(), out);
 }
 
-/// The cases of these kinds; others are passed over. `None` if one of them isn't laid out so.
+/// The cases of these kinds. Others are passed over, and so are offers to a book after a batch. `None` if one of them isn't
+/// laid out so.
 pub fn read(blobs: Vec<Blobs<'_>>) -> Option<Vec<Case>> {
-    let booked = blobs.into_iter().filter(|(kind, _)| (OPEN..=TALLY).contains(kind));
+    let mut met_batch = false;
+    let booked = blobs.into_iter().filter(|(kind, _)| {
+        met_batch = *kind == BATCH || (met_batch && *kind != BEGIN);
+        (OPEN..=TALLY).contains(kind) && !(met_batch && *kind == OFFER)
+    });
     booked.map(|(kind, blobs)| case(kind, &blobs)).collect()
 }
 

@@ -5,7 +5,8 @@ use std::collections::HashSet;
 use oracle::numbers::{SETTINGS as NUMBER_SETTINGS, SHORT, within_limits};
 use oracle::read;
 
-use crate::{Book, Entry, LONGEST, MOST, Mistake, SETTINGS};
+use crate::spread::Graph;
+use crate::{Book, Entry, LONGEST, MARKS, MOST, Mistake, SETTINGS};
 
 impl Book {
     /// Opened with settings in a slice of this length: number 1, then 5.
@@ -14,7 +15,11 @@ impl Book {
         if !(SETTINGS..=LONGEST).contains(&length) {
             return Err(SHORT);
         }
-        Ok(Self { settings: settings.to_vec(), entries: Vec::new(), length, mistake: None })
+        Ok(Self::empty(settings.to_vec(), length, None))
+    }
+
+    fn empty(settings: Vec<u8>, length: usize, mistake: Option<Mistake>) -> Self {
+        Self { settings, entries: Vec::new(), length, mistake, marks: MARKS, graph: Graph::default() }
     }
 
     /// What the bytes of a slice mean; `None` is number 10.
@@ -25,8 +30,7 @@ impl Book {
     /// The same with a mistake made on the way.
     pub fn read_mistaken(slice: &[u8], mistake: Option<Mistake>) -> Option<Self> {
         let (settings, mut rest) = read::settings_front(slice)?;
-        let settings_bytes = slice[..SETTINGS].to_vec();
-        let mut book = Self { settings: settings_bytes, entries: Vec::new(), length: slice.len(), mistake };
+        let mut book = Self::empty(slice[..SETTINGS].to_vec(), slice.len(), mistake);
         let too_long = slice.len() > LONGEST && !book.made(Mistake::AnyLength);
         if too_long || !(within_limits(&settings) || book.made(Mistake::AnyLimits)) {
             return None;

@@ -11,12 +11,14 @@ mod layout;
 mod list;
 mod mistake;
 mod offer;
+pub mod spread;
 mod tally;
 
 pub use entry::{BESIDE_RECORD, Entry, Root, State};
 pub use mistake::Mistake;
 pub use offer::{Offer, Offered};
-pub use tally::tally;
+pub use spread::{MARKS, Marks, Spread};
+pub use tally::{tally, tally_by};
 
 use oracle::Answer;
 use oracle::numbers::BOOK;
@@ -36,6 +38,8 @@ pub struct Book {
     entries: Vec<Entry>,
     length: usize,
     mistake: Option<Mistake>,
+    marks: Marks,
+    graph: spread::Graph,
 }
 
 impl Book {
@@ -56,6 +60,11 @@ impl Book {
     /// The place of an id among the entries.
     pub fn place(&self, id: &Id) -> Option<usize> {
         self.entries.iter().position(|entry| entry.id == *id)
+    }
+
+    /// The same book, whose marks go this far from now on.
+    pub fn marking(self, marks: Marks) -> Self {
+        Self { marks, ..self }
     }
 
     /// The same book, in which this mistake is made from now on.
@@ -81,10 +90,16 @@ pub fn open(slice: &mut [u8], settings: &[u8]) -> u8 {
 
 /// Offers a point to the book in a lent slice. The unknown peers of a verdict go to the peer buffer's front.
 pub fn offer(slice: &mut [u8], schedule: &[u8], leader: u8, record: &[u8], peers: &mut [u8]) -> Answer {
-    let Some(mut book) = Book::read(slice) else { return Answer::Number(BOOK) };
     let peer_buffer = u32::try_from(peers.len()).unwrap_or(u32::MAX);
     let offer = Offer { schedule: schedule.to_vec(), leader, record: record.to_vec(), peer_buffer };
-    let answer = book.offer(&offer).answer;
+    offer_by(MARKS, slice, &offer, peers)
+}
+
+/// The same where marks go this far.
+pub fn offer_by(marks: Marks, slice: &mut [u8], offer: &Offer, peers: &mut [u8]) -> Answer {
+    let Some(book) = Book::read(slice) else { return Answer::Number(BOOK) };
+    let mut book = book.marking(marks);
+    let answer = book.offer(offer).answer;
     if let Answer::Verdict(verdict) = &answer {
         slice.copy_from_slice(&book.bytes());
         let unknown = verdict.unknown.as_flattened();

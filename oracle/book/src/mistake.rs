@@ -86,6 +86,12 @@ plain::mistakes! {
 }
 
 impl Mistake {
+    /// Whether it is about what the mark covers.
+    pub(crate) fn is_of_marks(self) -> bool {
+        use Mistake::{MarkAll, MarkValid, MarkVersions, MarkWellFormed, NoMark};
+        matches!(self, NoMark | MarkAll | MarkVersions | MarkWellFormed | MarkValid)
+    }
+
     /// Whether it is made in reading a book's bytes, so that only damaged books notice it.
     pub fn is_in_reading(self) -> bool {
         self as usize >= Self::AnythingAfter as usize

@@ -8,7 +8,8 @@ use oracle::{Answer, Verdict};
 use crate::entry::BESIDE_RECORD;
 use crate::judge::judge;
 use crate::list::{is_version_of, prev};
-use crate::{Book, Entry, MOST, Mistake, Root, State};
+use crate::spread::{self, Spread};
+use crate::{Book, Entry, MOST, Marks, Mistake, Root, State};
 
 /// r, r-1 and r-2 are in the DAG.
 const ALL_ROUNDS: u8 = 3;
@@ -34,13 +35,15 @@ pub struct Offered {
     pub list: Option<Vec<u8>>,
     /// The place of the entry that the rule for marks marked, and whether it was marked before.
     pub marked: Option<(usize, bool)>,
+    /// What the mark spread to.
+    pub spread: Spread,
     /// The Rust panicked as is known, and the plain judge stood in.
     pub stood_in: bool,
 }
 
 impl Offered {
     fn unlisted(answer: Answer, stood_in: bool) -> Self {
-        Self { answer, list: None, marked: None, stood_in }
+        Self { answer, list: None, marked: None, spread: Spread::default(), stood_in }
     }
 }
 
@@ -94,8 +97,10 @@ impl Book {
             }
             return Offered::unlisted(unlisted, stood_in);
         }
-        let marked = self.mark_prev(point);
-        let list = self.list(point);
+        let late = self.marks == Marks::Spread(Some(spread::Mistake::AfterJudging));
+        let before = late.then(|| self.list(point));
+        let (marked, spread) = self.mark_prev(point);
+        let list = before.unwrap_or_else(|| self.list(point));
         let (answer, stood_in) = judge(&self.settings, offer, ALL_ROUNDS, list.clone());
         if let Some((place, false)) = marked
             && self.made(Mistake::MarkTakenBack)
@@ -103,16 +108,22 @@ impl Book {
         {
             self.entries[place].certified = false;
         }
-        Offered { answer, list: Some(list), marked, stood_in }
+        Offered { answer, list: Some(list), marked, spread, stood_in }
     }
 
-    /// The rule for marks: gives the previous point's place, and whether it was marked before.
-    fn mark_prev(&mut self, point: &Point) -> Option<(usize, bool)> {
-        let prev = prev(point)?;
+    /// The rule for marks: gives the previous point's place and whether it was marked before, and what the mark spread to.
+    fn mark_prev(&mut self, point: &Point) -> (Option<(usize, bool)>, Spread) {
+        let Some(prev) = prev(point) else { return (None, Spread::default()) };
         let before = self.place(&prev).map(|place| (place, self.entries[place].certified));
         let mistake = self.mistake;
         self.entries.iter_mut().for_each(|entry| entry.certified |= covers(entry, &prev, mistake));
-        before
+        let spread = match self.marks {
+            Marks::Spread(spread) if self.mistake.is_none_or(|mistake| !mistake.is_of_marks()) => {
+                self.spread(&prev, spread)
+            }
+            _ => Spread::default(),
+        };
+        (before, spread)
     }
 
     /// What is kept of a verdict.

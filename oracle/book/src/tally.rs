@@ -7,14 +7,20 @@ use oracle::numbers::{RECORD, SCHEDULE, SETTINGS as NUMBER_SETTINGS};
 use oracle::value::Point;
 use oracle::{Answer, PEER_BUFFER, read};
 
-use crate::{Book, Offer, SETTINGS};
+use crate::{Book, MARKS, Marks, Offer, SETTINGS};
 
 /// The length of its book's slice.
 const LENGTH: usize = 65_536;
 
 /// One line for each point of the feed, then `end` and the kept count.
 pub fn tally(input: &[u8]) -> String {
-    let Some((mut book, rest)) = open(input) else { return refused(NUMBER_SETTINGS) };
+    tally_by(MARKS, input)
+}
+
+/// The same where the book's marks go this far.
+pub fn tally_by(marks: Marks, input: &[u8]) -> String {
+    let Some((book, rest)) = open(input) else { return refused(NUMBER_SETTINGS) };
+    let mut book = book.marking(marks);
     let Some((_, mut points)) = read::schedule_front(rest) else { return refused(SCHEDULE) };
     let schedule = &rest[..rest.len() - points.len()];
     let mut out = String::new();

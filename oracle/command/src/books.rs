@@ -3,19 +3,19 @@
 use std::time::Instant;
 
 use book::file::{self, After, Case};
-use book::{Offer, offer, open, tally};
+use book::{Marks, Offer, offer_by, open, tally_by};
 use oracle::file::{answer_bytes, blobs};
 use oracle::sha256::sha256;
 
 /// What lent bytes hold before a call.
 pub const FILL: u8 = 0xA5;
 
-/// Says every difference: of numbers, answers, unknown peers, and the book's bytes by their sha256.
-pub fn compare(path: &str) -> Result<(), String> {
+/// Says every difference where marks go this far: of numbers, answers, unknown peers, and the book's bytes by their sha256.
+pub fn compare(marks: Marks, path: &str) -> Result<(), String> {
     let bytes = std::fs::read(path).map_err(|e| format!("{path}: {e}"))?;
     let cases = blobs(&bytes).and_then(file::read).ok_or_else(|| format!("{path}: not a whole file of cases"))?;
     let start = Instant::now();
-    let mut replay = Replay { slice: Vec::new(), same: 0, other: 0 };
+    let mut replay = Replay { marks, slice: Vec::new(), same: 0, other: 0 };
     for (place, case) in cases.into_iter().enumerate() {
         match replay.run(case) {
             Ok(()) => replay.same += 1,
@@ -31,6 +31,7 @@ pub fn compare(path: &str) -> Result<(), String> {
 }
 
 struct Replay {
+    marks: Marks,
     /// The book that offers go to.
     slice: Vec<u8>,
     same: u64,
@@ -45,10 +46,10 @@ impl Replay {
                 self.slice = begin(&settings, length, number)?;
                 Ok(())
             }
-            Case::Offer { offer, after } => offer_to(&mut self.slice, &offer, &after),
-            Case::OfferTo { mut book, offer, after } => offer_to(&mut book, &offer, &after),
+            Case::Offer { offer, after } => offer_to(self.marks, &mut self.slice, &offer, &after),
+            Case::OfferTo { mut book, offer, after } => offer_to(self.marks, &mut book, &offer, &after),
             Case::Tally { input, output } => {
-                let printed = tally(&input);
+                let printed = tally_by(self.marks, &input);
                 let same = printed.as_bytes() == output;
                 let expected = String::from_utf8_lossy(&output);
                 if same { Ok(()) } else { Err(format!("tally prints\n{printed}expected\n{expected}")) }
@@ -74,9 +75,9 @@ fn opened(settings: &[u8], length: usize) -> Vec<u8> {
     bytes
 }
 
-fn offer_to(slice: &mut [u8], given: &Offer, after: &After) -> Result<(), String> {
+fn offer_to(marks: Marks, slice: &mut [u8], given: &Offer, after: &After) -> Result<(), String> {
     let mut peers = vec![FILL; given.peer_buffer as usize];
-    let answer = offer(slice, &given.schedule, given.leader, &given.record, &mut peers);
+    let answer = offer_by(marks, slice, given, &mut peers);
     if answer_bytes(&answer).as_ref() != Some(&after.answer) {
         let number = after.answer.first().copied().unwrap_or_default();
         return Err(format!("the offer gives {answer}; expected another, with number {number}"));

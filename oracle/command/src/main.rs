@@ -3,6 +3,7 @@
 mod book_sharpness;
 mod books;
 mod edges;
+mod mark_sharpness;
 mod run_cases;
 mod run_feeds;
 mod spread;
@@ -13,6 +14,8 @@ mod wrong;
 
 use std::process::ExitCode;
 
+use book::{MARKS, Marks};
+
 const USAGE: &str = "oracle COMMAND
   edges                  document 01's P1 to P10
   histogram SEED COUNT   run generated cases and print how often each answer appears
@@ -22,7 +25,9 @@ const USAGE: &str = "oracle COMMAND
   feeds SEED COUNT       run feeds of 200 offers through the plain book and print how often each answer appears
   books-damaged SEED COUNT   offer the points of feeds to damaged copies of their books
   book-sharpness SEED COUNT  run feeds and damaged books with each mistake in the plain book
+  mark-sharpness SEED COUNT  run feeds for certificates with each mistake in the plain book's rule for marks
   vectors FILE           run the cases of a file and compare with its answers
+  vectors-spread FILE    run its cases with a book where marks spread
   lines FILE             run its verify and judge cases and print one line each
   store FILE             write the stored list
   stored FILE            replay it
@@ -34,7 +39,8 @@ fn main() -> ExitCode {
     let words: Vec<&str> = arguments.iter().map(String::as_str).collect();
     let result = match words[..] {
         ["edges"] => edges::run(),
-        ["vectors", file] => vectors::compare(file).and_then(|()| books::compare(file)),
+        ["vectors", file] => vectors::compare(file).and_then(|()| books::compare(MARKS, file)),
+        ["vectors-spread", file] => books::compare(Marks::Spread(None), file),
         ["lines", file] => vectors::lines(file),
         ["histogram", seed, count] => {
             two_numbers(seed, count).and_then(|(seed, count)| run_cases::histogram(seed, count))
@@ -50,6 +56,9 @@ fn main() -> ExitCode {
         }
         ["book-sharpness", seed, count] => {
             two_numbers(seed, count).and_then(|(seed, count)| book_sharpness::run(seed, count))
+        }
+        ["mark-sharpness", seed, count] => {
+            two_numbers(seed, count).and_then(|(seed, count)| mark_sharpness::run(seed, count))
         }
         ["store", file] => store::write(file),
         ["stored", file] => store::check(file),

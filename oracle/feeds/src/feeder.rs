@@ -52,6 +52,10 @@ impl Habits {
 impl Feeder {
     pub fn new(mut random: Random) -> Self {
         let world = World::new(&mut random);
+        Self::of(random, world)
+    }
+
+    pub fn of(mut random: Random, world: World) -> Self {
         let habits = Habits::new(&mut random);
         let round = world.settings.genesis_round;
         let authors = world.genesis_authors[..if world.two_geneses { 2 } else { 1 }].to_vec();

@@ -8,11 +8,14 @@ mod feeder;
 mod histogram;
 mod maker;
 mod offer_fault;
+mod ordered;
 mod start;
 mod world;
 
+pub use anchor::{link_through, top};
 pub use damage::damaged;
 pub use histogram::Histogram;
+pub use ordered::{Ordered, OrderedStep};
 pub use start::opening;
 
 use book::{Book, Offer, Offered};

@@ -22,6 +22,9 @@ pub const VALID: u8 = 0;
 pub const WELL_FORMED: u8 = 1;
 pub const ANY: u8 = 2;
 
+/// In a sparse world one point of n includes its author's previous one.
+const SPARSE: usize = 8;
+
 /// A new point's round and author, and the least good that it depends on where it has the choice.
 pub struct Wanted {
     pub round: u32,
@@ -97,10 +100,12 @@ impl Maker {
     ) -> Option<Vec<Chosen<'_>>> {
         let below = wanted.round - 1;
         let mut ranked = self.ranked(random, world, book, below);
+        ranked.retain(|(_, point)| !world.is_shadow(&point.id.author));
         let own = ranked.iter().position(|(_, point)| point.id.author == wanted.author);
         let own = own.map(|place| ranked.remove(place));
         let majority = world.majority(below);
         let own = own.filter(|(good, _)| ranked.len() < majority || (*good < ANY && !random.chance(1, 12)));
+        let own = own.filter(|_| !world.sparse || ranked.len() < majority || random.chance(1, SPARSE));
         let least = majority - usize::from(own.is_some());
         if ranked.len() < least {
             return None;
@@ -112,12 +117,23 @@ impl Maker {
     }
 
     fn choose_witness(&self, random: &mut Random, world: &World, book: &Book, wanted: &Wanted) -> Vec<Chosen<'_>> {
+        if !world.shadows.is_empty() {
+            return self.choose_shadows(random, world, book, wanted);
+        }
         if random.chance(1, 2) {
             return Vec::new();
         }
         let mut ranked = self.ranked(random, world, book, wanted.round - 2);
         ranked.retain(|(good, point)| *good <= wanted.least_good && point.id.author != wanted.author);
         ranked.truncate(random.below(4));
+        ranked.into_iter().map(|(_, point)| (Through::Witness, point)).collect()
+    }
+
+    /// A shadow witnesses the others, so that they are reached by witness alone; another author does so now and then.
+    fn choose_shadows(&self, random: &mut Random, world: &World, book: &Book, wanted: &Wanted) -> Vec<Chosen<'_>> {
+        let mut ranked = self.ranked(random, world, book, wanted.round - 2);
+        let witnesses = world.is_shadow(&wanted.author) || random.chance(1, 4);
+        ranked.retain(|(_, point)| witnesses && world.is_shadow(&point.id.author) && point.id.author != wanted.author);
         ranked.into_iter().map(|(_, point)| (Through::Witness, point)).collect()
     }
 

@@ -17,6 +17,10 @@ pub struct World {
     pub genesis_time: u64,
     /// The sets above genesis, each from its first round on.
     sets: Vec<Span>,
+    /// Authors whose points nobody includes, themselves neither; each one's are witnessed by the next one's.
+    pub shadows: Vec<Peer>,
+    /// Most points leave their author's previous one out, so that certificates are rare.
+    pub sparse: bool,
 }
 
 impl World {
@@ -42,9 +46,47 @@ impl World {
             two_geneses: random.chance(1, 4),
             genesis_time: if random.chance(1, 16) { LATE } else { u64::from(random.between(1, 1_000_000)) },
             sets: Vec::new(),
+            shadows: Vec::new(),
+            sparse: false,
         };
         world.choose_sets(random, count);
         world
+    }
+
+    /// One genesis point, a window of any length, and few peers where it is long. In some worlds two of ten peers are shadows.
+    pub fn ordered(random: &mut Random) -> Self {
+        let mut world = Self::new(random);
+        let history = match random.below(8) {
+            0..4 => random.between(1, 4),
+            4 | 5 => random.between(5, 20),
+            6 => random.between(21, 100),
+            _ => random.pick(&[101, 180, 254, 255, 255]),
+        };
+        let shadowed = history <= 20 && random.chance(1, 4);
+        let count = match history {
+            _ if shadowed => 10,
+            101.. => 4,
+            21.. => random.pick(&[4, 4, 5]),
+            _ => random.pick(&[3, 4, 4, 5, 7, 7, 13]),
+        };
+        world.settings.genesis_round = random.between(5, 60);
+        world.settings.commit_history_rounds = history as u8;
+        world.two_geneses = false;
+        world.sparse = random.chance(1, 3);
+        world.sets.clear();
+        if shadowed {
+            // one set, so that there are shadows in every round
+            let peers = peer_set(random, count);
+            world.shadows = peers[..2].to_vec();
+            world.sets.push(Span { first: world.settings.genesis_round + 1, peers });
+        } else {
+            world.choose_sets(random, count);
+        }
+        world
+    }
+
+    pub fn is_shadow(&self, peer: &Peer) -> bool {
+        self.shadows.contains(peer)
     }
 
     /// Up to three sets; a later one has a few other peers, or the same.

@@ -1,6 +1,7 @@
 //! The static library against the oracle: numbers, answers, peer buffers and books, byte for byte.
 
 mod book_file;
+mod certificates;
 mod difference;
 mod feeds;
 mod file;
@@ -15,6 +16,7 @@ mod tally;
 use std::process::ExitCode;
 
 use cases::case;
+use certificates::{Beside, certificates};
 use compare::damage::{damaged, judge_damaged};
 use compare::kind::{as_judge, as_verify};
 use compare::run;
@@ -28,8 +30,12 @@ const USAGE: &str = "compare COMMAND
   permutations SEED COUNT [THREADS]    those of the judge cases with short lists, in every order of the entries
   feeds SEED COUNT [THREADS]           feeds of offers, through the plain book and the library
   books-damaged SEED COUNT [THREADS]   the same offers to damaged copies of their books
+  certificates SEED COUNT [THREADS]    feeds for certificates, through the source's own, the plain book whose marks spread,
+                                       and the library if its marks spread
+  certificates-library SEED COUNT [THREADS]   the same through the library in any case
   file FILE                            the cases of a file, against the answers in it
   joins FILE                           the joins of a file, by the host's crate, against the records in it
+  file-spread FILE                     the same of a file for books whose marks spread, if the library's do
   tally PROGRAM SEED COUNT             feeds to the program tally, through the plain book and the program
   tally-file PROGRAM FILE              the standard inputs of a file, against the outputs in it
 THREADS is 1 or 2, by default 2";
@@ -53,8 +59,19 @@ fn main() -> ExitCode {
         ["permutations", ref words @ ..] => range(words).and_then(|range| orders::permutations(&range)),
         ["feeds", ref words @ ..] => range(words).and_then(|range| feeds::feeds(&range)),
         ["books-damaged", ref words @ ..] => range(words).and_then(|range| feeds::books_damaged(&range)),
+        ["certificates", ref words @ ..] => range(words).and_then(|range| certificates(Beside::now(), &range)),
+        ["certificates-library", ref words @ ..] => {
+            range(words).and_then(|range| certificates(Beside::Library, &range))
+        }
         ["file", path] => file::run(path),
         ["joins", path] => joins::run(path),
+        ["file-spread", path] => match Beside::now() {
+            Beside::Library => file::run(path),
+            Beside::Nothing => {
+                println!("{path}: not run, since the library's marks don't spread");
+                Ok(())
+            }
+        },
         ["tally", program, ref words @ ..] => {
             range(words).and_then(|range| program::feeds(program, range.seed, range.count))
         }
