@@ -16,6 +16,9 @@ use crate::rounds::{count, median, rounds};
 const BOOKS: [(usize, usize); 9] =
     [(4, 100), (4, 1_000), (4, 4_095), (13, 100), (13, 1_000), (13, 4_095), (100, 300), (100, 1_000), (253, 600)];
 
+/// How deep a certificate goes.
+const HISTORIES: [u8; 2] = [20, 255];
+
 const ROUNDS: usize = 101;
 /// Bytes that a round reads in each way, about.
 const BYTES: usize = 2_000_000;
@@ -36,8 +39,8 @@ runs the ways over the same slice, which has room for one entry more.
 ";
 
 const HEADER: [&str; 2] = [
-    "                                               nanoseconds a call    ratio to the pass",
-    "peers  entries  bytes used  slice bytes      offer    refused       pass    offer  refused",
+    "                                                        nanoseconds a call    ratio to the pass",
+    "peers  entries  history  bytes used  slice bytes      offer    refused       pass    offer  refused",
 ];
 
 /// What is done with the slice.
@@ -53,12 +56,12 @@ const WAYS: [Way; 3] = [Way::Offer, Way::Refused, Way::Pass];
 /// Prints a row for each book.
 pub fn table() -> Result<(), String> {
     println!("{WORDS}\n{ROUNDS} rounds\n{}", HEADER.join("\n"));
-    for (peers, entries) in BOOKS {
-        let dag = Dag::new(peers, entries + 1);
+    for ((peers, entries), history) in BOOKS.into_iter().flat_map(|book| HISTORIES.map(|history| (book, history))) {
+        let dag = Dag::new(peers, entries + 1).with_history(history);
         let mut offering = Offering::new(&dag, entries)?;
         let calls = (BYTES / offering.slice.len()).max(1);
         let rounds = rounds(ROUNDS, WAYS, |way| offering.time(way, calls))?;
-        print!("{peers:5}  {entries:7}  {:10}  {:11}", offering.used, offering.slice.len());
+        print!("{peers:5}  {entries:7}  {history:7}  {:10}  {:11}", offering.used, offering.slice.len());
         print_times(&rounds);
     }
     Ok(())

@@ -1,6 +1,6 @@
 //! A DAG of valid points with full maps, and books of its first points.
 
-use book::{Entry, SETTINGS, State};
+use book::{Entry, MARKS, Marks, SETTINGS, State};
 use cases::random::Random;
 use oracle::value::{AnchorLink, Digest, Id, Peer, Point, PointRole, Schedule, Settings, Span, Through};
 use oracle::write;
@@ -42,6 +42,12 @@ impl Dag {
             below = dag.add_round(random, ids, genesis.id, below);
         }
         dag
+    }
+
+    /// The same with this commit_history_rounds, the last byte of settings.
+    pub fn with_history(mut self, rounds: u8) -> Self {
+        self.settings[SETTINGS - 1] = rounds;
+        self
     }
 
     /// Adds the points of a round; gives the ids of the two rounds below the next one.
@@ -93,8 +99,9 @@ impl Dag {
     pub fn book(&self, points: usize, room: usize) -> Vec<u8> {
         let mut bytes = self.settings.clone();
         for (place, entry) in self.entries[..points].iter().enumerate() {
-            // its author's next point marked it; the genesis author has no other point
-            let certified = place > 0 && place + self.set.len() < points;
+            // its author's next point marked it; the genesis author has none: where marks spread, the first one of a point above
+            let spreads = matches!(MARKS, Marks::Spread(_));
+            let certified = (place > 0 || spreads) && place.max(1) + self.set.len() < points;
             Entry { certified, ..entry.clone() }.write(&mut bytes);
         }
         bytes.resize(self.start(room), 0);

@@ -2,6 +2,7 @@
 
 mod judge;
 mod offer;
+mod spread;
 mod verify;
 
 use cases::random::Random;
@@ -37,7 +38,7 @@ impl Shape {
 
     /// All shapes; those of a call stand together, a typical one first.
     pub fn all() -> Vec<Self> {
-        [&verify::SHAPES[..], &judge::SHAPES, &offer::SHAPES].concat()
+        [&verify::SHAPES[..], &judge::SHAPES, &offer::SHAPES, &spread::SHAPES].concat()
     }
 
     /// The call of this shape with a count of entries, or of peers where it has full maps; at most `most`.
