@@ -22,13 +22,15 @@ pub enum Beside {
     Library,
 }
 
+/// Whether the library's marks spread.
+pub fn spreads() -> bool {
+    matches!(MARKS, Marks::Spread(_))
+}
+
 impl Beside {
     /// The library, if its marks spread.
     pub fn now() -> Self {
-        match MARKS {
-            Marks::Prev => Self::Nothing,
-            Marks::Spread(_) => Self::Library,
-        }
+        if spreads() { Self::Library } else { Self::Nothing }
     }
 }
 

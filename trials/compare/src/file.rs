@@ -4,10 +4,12 @@ use oracle::file::{self, Case};
 use wutherdish::lent::ANSWER;
 
 use crate::book_file;
+use crate::certificates::spreads;
 use crate::lent::{Expected, FILL, Lent};
 use crate::report::report;
 
-pub fn run(path: &str) -> Result<(), String> {
+/// Whether the cases with a book are for marks that spread is said; they are run if the library's marks are like that.
+pub fn run(path: &str, spread: bool) -> Result<(), String> {
     let bytes = std::fs::read(path).map_err(|e| format!("{path}: {e}"))?;
     let cases = file::read(&bytes).ok_or_else(|| format!("{path}: not a whole file of cases"))?;
     let mut lent = Lent::default();
@@ -24,8 +26,15 @@ pub fn run(path: &str) -> Result<(), String> {
     println!(
         "{path}: {verified} verify and {judged} judge cases answered as the file says, peer buffers byte for byte"
     );
-    book_file::run(path, &bytes)
+    if spread == spreads() {
+        return book_file::run(path, &bytes);
+    }
+    println!("{path}: {OTHER_MARKS}");
+    Ok(())
 }
+
+/// Why cases with a book are not run.
+pub const OTHER_MARKS: &str = "its cases with a book are for marks that go another way than the library's: not run";
 
 /// Number, 113 bytes of the answer, 40 zeros, the count of unknown peers and the peers.
 pub fn expected(file_answer: &[u8]) -> Option<Expected> {

@@ -33,11 +33,13 @@ const USAGE: &str = "compare COMMAND
   certificates SEED COUNT [THREADS]    feeds for certificates, through the source's own, the plain book whose marks spread,
                                        and the library if its marks spread
   certificates-library SEED COUNT [THREADS]   the same through the library in any case
-  file FILE                            the cases of a file, against the answers in it
+  file FILE                            the cases of a file, against the answers in it; those with a book are for marks that
+                                       cover the previous point alone, and are run if the library's do
+  file-spread FILE                     the same; those with a book are for marks that spread, and are run if the library's do
   joins FILE                           the joins of a file, by the host's crate, against the records in it
-  file-spread FILE                     the same of a file for books whose marks spread, if the library's do
   tally PROGRAM SEED COUNT             feeds to the program tally, through the plain book and the program
-  tally-file PROGRAM FILE              the standard inputs of a file, against the outputs in it
+  tally-file PROGRAM FILE              the standard inputs of a file, against the outputs in it, likewise
+  tally-file-spread PROGRAM FILE       the same for marks that spread
 THREADS is 1 or 2, by default 2";
 
 /// What a command compares: a name, and the cases of a seed at a place.
@@ -63,19 +65,14 @@ fn main() -> ExitCode {
         ["certificates-library", ref words @ ..] => {
             range(words).and_then(|range| certificates(Beside::Library, &range))
         }
-        ["file", path] => file::run(path),
+        ["file", path] => file::run(path, false),
+        ["file-spread", path] => file::run(path, true),
         ["joins", path] => joins::run(path),
-        ["file-spread", path] => match Beside::now() {
-            Beside::Library => file::run(path),
-            Beside::Nothing => {
-                println!("{path}: not run, since the library's marks don't spread");
-                Ok(())
-            }
-        },
         ["tally", program, ref words @ ..] => {
             range(words).and_then(|range| program::feeds(program, range.seed, range.count))
         }
-        ["tally-file", program, path] => program::file(program, path),
+        ["tally-file", program, path] => program::file(program, path, false),
+        ["tally-file-spread", program, path] => program::file(program, path, true),
         _ => Err(USAGE.to_string()),
     };
     match result {

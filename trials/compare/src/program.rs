@@ -12,6 +12,9 @@ use feeds::Feed;
 use oracle::file::blobs;
 use oracle::read;
 
+use crate::certificates::spreads;
+use crate::file::OTHER_MARKS;
+
 /// More than the program's buffer holds.
 const LONG: usize = 150_000;
 
@@ -33,8 +36,12 @@ pub fn feeds(program: &str, seed: u64, count: u64) -> Result<(), String> {
     Ok(())
 }
 
-/// Compares what a program prints of the standard inputs in a file of cases.
-pub fn file(program: &str, path: &str) -> Result<(), String> {
+/// Compares what a program prints of the standard inputs in a file of cases, if its book's marks go the file's way.
+pub fn file(program: &str, path: &str, spread: bool) -> Result<(), String> {
+    if spread != spreads() {
+        println!("{path}: {OTHER_MARKS}");
+        return Ok(());
+    }
     let bytes = std::fs::read(path).map_err(|e| format!("{path}: {e}"))?;
     let cases = blobs(&bytes).and_then(read_cases).ok_or_else(|| format!("{path}: not a whole file of cases"))?;
     let mut count = 0;
