@@ -197,6 +197,8 @@ impl Book {
         let settings = read::settings(&self.settings).expect("a book has readable settings");
         let mut marked = vec![false; self.graph.nodes.len()];
         self.entries.iter().for_each(|entry| marked[self.graph.numbers[&entry.id]] = entry.certified);
+        // it has its mark by now, from where the walk begins
+        marked[top] = false;
         let walk = Walk {
             graph: &self.graph,
             history: u32::from(settings.commit_history_rounds),

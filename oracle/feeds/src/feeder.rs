@@ -9,6 +9,9 @@ use crate::maker::{ANY, Maker, VALID, WELL_FORMED, Wanted};
 use crate::world::World;
 use crate::{fault, offer_fault};
 
+/// In a sparse world one point of n is of an earlier round.
+const BEHIND: usize = 10;
+
 /// The greatest round of the domain.
 const LAST_ROUND: u32 = 2_147_483_647;
 
@@ -87,6 +90,13 @@ impl Feeder {
         if let Some(place) = self.late.iter().position(|(before, _)| *before == 0) {
             return self.late.remove(place).1;
         }
+        if self.world.sparse
+            && self.random.chance(1, BEHIND)
+            && let Some(point) = self.make_behind(book)
+        {
+            self.maker.add(&point);
+            return point;
+        }
         loop {
             let Some(author) = self.authors.pop() else {
                 self.begin_round(book);
@@ -146,7 +156,7 @@ impl Feeder {
             1..12 => WELL_FORMED,
             _ => VALID,
         };
-        let wanted = Wanted { round: self.round, author, least_good };
+        let wanted = Wanted { round: self.round, author, least_good, certifies: false };
         let mut point = self.maker.point(random, &self.world, book, &wanted)?;
         if random.chance(1, self.habits.fault) {
             let before = self.round.saturating_sub(random.between(2, 6));
@@ -154,6 +164,17 @@ impl Feeder {
             fault::spoil(random, &self.world, other, &mut point);
         }
         Some(point)
+    }
+
+    /// A point of an earlier round, which certifies a point below ones that are certified already.
+    fn make_behind(&mut self, book: &Book) -> Option<Point> {
+        let round = self.round.saturating_sub(self.random.pick(&[1, 1, 2, 2, 3, 4, 8]));
+        if round <= self.world.settings.genesis_round + 1 {
+            return None;
+        }
+        let author = self.random.pick(self.world.peers(round));
+        let wanted = Wanted { round, author, least_good: WELL_FORMED, certifies: true };
+        self.maker.point(&mut self.random, &self.world, book, &wanted)
     }
 
     /// With the schedule and the leader of this time.

@@ -23,13 +23,15 @@ pub const WELL_FORMED: u8 = 1;
 pub const ANY: u8 = 2;
 
 /// In a sparse world one point of n includes its author's previous one.
-const SPARSE: usize = 8;
+const SPARSE: usize = 24;
 
 /// A new point's round and author, and the least good that it depends on where it has the choice.
 pub struct Wanted {
     pub round: u32,
     pub author: Peer,
     pub least_good: u8,
+    /// It includes its author's previous point in a sparse world too.
+    pub certifies: bool,
 }
 
 /// A dependency that was chosen, with its map.
@@ -105,7 +107,8 @@ impl Maker {
         let own = own.map(|place| ranked.remove(place));
         let majority = world.majority(below);
         let own = own.filter(|(good, _)| ranked.len() < majority || (*good < ANY && !random.chance(1, 12)));
-        let own = own.filter(|_| !world.sparse || ranked.len() < majority || random.chance(1, SPARSE));
+        let left_out = world.sparse && !wanted.certifies && ranked.len() >= majority;
+        let own = own.filter(|_| !left_out || random.chance(1, SPARSE));
         let least = majority - usize::from(own.is_some());
         if ranked.len() < least {
             return None;

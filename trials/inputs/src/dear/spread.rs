@@ -1,4 +1,4 @@
-//! Books in which much hangs below the previous point.
+//! Books in which the previous point has much below it.
 
 use book::{BESIDE_RECORD, Entry, LONGEST, Offer, State};
 use cases::random::Random;
