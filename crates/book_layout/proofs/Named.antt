@@ -7,12 +7,12 @@ use mathlib.Core.List.{List}
 use lib.ListN.{length, getD}
 use lib.Dec.{eqb}
 use borrow.Author.Tests.{eq-eqb, ne-eqb}
-use Rattle.base.specs.Base.{pick}
+use Rattle.base.specs.Base.{pick, isSome}
 use Rattle.base.proofs.Bool.{clash, last-false}
 use Rattle.base.proofs.Option.{picked, and-then, none-some}
 use Rattle.parts.specs.Bytes.{idAt}
-use Rattle.map.specs.Rows.{Pair, pairsOf, peersOf, peers, rising, has}
-use Rattle.map.proofs.Laws.{peers-pairsOf, has-get}
+use Rattle.map.specs.Rows.{Pair, pairsOf, peersOf, peers, rising, find}
+use Rattle.map.proofs.Laws.{peers-pairsOf, find-get}
 use Rattle.point.specs.Point.{PointId, Through, Includes, Witness, AnchorLink, Direct, Indirect, PointInfo, digestSafe}
 use Rattle.point.specs.Reading.{pointIdAt, readThrough, readLink}
 use Rattle.point.proofs.Laws.{MapOf}
@@ -41,17 +41,17 @@ module _ (link : List ℕ) (l : AnchorLink) (h : readLink link ≡ some l) where
     indirect-named k = let p = link-parts in rw (p .1 .1 .0 k)
 
     module _ (d : getD link 0 0 ≡ 1 → ⊥) (s : List ℕ) where
-      pub includes-named : q .includes ≡ pairsOf s → getD link 1 0 ≡ 0 → has (peersOf 64 s) (idAt link 2) ≡ isNamed q l
+      pub includes-named : q .includes ≡ pairsOf s → getD link 1 0 ≡ 0 → isSome (find (peersOf 64 s) (idAt link 2)) ≡ isNamed q l
       unfolding readThrough digestSafe
       includes-named e z =
           let p = link-parts in
           let t : p .0 ≡ Includes (idAt link 2) = let f = rw (eq-eqb (getD link 1 0) 0 z) at (p .1 .0) in cc in
-          rw (p .1 .1 .1 d, t, e, ← peers-pairsOf s) (has-get (pairsOf s) (idAt link 2))
+          rw (p .1 .1 .1 d, t, e, ← peers-pairsOf s) (find-get (pairsOf s) (idAt link 2))
 
-      pub witness-named : q .witness ≡ pairsOf s → (getD link 1 0 ≡ 0 → ⊥) → has (peersOf 64 s) (idAt link 2) ≡ isNamed q l
+      pub witness-named : q .witness ≡ pairsOf s → (getD link 1 0 ≡ 0 → ⊥) → isSome (find (peersOf 64 s) (idAt link 2)) ≡ isNamed q l
       unfolding readThrough digestSafe
       witness-named e z =
           let p = link-parts in
           let f = picked (eqb (getD link 1 0) 1) (some (Witness (idAt link 2))) (p .0) (rw (ne-eqb (getD link 1 0) 0 z) at (p .1 .0)) .1 in
           let t : p .0 ≡ Witness (idAt link 2) = cc in
-          rw (p .1 .1 .1 d, t, e, ← peers-pairsOf s) (has-get (pairsOf s) (idAt link 2))
+          rw (p .1 .1 .1 d, t, e, ← peers-pairsOf s) (find-get (pairsOf s) (idAt link 2))

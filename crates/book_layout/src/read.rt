@@ -1,6 +1,7 @@
 // An entry at the front of a slice.
 use crate::status::Status;
 use crate::zeros;
+use map::Position;
 use point::PointInfo;
 use point::ReadPoint;
 use point::Through;
@@ -16,6 +17,7 @@ ghost use Prim.Native.Nat.{_+_, _≤_};
 ghost use lib.ListN.{length, getD};
 ghost use Rattle.base.specs.Base.{isSome};
 ghost use Rattle.record.specs.Record.{startOf};
+ghost use Rattle.map.specs.Code.{positionOf};
 ghost use Rattle.record.specs.Code.{PlacesOf};
 ghost use Rattle.point.specs.Point as point;
 ghost use Rattle.point.specs.Code.{throughOf, pointOf, Reads};
@@ -188,18 +190,24 @@ fn entry_of(rec: &[u8], info: PointInfo, t: &[u8]) -> ReadKept
     })
 }
 
-// Whether the peer of a direct link is one of its map.
-fn has_peer(rec: &[u8], includes: usize, witness: usize, evidence: usize, link: &[u8]) -> bool
+// Where the peer of a direct link stands in its map.
+fn peer_position(
+    rec: &[u8],
+    includes: usize,
+    witness: usize,
+    evidence: usize,
+    link: &[u8],
+) -> Position
     requires { ⌜ (isSome (readPoint (now rec)) ≡ true) × ((34 ≤ length (now link)) × (getD (now link) 0 0 ≡ 1 → ⊥)) ⌝ }
     requires { ⌜ (includes ≡ startOf (now rec) 2) × ((witness ≡ startOf (now rec) 3) × (evidence ≡ startOf (now rec) 4)) ⌝ }
     ensures { λ r. ⌜ ((q : point.PointInfo) (l : point.AnchorLink) → readPoint (now (rec .entry)) ≡ some q →
-        readLink (now (link .entry)) ≡ some l → r ≡ isNamed q l) ⌝ }
+        readLink (now (link .entry)) ≡ some l → isSome (positionOf r) ≡ isNamed q l) ⌝ }
 {
     let peer = parts::id_at(link, 2);
     if link[1] == 0 {
-        return map::contains(record::content_from(rec, includes, witness, 2), 64, peer);
+        return map::search(record::content_from(rec, includes, witness, 2), 64, peer);
     }
-    map::contains(record::content_from(rec, witness, evidence, 3), 64, peer)
+    map::search(record::content_from(rec, witness, evidence, 3), 64, peer)
 }
 
 // Whether a link, if it is direct, names a peer of its map.
@@ -212,7 +220,11 @@ fn is_named(rec: &[u8], includes: usize, witness: usize, evidence: usize, link: 
     if link[0] == 1 {
         return true;
     }
-    has_peer(rec, includes, witness, evidence, link)
+    let position = peer_position(rec, includes, witness, evidence, link);
+    match position {
+        Position::At(_) => true,
+        Position::Absent => false,
+    }
 }
 
 // Whether both links of a record, where they are direct, name peers of their maps.
@@ -226,9 +238,9 @@ fn are_named(rec: &[u8], at: Places) -> bool
     if proof[0] == 1 {
         return is_named(rec, at.includes, at.witness, at.evidence, trigger);
     }
-    if !has_peer(rec, at.includes, at.witness, at.evidence, proof) {
+    let Position::At(_) = peer_position(rec, at.includes, at.witness, at.evidence, proof) else {
         return false;
-    }
+    };
     is_named(rec, at.includes, at.witness, at.evidence, trigger)
 }
 

@@ -6,16 +6,16 @@ use native.Mathlib.Decide.{decLt, ℕ-discrete}
 use mathlib.Core.Path.{_≡_, refl, ap, _∙_}
 use mathlib.Core.List.{List, [], _∷_}
 use mathlib.Core.Logic.{_⊎_, inl, inr, ⊎-elim}
-use mathlib.Core.Option.{Option, none, some}
-use mathlib.Core.Bool.{true, _&&_, and-eq-true-iff}
+use mathlib.Core.Option.{Option, none, some, Option·map}
+use mathlib.Core.Bool.{Bool, true, false, _&&_, and-eq-true-iff}
 use lib.ListN.{length, getD, drop, length-drop}
 use lib.Seq.{drop-cons}
 use lib.Dec.{ltb, eqb}
 use borrow.Author.Tests.{ltb-true, eqb-true, eq-eqb, ne-eqb}
-use Rattle.base.specs.Base.{isSome, tabulate}
+use Rattle.base.specs.Base.{pick, isSome, tabulate}
 use Rattle.base.proofs.Lists.{tabulate-length, tabulate-at}
 use Rattle.base.proofs.Impossible.{impossible}
-use Rattle.map.specs.Rows.{Pair, peerAt, pairAt, peersOf, pairsOf, rising, wellRowed, findFrom, find, has, peers, digests, get}
+use Rattle.map.specs.Rows.{Pair, peerAt, pairAt, peersOf, pairsOf, rising, wellRowed, findFrom, find, peers, digests, get}
 
 -- ---- rows of any width
 
@@ -199,34 +199,52 @@ find-rising l x n r h e =
 
 -- ---- the digest beside a peer
 
-get-first : (l : List Pair) (x n : ℕ) → First (peers l) x n → get l x ≡ some (getD (digests l) n 0)
-unfolding peers digests get
-get-first [] x n f = absurd (omega (arith, f .inside))
-get-first (q ∷ l) x zero f = rw (eq-eqb (q .peer) x (f .here))
-get-first (q ∷ l) x (suc n) f =
-    rw (ne-eqb (q .peer) x (f .before 0 (omega arith)))
-    (get-first l x n (record { inside = omega (arith, f .inside); here = f .here; before = λ k g. f .before (suc k) (omega arith) }))
+find-later : (l : List ℕ) (x i : ℕ) → findFrom (suc i) l x ≡ Option·map suc (findFrom i l x)
+unfolding findFrom
+find-later [] x i = refl
+find-later (y ∷ l) x i = go (eqb y x) (find-later l x (suc i))
+  where
+    go : (b : Bool) → findFrom (suc (suc i)) l x ≡ Option·map suc (findFrom (suc i) l x) →
+        pick b (some (suc i)) (findFrom (suc (suc i)) l x) ≡ Option·map suc (pick b (some i) (findFrom (suc i) l x))
+    go true h = refl
+    go false h = h
 
-get-nowhere : (l : List Pair) (x : ℕ) → Nowhere (peers l) x → get l x ≡ none
-unfolding peers get
-get-nowhere [] x b = refl
-get-nowhere (q ∷ l) x b = rw (ne-eqb (q .peer) x (b 0 (omega arith))) (get-nowhere l x (λ k g. b (suc k) (omega arith)))
+pub get-empty : (x : ℕ) → get [] x ≡ none
+unfolding get find findFrom peers
+get-empty x = refl
+
+-- row by row
+pub get-next : (q : Pair) (l : List Pair) (x : ℕ) → get (q ∷ l) x ≡ pick (eqb (q .peer) x) (some (q .digest)) (get l x)
+unfolding get find findFrom peers digests
+get-next q l x = go (eqb (q .peer) x)
+  where
+    later : (o : Option ℕ) → Option·map (λ n. getD (q .digest ∷ digests l) n 0) (Option·map suc o) ≡ Option·map (λ n. getD (digests l) n 0) o
+    later none = refl
+    later (some n) = refl
+
+    go : (b : Bool) →
+        Option·map (λ n. getD (q .digest ∷ digests l) n 0) (pick b (some 0) (findFrom 1 (peers l) x))
+        ≡ pick b (some (q .digest)) (Option·map (λ n. getD (digests l) n 0) (findFrom 0 (peers l) x))
+    go true = refl
+    go false = ap (Option·map (λ n. getD (q .digest ∷ digests l) n 0)) (find-later (peers l) x 0) ∙ later (findFrom 0 (peers l) x)
 
 module _ (l : List Pair) (x : ℕ) where
   pub get-some : (n : ℕ) → find (peers l) x ≡ some n → get l x ≡ some (getD (digests l) n 0)
-  get-some n e = get-first l x n (find-some (peers l) x n e)
+  unfolding get
+  get-some n e = rw e
 
   pub get-none : find (peers l) x ≡ none → get l x ≡ none
-  get-none e = get-nowhere l x (find-none (peers l) x e)
+  unfolding get
+  get-none e = rw e
 
-  -- a peer is in a map exactly if a digest stands beside it
-  pub has-get : has (peers l) x ≡ isSome (get l x)
-  unfolding has
-  has-get = go (find (peers l) x) refl
+  -- a peer has a position in a map exactly if a digest stands beside it
+  pub find-get : isSome (find (peers l) x) ≡ isSome (get l x)
+  unfolding get
+  find-get = go (find (peers l) x)
     where
-      go : (o : Option ℕ) → find (peers l) x ≡ o → isSome (find (peers l) x) ≡ isSome (get l x)
-      go none e = rw (e, get-none e)
-      go (some n) e = rw (e, get-some n e)
+      go : (o : Option ℕ) → isSome o ≡ isSome (Option·map (λ n. getD (digests l) n 0) o)
+      go none = refl
+      go (some n) = refl
 
 -- ---- halving: what is known of a rising list while a peer is looked for between lo and hi
 

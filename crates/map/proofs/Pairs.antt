@@ -1,7 +1,7 @@
 -- Laws of the pairs of a map: a rising map, and what a peer gets.
 use Prim.Native.Nat.{ℕ, _<_}
 use native.Mathlib.Omega.{arith}
-use mathlib.Core.Path.{_≡_, refl, sym, ap}
+use mathlib.Core.Path.{_≡_, refl, sym, ap, _∙_}
 use mathlib.Core.Logic.{_⊎_, inl, inr}
 use mathlib.Core.Bool.{Bool, true, false}
 use mathlib.Core.Option.{some}
@@ -12,6 +12,7 @@ use Rattle.base.specs.Base.{pick, isSome}
 use Rattle.base.proofs.Bool.{clash, and-left, and-right}
 use Rattle.base.proofs.Option.{none-some}
 use Rattle.map.specs.Rows.{Pair, rising, peers, get}
+use Rattle.map.proofs.Laws.{get-empty, get-next}
 
 pub rising-tail : (x : ℕ) (l : List ℕ) → rising (x ∷ l) ≡ true → rising l ≡ true
 unfolding rising
@@ -33,9 +34,8 @@ rising-below x (y ∷ l) q r m = go (λ n. rising-below (y .peer) l q (and-right
 
 -- a peer of a map is found there
 pub get-there : (l : List Pair) (q : Pair) → List·Memᴰ q l → isSome (get l (q .peer)) ≡ true
-unfolding get
 get-there [] q m = absurd (List·Memᴰ·not-nil m)
-get-there (x ∷ l) q m = go (eqb (x .peer) (q .peer)) refl (get-there l q) (List·Memᴰ·cases-cons m)
+get-there (x ∷ l) q m = rw (get-next x l (q .peer)) (go (eqb (x .peer) (q .peer)) refl (get-there l q) (List·Memᴰ·cases-cons m))
   where
     go : (t : Bool) → eqb (x .peer) (q .peer) ≡ t → (List·Memᴰ q l → isSome (get l (q .peer)) ≡ true) → (q ≡ x) ⊎ List·Memᴰ q l →
         isSome (pick t (some (x .digest)) (get l (q .peer))) ≡ true
@@ -45,9 +45,9 @@ get-there (x ∷ l) q m = go (eqb (x .peer) (q .peer)) refl (get-there l q) (Lis
 
 -- a pair of a rising map is what its peer gets
 pub member-get : (l : List Pair) (q : Pair) → rising (peers l) ≡ true → List·Memᴰ q l → get l (q .peer) ≡ some (q .digest)
-unfolding get peers
+unfolding peers
 member-get [] q r m = absurd (List·Memᴰ·not-nil m)
-member-get (y ∷ l) q r m = go (member-get l q (rising-tail (y .peer) (peers l) r)) (List·Memᴰ·cases-cons m)
+member-get (y ∷ l) q r m = rw (get-next y l (q .peer)) (go (member-get l q (rising-tail (y .peer) (peers l) r)) (List·Memᴰ·cases-cons m))
   where
     go : (List·Memᴰ q l → get l (q .peer) ≡ some (q .digest)) → (q ≡ y) ⊎ List·Memᴰ q l →
         pick (eqb (y .peer) (q .peer)) (some (y .digest)) (get l (q .peer)) ≡ some (q .digest)
@@ -58,9 +58,8 @@ member-get (y ∷ l) q r m = go (member-get l q (rising-tail (y .peer) (peers l)
 
 -- what a peer gets is a pair of the map
 pub get-member : (l : List Pair) (x d : ℕ) → get l x ≡ some d → List·Memᴰ (record { peer = x; digest = d }) l
-unfolding get
-get-member [] x d h = none-some h
-get-member (q ∷ l) x d h = go (eqb (q .peer) x) refl (get-member l x d) h
+get-member [] x d h = none-some (sym (get-empty x) ∙ h)
+get-member (q ∷ l) x d h = go (eqb (q .peer) x) refl (get-member l x d) (sym (get-next q l x) ∙ h)
   where
     go : (b : Bool) → eqb (q .peer) x ≡ b → (get l x ≡ some d → List·Memᴰ (record { peer = x; digest = d }) l) →
         pick b (some (q .digest)) (get l x) ≡ some d →

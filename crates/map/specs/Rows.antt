@@ -1,11 +1,11 @@
 -- What the bytes of a set or a map mean: rising peers, or pairs of a peer and a digest.
 use Prim.Native.Nat.{ℕ, suc, _+_, _*_, _/_, _%_}
 use mathlib.Core.List.{List, [], _∷_}
-use mathlib.Core.Option.{Option, none, some}
+use mathlib.Core.Option.{Option, none, some, Option·map}
 use mathlib.Core.Bool.{Bool, true, _&&_}
-use lib.ListN.{length}
+use lib.ListN.{length, getD}
 use lib.Dec.{ltb, eqb}
-use Rattle.base.specs.Base.{pick, isSome, tabulate}
+use Rattle.base.specs.Base.{pick, tabulate}
 use Rattle.parts.specs.Bytes.{idAt}
 
 -- ---- the arrangement of the bytes stands in the next two definitions alone
@@ -53,14 +53,10 @@ unfoldable pub findFrom : ℕ → List ℕ → ℕ → Option ℕ
 findFrom i [] x = none
 findFrom i (y ∷ l) x = pick (eqb y x) (some i) (findFrom (suc i) l x)
 
+-- the one question whether a peer is in a set or a map: its position, or none. FastHashSet::contains and FastHashMap::contains_key
 unfoldable pub find : List ℕ → ℕ → Option ℕ
 unfolding findFrom
 find l x = findFrom 0 l x
-
--- FastHashSet::contains
-unfoldable pub has : List ℕ → ℕ → Bool
-unfolding find
-has l x = isSome (find l x)
 
 unfoldable pub peers : List Pair → List ℕ
 peers [] = []
@@ -70,7 +66,7 @@ unfoldable pub digests : List Pair → List ℕ
 digests [] = []
 digests (q ∷ l) = q .digest ∷ digests l
 
--- FastHashMap::get
+-- FastHashMap::get: the digest at the peer's position
 unfoldable pub get : List Pair → ℕ → Option ℕ
-get [] x = none
-get (q ∷ l) x = pick (eqb (q .peer) x) (some (q .digest)) (get l x)
+unfolding find peers digests
+get l x = Option·map (λ n. getD (digests l) n 0) (find (peers l) x)

@@ -8,7 +8,7 @@ ghost use Prim.Native.Nat.{_≤_, _<_};
 ghost use lib.ListN.{length, getD};
 ghost use Rattle.parts.specs.Code.{number};
 ghost use Rattle.parts.specs.Parts.{order};
-ghost use Rattle.map.specs.Rows.{peersOf, pairsOf, digests, rising, wellRowed, find, has, peers, get};
+ghost use Rattle.map.specs.Rows.{peersOf, pairsOf, digests, rising, wellRowed, find, peers, get};
 ghost use Rattle.map.specs.Code.{positionOf, foundOf};
 
 // Where a peer stands.
@@ -117,18 +117,6 @@ pub fn search(rows: &[u8], width: usize, peer: Id) -> Position
         }
     }
     Position::Absent
-}
-
-// Whether a peer stands among rising rows.
-pub fn contains(rows: &[u8], width: usize, peer: Id) -> bool
-    requires { ⌜ (32 ≤ width) × (rising (peersOf width (now rows)) ≡ true) ⌝ }
-    ensures { λ r. ⌜ r ≡ has (peersOf width (now (rows .entry))) (number peer) ⌝ }
-{
-    let position = search(rows, width, peer);
-    match position {
-        Position::At(_) => true,
-        Position::Absent => false,
-    }
 }
 
 // The digest beside a peer of a rising map.

@@ -7,7 +7,7 @@ use mathlib.Core.Option.{Option, none, some}
 use mathlib.Core.List.{List, _++_}
 use Rattle.base.specs.Base.{concat, lastOf}
 use Rattle.base.proofs.Impossible.{impossible}
-use Rattle.map.specs.Rows.{get, find, findFrom, has, peers}
+use Rattle.map.specs.Rows.{get, find, findFrom, peers, digests}
 use Rattle.point.specs.Point.{PointInfo, digestSafe, prevDigest, source, target, top, sameId}
 use Rattle.point.specs.declared.data.PointMap.the-variants as map
 use Rattle.schedule.specs.Settings.{Settings}
@@ -54,7 +54,7 @@ authorIn none = 0
 authorIn (some d) = d .to .author
 
 pub joined : Joined
-unfolding concat lastOf get find findFrom has peers digestSafe prevDigest conf source target top dagRound sameId proofRow triggerProofRow timeRow newerRow stickyRow reachedRow targetRow anchorTimeRow carriedRow sourceRow pointRows taken dependencyTrail recordOf isNewer join dependency entryFindings checkValid checkIndirectLinks overLists anchorRows linkIds pointView depView directs indirects
+unfolding concat lastOf get find findFrom peers digests digestSafe prevDigest conf source target top dagRound sameId proofRow triggerProofRow timeRow newerRow stickyRow reachedRow targetRow anchorTimeRow carriedRow sourceRow pointRows taken dependencyTrail recordOf isNewer join dependency entryFindings checkValid checkIndirectLinks overLists anchorRows linkIds pointView depView directs indirects
 joined =
     record {
       newer = newer-replaces;

@@ -8,7 +8,7 @@ use lib.ListN.{length}
 use lib.Dec.{leb, ltb, eqb}
 use Rattle.base.specs.Base.{pick, when, concat, firstOf, isSome, isEmpty}
 use Rattle.parts.specs.Parts.{oneF, majority, majorityOfOthers}
-use Rattle.map.specs.Rows.{has, peers}
+use Rattle.map.specs.Rows.{find, peers}
 use Rattle.point.specs.Point.{Through, Includes, Witness, AnchorLink, Direct, Indirect, PointInfo, isAnchorTrigger, requiresPrevPoint, throughRound, digestSafe}
 use Rattle.point.specs.Point.{prevDigest, Sticky, stickyAnchors, through, targetRound}
 use Rattle.point.specs.declared.data.PointRole.{PointRole}
@@ -40,9 +40,9 @@ badCount c round len =
 
 -- "unknown peers in anchor {0:?} link target": of an indirect link alone
 unfoldable pub unknownTarget : Schedule → AnchorLink → Bool
-unfolding has peersFor
+unfolding find peersFor
 unknownTarget s (Direct t) = false
-unknownTarget s (Indirect to t) = not (has (peersFor s (to .round)) (to .author))
+unknownTarget s (Indirect to t) = not (isSome (find (peersFor s (to .round)) (to .author)))
 
 -- the peer set of a round, asked for a map
 unfoldable pub vsetRow : Settings → Schedule → ℕ → PointMap → List VerifyError
@@ -52,11 +52,11 @@ vsetRow c s round m =
     (Fail (record { len = length (peersFor s round); round = round; map = m }))
 
 unfoldable pub newRows : Settings → Schedule → PointInfo → List (List VerifyError)
-unfolding vsetRow unknownTarget has peersFor
+unfolding vsetRow unknownTarget find peersFor
 newRows c s p =
     when (ltb (p .id .round) (c .genesisRound)) (IllFormed BeforeGenesis)
     ∷ vsetRow c s (p .id .round) map.Evidence
-    ∷ when (not (has (peersFor s (p .id .round)) (p .id .author))) (IllFormed UnknownAuthor)
+    ∷ when (not (isSome (find (peersFor s (p .id .round)) (p .id .author)))) (IllFormed UnknownAuthor)
     ∷ vsetRow c s (p .id .round - 1) map.Includes
     ∷ vsetRow c s (p .id .round - 2) map.Witness
     ∷ when (unknownTarget s (p .anchorProof)) (IllFormed (UnknownPeerInAnchorLink Proof))
@@ -112,12 +112,12 @@ equal false b = not b
 
 -- PointData::check_non_genesis_structure: the author's own points
 unfoldable pub ownPointRows : PointInfo → List (List StructureIssue)
-unfolding prevDigest has
+unfolding prevDigest find
 ownPointRows p =
     when (requiresPrevPoint (p .role) && not (isSome (prevDigest p))) NoPrevPoint
     ∷ when (equal (isEmpty (p .evidence)) (isSome (prevDigest p))) (AuthorInMap map.Includes)
-    ∷ when (has (p .evidence) (p .id .author)) (AuthorInMap map.Evidence)
-    ∷ when (has (peers (p .witness)) (p .id .author)) (AuthorInMap map.Witness)
+    ∷ when (isSome (find (p .evidence) (p .id .author))) (AuthorInMap map.Evidence)
+    ∷ when (isSome (find (peers (p .witness)) (p .id .author))) (AuthorInMap map.Witness)
     ∷ []
 
 -- the same: its anchor links and its times

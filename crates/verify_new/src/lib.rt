@@ -1,4 +1,5 @@
 // BasicVerifierInner::new: the peer sets of the point's rounds, its author, and the targets of its links.
+use map::Position;
 use parts::Id;
 use parts::PeerCount;
 use parts::PeerCountAnswer;
@@ -16,7 +17,8 @@ ghost use mathlib.Core.Path.{_≡_};
 ghost use mathlib.Core.Option.{some};
 ghost use Rattle.base.specs.Base.{concat, firstOf};
 ghost use Rattle.parts.specs.Code.{number};
-ghost use Rattle.map.specs.Rows.{has};
+ghost use Rattle.map.specs.Rows.{find};
+ghost use Rattle.map.specs.Code.{positionOf};
 ghost use Rattle.schedule.specs.Code.{settingsOf, scheduleOf};
 ghost use Rattle.schedule.specs.Schedule.{readSchedule, peersFor};
 ghost use Rattle.point.specs.Code.{linkOf, pointOf};
@@ -57,12 +59,12 @@ fn check_vset(
     Verified::Passed
 }
 
-// Whether a peer is scheduled at a round.
-fn is_scheduled(schedule: &[u8], spans: Schedule, round: u32, peer: Id) -> bool
+// Where a peer stands among those that are scheduled at a round.
+fn scheduled_at(schedule: &[u8], spans: Schedule, round: u32, peer: Id) -> Position
     requires { ⌜ readSchedule (now schedule) ≡ some (scheduleOf (now schedule) spans) ⌝ }
-    ensures { λ r. ⌜ r ≡ has (peersFor (scheduleOf (now (schedule .entry)) spans) round) (number peer) ⌝ }
+    ensures { λ r. ⌜ positionOf r ≡ find (peersFor (scheduleOf (now (schedule .entry)) spans) round) (number peer) ⌝ }
 {
-    map::contains(schedule::peers_for(schedule, spans, round), 32, peer)
+    map::search(schedule::peers_for(schedule, spans, round), 32, peer)
 }
 
 // Whether the target of a link has an author who is not scheduled at its round.
@@ -74,7 +76,11 @@ fn is_unknown_target(schedule: &[u8], spans: Schedule, link: AnchorLink) -> bool
         AnchorLink::Direct(_) => false,
         AnchorLink::Indirect(indirect) => {
             let to = indirect.to;
-            !is_scheduled(schedule, spans, to.round, to.author)
+            let position = scheduled_at(schedule, spans, to.round, to.author);
+            match position {
+                Position::At(_) => false,
+                Position::Absent => true,
+            }
         }
     }
 }
@@ -100,9 +106,9 @@ pub fn check_new(
     let Verified::Passed = same_round else {
         return same_round;
     };
-    if !is_scheduled(schedule, spans, round, id.author) {
+    let Position::At(_) = scheduled_at(schedule, spans, round, id.author) else {
         return Verified::Failed(VerifyError::IllFormed(IllFormedReason::UnknownAuthor));
-    }
+    };
     let prev = parts::rounds_back(round, 1);
     let includes = check_vset(conf, schedule, spans, prev, PointMap::Includes);
     let Verified::Passed = includes else {

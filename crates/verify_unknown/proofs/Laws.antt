@@ -10,28 +10,26 @@ use lib.ListN.{length, getD, take, length-append}
 use lib.Seq.{take-suc, take-all}
 use lib.Dec.{ltb}
 use borrow.Author.Tests.{ltb-true, lt-ltb, le-ltb}
-use Rattle.base.specs.Base.{pick}
+use Rattle.base.specs.Base.{pick, isSome}
 use Rattle.base.proofs.Impossible.{impossible}
 use Rattle.parts.specs.Bytes.{bigBytes, putAt}
 use Rattle.parts.specs.Parts.{order}
 use Rattle.parts.specs.declared.Order.the-variants.{Less, Same, More}
 use Rattle.parts.proofs.Laws.{order-less, order-same, order-more}
 use Rattle.write.proofs.Laws.{bytes-length, put-length, put-put, put-nothing}
-use Rattle.map.specs.Rows.{rising, has}
+use Rattle.map.specs.Rows.{rising, find}
 use Rattle.map.proofs.Laws.{Nowhere, rising-less, find-rising, find-nowhere}
 use Rattle.map.proofs.Pairs.{rising-tail}
 use Rattle.rules.specs.Unknown.{unknownIn, peerBytes}
 use Rattle.verify_unknown.specs.Code.{orderAt}
 
--- ---- membership
+-- ---- positions
 
-pub has-here : (l : List ℕ) (x n : ℕ) → rising l ≡ true → n < length l → getD l n 0 ≡ x → has l x ≡ true
-unfolding has
-has-here l x n r h e = rw (find-rising l x n r h e)
+found-here : (l : List ℕ) (x n : ℕ) → rising l ≡ true → n < length l → getD l n 0 ≡ x → isSome (find l x) ≡ true
+found-here l x n r h e = ap isSome (find-rising l x n r h e)
 
-pub has-nowhere : (l : List ℕ) (x : ℕ) → Nowhere l x → has l x ≡ false
-unfolding has
-has-nowhere l x b = rw (find-nowhere l x b)
+found-nowhere : (l : List ℕ) (x : ℕ) → Nowhere l x → isSome (find l x) ≡ false
+found-nowhere l x b = ap isSome (find-nowhere l x b)
 
 -- ---- the scheduled peer at a position beside a peer
 
@@ -64,7 +62,7 @@ module _ (k : List ℕ) (j x : ℕ) where
 unknown-append : (k a b : List ℕ) → unknownIn k (a ++ b) ≡ unknownIn k a ++ unknownIn k b
 unfolding unknownIn
 unknown-append k [] b = refl
-unknown-append k (x ∷ a) b = go (has k x) (unknown-append k a b)
+unknown-append k (x ∷ a) b = go (isSome (find k x)) (unknown-append k a b)
   where
     go : (t : Bool) → unknownIn k (a ++ b) ≡ unknownIn k a ++ unknownIn k b →
         pick t (unknownIn k (a ++ b)) (x ∷ unknownIn k (a ++ b)) ≡ pick t (unknownIn k a) (x ∷ unknownIn k a) ++ unknownIn k b
@@ -75,7 +73,7 @@ unknown-append k (x ∷ a) b = go (has k x) (unknown-append k a b)
 pub unknown-few : (k l : List ℕ) → length (unknownIn k l) ≤ length l
 unfolding unknownIn
 unknown-few k [] = omega arith
-unknown-few k (x ∷ l) = go (has k x) (unknown-few k l)
+unknown-few k (x ∷ l) = go (isSome (find k x)) (unknown-few k l)
   where
     go : (t : Bool) → length (unknownIn k l) ≤ length l → length (pick t (unknownIn k l) (x ∷ unknownIn k l)) ≤ suc (length l)
     go true e = omega arith
@@ -95,7 +93,7 @@ unfolding unknownIn rising
 rising-from k x [] r = refl
 rising-from k x (y ∷ l) r =
     let p = and-eq-true-iff (ltb x y) (rising (y ∷ l)) .0 r in
-    go (has k y) (p .0) (rising-from k x l (skip x y l (ltb-true x y (p .0)) (p .1))) (rising-from k y l (p .1))
+    go (isSome (find k y)) (p .0) (rising-from k x l (skip x y l (ltb-true x y (p .0)) (p .1))) (rising-from k y l (p .1))
   where
     go : (t : Bool) → ltb x y ≡ true → rising (x ∷ unknownIn k l) ≡ true → rising (y ∷ unknownIn k l) ≡ true → rising (x ∷ pick t (unknownIn k l) (y ∷ unknownIn k l)) ≡ true
     go true h e f = e
@@ -105,7 +103,7 @@ rising-from k x (y ∷ l) r =
 pub unknown-rising : (k l : List ℕ) → rising l ≡ true → rising (unknownIn k l) ≡ true
 unfolding unknownIn rising
 unknown-rising k [] r = refl
-unknown-rising k (x ∷ l) r = go (has k x) (unknown-rising k l (rising-tail x l r)) (rising-from k x l r)
+unknown-rising k (x ∷ l) r = go (isSome (find k x)) (unknown-rising k l (rising-tail x l r)) (rising-from k x l r)
   where
     go : (t : Bool) → rising (unknownIn k l) ≡ true → rising (x ∷ unknownIn k l) ≡ true → rising (pick t (unknownIn k l) (x ∷ unknownIn k l)) ≡ true
     go true e f = e
@@ -116,11 +114,11 @@ module _ (k r : List ℕ) (i : ℕ) (h : i < length r) where
   one-more : unknownIn k (take (i + 1) r) ≡ unknownIn k (take i r) ++ unknownIn k (getD r i 0 ∷ [])
   one-more = rw (add-one, take-suc r i 0 h) (unknown-append k (take i r) (getD r i 0 ∷ []))
 
-  known-next : has k (getD r i 0) ≡ true → unknownIn k (take (i + 1) r) ≡ unknownIn k (take i r)
+  known-next : isSome (find k (getD r i 0)) ≡ true → unknownIn k (take (i + 1) r) ≡ unknownIn k (take i r)
   unfolding unknownIn
   known-next e = one-more ∙ rw e (append-nil (unknownIn k (take i r)))
 
-  unknown-next : has k (getD r i 0) ≡ false → unknownIn k (take (i + 1) r) ≡ unknownIn k (take i r) ++ (getD r i 0 ∷ [])
+  unknown-next : isSome (find k (getD r i 0)) ≡ false → unknownIn k (take (i + 1) r) ≡ unknownIn k (take i r) ++ (getD r i 0 ∷ [])
   unfolding unknownIn
   unknown-next e = one-more ∙ rw e
 
@@ -195,7 +193,7 @@ module _ (k r old out : List ℕ) (i j found : ℕ) (w : Walked k r old out i j 
       pub walked-same : orderAt k j (getD r i 0) ≡ Same → Walked k r old out (i + 1) (j + 1) found
       walked-same o =
           let p = orderAt-same k j (getD r i 0) o in
-          let e = known-next k r i h (has-here k (getD r i 0) j set-rises (p .0) (p .1)) in
+          let e = known-next k r i h (found-here k (getD r i 0) j set-rises (p .0) (p .1)) in
           record {
             passed = λ a g f. elim (decLt a j) [
               | yes q ↦ passed-next a q f
@@ -221,7 +219,7 @@ module _ (k r old out : List ℕ) (i j found : ℕ) (w : Walked k r old out i j 
           Walked k r old (putAt out (32 * found) (bigBytes 32 (getD r i 0))) (i + 1) j (found + 1)
       walked-more room o =
           let x = getD r i 0 in
-          let e = unknown-next k r i h (has-nowhere k x (between (orderAt-more k j x o))) in
+          let e = unknown-next k r i h (found-nowhere k x (between (orderAt-more k j x o))) in
           let n = w .few in
           record {
             passed = passed-next;

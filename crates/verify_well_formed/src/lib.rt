@@ -1,5 +1,6 @@
 // check_well_formed, with PointInfo::check_structure and PointData::check_non_genesis_structure.
 use map::Found;
+use map::Position;
 use point::AnchorLink;
 use point::AnchorStageRole;
 use point::PointInfo;
@@ -177,12 +178,12 @@ fn check_own_points(rec: &[u8], info: PointInfo) -> Checked
     if equal(map::count(evidence, 32) == 0, has_prev_point) {
         return Checked::Issue(StructureIssue::AuthorInMap(PointMap::Includes));
     }
-    if map::contains(evidence, 32, id.author) {
+    let Position::Absent = map::search(evidence, 32, id.author) else {
         return Checked::Issue(StructureIssue::AuthorInMap(PointMap::Evidence));
-    }
-    if map::contains(point::witness(rec, info), 64, id.author) {
+    };
+    let Position::Absent = map::search(point::witness(rec, info), 64, id.author) else {
         return Checked::Issue(StructureIssue::AuthorInMap(PointMap::Witness));
-    }
+    };
     Checked::Sound
 }
 

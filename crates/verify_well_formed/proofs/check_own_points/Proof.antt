@@ -10,7 +10,9 @@ use denote.Ref.{now}
 use Rattle.base.specs.Base.{concat, firstOf, isSome, isEmpty}
 use Rattle.base.proofs.Tables.{row-here, row-after, last-test}
 use Rattle.base.proofs.Lists.{empty-length}
-use Rattle.map.specs.Rows.{peersOf, pairsOf, has, peers, rising}
+use Rattle.map.specs.Rows.{peersOf, pairsOf, find, peers, rising}
+use Rattle.map.specs.Code.{positionOf}
+use Rattle.map.specs.declared.Position.{Position}
 use Rattle.map.proofs.Laws.{peers-pairsOf}
 use Rattle.point.specs.Point.{PointInfo, prevDigest, requiresPrevPoint}
 use Rattle.point.specs.Code.{pointOf}
@@ -54,24 +56,24 @@ unequal c =
     let empty : eqb (c .before .count .result) 0 ≡ isEmpty (p .evidence) = rw (c .before .count .ensures, evidence e) (sym (empty-length (p .evidence))) in
     sym (c .equal .ensures ∙ (ap (λ (b : Bool). equal b (f .is-found .result)) empty ∙ ap (equal (isEmpty (p .evidence))) (prev f)))
 
-among-evidence : (c : tie.After-contains) →
+in-evidence : (c : tie.After-search) →
     let p = point (cut (c .before .before .before .before)) in
-    has (p .evidence) (p .id .author) ≡ c .contains .result
-among-evidence c =
+    isSome (find (p .evidence) (p .id .author)) ≡ isSome (positionOf (c .search .result))
+in-evidence c =
     let e = c .before .before .before .before in
-    sym (c .contains .ensures ∙ ap (λ (l : List ℕ). has l (point (cut e) .id .author)) (evidence e))
+    ap isSome (sym (c .search .ensures ∙ ap (λ (l : List ℕ). find l (point (cut e) .id .author)) (evidence e)))
 
 abbrev past : tie.After-witness → tie.After-evidence
-past c = c .before .before .before .before .before .before
+past c = c .before .before .before .before .before .before .before
 
 witness : (c : tie.After-witness) → peersOf 64 (now (c .witness .result)) ≡ peers (point (cut (past c)) .witness)
 witness c = sym (peers-pairsOf (now (c .witness .result))) ∙ ap (λ (l : List ℕ). peers (pairsOf l)) (c .witness .ensures)
 
-among-witness : (c : tie.After-contains2) →
+in-witness : (c : tie.After-search2) →
     let p = point (cut (past (c .before))) in
-    has (peers (p .witness)) (p .id .author) ≡ c .contains2 .result
-among-witness c =
-    sym (c .contains2 .ensures ∙ ap (λ (l : List ℕ). has l (point (cut (past (c .before))) .id .author)) (witness (c .before)))
+    isSome (find (peers (p .witness)) (p .id .author)) ≡ isSome (positionOf (c .search2 .result))
+in-witness c =
+    ap isSome (sym (c .search2 .ensures ∙ ap (λ (l : List ℕ). find l (point (cut (past (c .before))) .id .author)) (witness (c .before))))
 
 -- what is left of the table
 has-prev : (c : tie.Else1) →
@@ -86,11 +88,11 @@ proven : (c : tie.Else2) →
 unfolding ownPointRows
 proven c = has-prev (c .before .before .before .before) ∙ row-after _ _ _ (unequal (c .before) ∙ c .if2 .left)
 
-not-evidence : (c : tie.Else3) →
-    let p = point (cut (c .before .before .before .before .before)) in
+not-evidence : (c : tie.After-enum-told) →
+    let p = point (cut (c .before .before .before .before .before .before)) in
     firstOf (concat (ownPointRows p)) ≡ firstOf (concat (drop 3 (ownPointRows p)))
 unfolding ownPointRows
-not-evidence c = proven (c .before .before) ∙ row-after _ _ _ (among-evidence (c .before) ∙ c .if3 .left)
+not-evidence c = proven (c .before .before .before) ∙ row-after _ _ _ (in-evidence (c .before .before) ∙ ap (λ (x : Position). isSome (positionOf x)) (c .enum-told .given .1))
 
 prev-digest-requires : tie.Need-prev-digest-requires
 prev-digest-requires c κs = search needs
@@ -118,28 +120,40 @@ returns-2 : tie.Need-returns-2
 unfolding ownPointRows
 returns-2 c = sym (has-prev (c .before .before .before .before) ∙ row-here _ _ _ (unequal (c .before) ∙ c .if2 .taken))
 
-contains-requires : tie.Need-contains-requires
-contains-requires c κs =
+search-requires : tie.Need-search-requires
+search-requires c κs =
     let e = c .before .before .before in
     (omega arith, ap rising (evidence e) ∙ readable _ _ (cut e .pre .read) .evidence .rise)
 
+enum-told : tie.Need-enum-told
+enum-told c = search needs
+
+enum-told-2 : tie.Need-enum-told-2
+enum-told-2 c = search needs
+
 returns-3 : tie.Need-returns-3
 unfolding ownPointRows
-returns-3 c = sym (proven (c .before .before) ∙ row-here _ _ _ (among-evidence (c .before) ∙ c .if3 .taken))
+returns-3 c = sym (proven (c .before .before .before) ∙ row-here _ _ _ (in-evidence (c .before .before) ∙ ap (λ (x : Position). isSome (positionOf x)) (c .enum-told2 .given .1)))
 
 witness-requires : tie.Need-witness-requires
 witness-requires c κs = search needs
 
-contains-requires-2 : tie.Need-contains-requires-2
-contains-requires-2 c κs = (omega arith, ap rising (witness c) ∙ readable _ _ (cut (past c) .pre .read) .witness .rise)
+search-requires-2 : tie.Need-search-requires-2
+search-requires-2 c κs = (omega arith, ap rising (witness c) ∙ readable _ _ (cut (past c) .pre .read) .witness .rise)
+
+enum-told-3 : tie.Need-enum-told-3
+enum-told-3 c = search needs
+
+enum-told-4 : tie.Need-enum-told-4
+enum-told-4 c = search needs
 
 returns-4 : tie.Need-returns-4
 unfolding ownPointRows
-returns-4 c = sym (not-evidence (c .before .before .before) ∙ row-here _ _ _ (among-witness (c .before) ∙ c .if4 .taken))
+returns-4 c = sym (not-evidence (c .before .before .before .before) ∙ row-here _ _ _ (in-witness (c .before .before) ∙ ap (λ (x : Position). isSome (positionOf x)) (c .enum-told4 .given .1)))
 
 returns-5 : tie.Need-returns-5
 unfolding ownPointRows
-returns-5 c = sym (not-evidence (c .before .before .before) ∙ last-test _ _ (among-witness (c .before) ∙ c .if4 .left))
+returns-5 c = sym (not-evidence (c .before .before .before .before) ∙ last-test _ _ (in-witness (c .before .before) ∙ ap (λ (x : Position). isSome (positionOf x)) (c .enum-told3 .given .1)))
 
 pub check-own-points-spec : {M : Type 1} → statement M
 check-own-points-spec =
@@ -153,9 +167,13 @@ check-own-points-spec =
     count-requires
     equal-requires
     returns-2
-    contains-requires
+    search-requires
+    enum-told
+    enum-told-2
     returns-3
     witness-requires
-    contains-requires-2
+    search-requires-2
+    enum-told-3
+    enum-told-4
     returns-4
     returns-5)

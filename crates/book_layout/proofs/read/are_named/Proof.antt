@@ -5,14 +5,17 @@ use mathlib.Core.Path.{_≡_, ap, sym, _∙_}
 use mathlib.Core.Bool.{true}
 use mathlib.Core.Option.{some}
 use lib.ListN.{length}
-use borrow.Author.Tests.{not-true, not-false}
 use denote.Ref.{now}
+use Rattle.base.specs.Base.{isSome}
 use Rattle.base.proofs.Option.{some-of}
+use Rattle.map.specs.Code.{positionOf}
+use Rattle.map.specs.declared.Position.{Position}
 use Rattle.record.specs.Record.{rows, rowOf, wellShaped}
 use Rattle.record.proofs.Laws.{content-least}
 use Rattle.point.specs.Point.{PointInfo}
 use Rattle.point.specs.Reading.{readLink, readPoint}
 use Rattle.point.proofs.Laws.{readable, parts-of}
+use Rattle.rules.specs.List.{isNamed}
 use Rattle.book_layout.proofs.Named.{indirect-named}
 use borrow.Author.Needs.{needs}
 use Rattle.book_layout.proofs.read.are_named.Statement.{statement}
@@ -64,31 +67,39 @@ returns c = λ q h.
     let l = t .before .before in
     c .is-named .ensures q (q .anchorTrigger) h (trigger l q h) ∙ sym (rw (indirect-named _ (q .anchorProof) (proof l q h) q (t .if1 .taken)))
 
-has-peer-requires : tie.Need-has-peer-requires
-has-peer-requires c κs =
+peer-position-requires : tie.Need-peer-position-requires
+peer-position-requires c κs =
     let l = c .before .before in
     let p = start l .pre in
     ((p .0, (long l .0, c .if1 .left)), (p .1 .includes, (p .1 .witness, p .1 .evidence)))
 
-returns-2 : tie.Need-returns-2
-returns-2 c = λ q h.
-    let n = c .before in
-    let l = n .before .before .before in
-    sym (rw (sym (n .has-peer .ensures q (q .anchorProof) h (proof l q h)) ∙ not-true _ (c .if2 .taken)))
+enum-told : tie.Need-enum-told
+enum-told c = search needs
 
 is-named-requires-2 : tie.Need-is-named-requires-2
 is-named-requires-2 c κs =
-    let l = c .before .before .before .before in
+    let l = c .before .before .before .before .before in
     let p = start l .pre in
     ((p .0, long l .1), (p .1 .includes, (p .1 .witness, p .1 .evidence)))
 
+-- whether the proof link names a peer, as the search told
+named : (c : tie.After-peer-position) (q : PointInfo) → readPoint (now (start (c .before .before .before) .args .rec)) ≡ some q →
+    (x : Position) → c .peer-position .result ≡ x → isNamed q (q .anchorProof) ≡ isSome (positionOf x)
+named c q h x e =
+    let l = c .before .before .before in
+    sym (c .peer-position .ensures q (q .anchorProof) h (proof l q h)) ∙ ap (λ (z : Position). isSome (positionOf z)) e
+
+enum-told-2 : tie.Need-enum-told-2
+enum-told-2 c = search needs
+
+returns-2 : tie.Need-returns-2
+returns-2 c = λ q h. sym (rw (named (c .before .before) q h _ (c .enum-told2 .given .1)))
+
 returns-3 : tie.Need-returns-3
 returns-3 c = λ q h.
-    let e = c .before in
-    let n = e .before in
-    let l = n .before .before .before in
-    c .is-named2 .ensures q (q .anchorTrigger) h (trigger l q h)
-    ∙ sym (rw (sym (n .has-peer .ensures q (q .anchorProof) h (proof l q h)) ∙ not-false _ (e .if2 .left)))
+    let t = c .before in
+    let n = t .before .before in
+    c .is-named2 .ensures q (q .anchorTrigger) h (trigger (n .before .before .before) q h) ∙ sym (rw (named n q h _ (t .enum-told .given .1)))
 
 pub are-named-spec : {M : Type 1} → statement M
 are-named-spec =
@@ -99,7 +110,9 @@ are-named-spec =
     shared-slice-read-if1
     is-named-requires
     returns
-    has-peer-requires
+    peer-position-requires
+    enum-told
+    enum-told-2
     returns-2
     is-named-requires-2
     returns-3)

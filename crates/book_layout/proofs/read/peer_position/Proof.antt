@@ -1,4 +1,4 @@
--- `has_peer` meets its contract: the link's map has its peer.
+-- `peer_position` meets its contract: the peer has a position in the link's map exactly if the link is named.
 use native.Mathlib.Omega.{arith}
 use Prim.Native.Nat.{ℕ}
 use mathlib.Core.Path.{_≡_, sym, _∙_}
@@ -10,8 +10,8 @@ use Rattle.point.specs.Reading.{readPoint}
 use Rattle.point.proofs.Laws.{Readable, readable}
 use Rattle.book_layout.proofs.Named.{map-rises, includes-named, witness-named}
 use borrow.Author.Needs.{needs}
-use Rattle.book_layout.proofs.read.has_peer.Statement.{statement}
-use Rattle.book_layout.proofs.read.has_peer.Tie as tie
+use Rattle.book_layout.proofs.read.peer_position.Statement.{statement}
+use Rattle.book_layout.proofs.read.peer_position.Tie as tie
 
 -- the point of the record
 abbrev start : tie.After-id-at → tie.Start
@@ -35,14 +35,14 @@ content-from-requires c κs =
     let p = start i .pre .1 in
     ((parts i .shaped, omega arith), (p .0, p .1 .0))
 
-contains-requires : tie.Need-contains-requires
-contains-requires c κs = (omega arith, rw (c .content-from .ensures) (map-rises _ _ (parts (c .before .before .before) .includes)))
+search-requires : tie.Need-search-requires
+search-requires c κs = (omega arith, rw (c .content-from .ensures) (map-rises _ _ (parts (c .before .before .before) .includes)))
 
 returns : tie.Need-returns
 returns c = λ q l h g.
     let t = c .before .before in
     let i = t .before .before in
-    rw (c .contains .ensures, c .before .content-from .ensures, i .id-at .ensures)
+    rw (c .search .ensures, c .before .content-from .ensures, i .id-at .ensures)
     (includes-named _ l g q (start i .pre .0 .1 .1) _ (readable _ q h .includes .are) (t .if1 .taken))
 
 content-from-requires-2 : tie.Need-content-from-requires-2
@@ -51,25 +51,25 @@ content-from-requires-2 c κs =
     let p = start i .pre .1 in
     ((parts i .shaped, omega arith), (p .1 .0, p .1 .1))
 
-contains-requires-2 : tie.Need-contains-requires-2
-contains-requires-2 c κs = (omega arith, rw (c .content-from2 .ensures) (map-rises _ _ (parts (c .before .before .before) .witness)))
+search-requires-2 : tie.Need-search-requires-2
+search-requires-2 c κs = (omega arith, rw (c .content-from2 .ensures) (map-rises _ _ (parts (c .before .before .before) .witness)))
 
 returns-2 : tie.Need-returns-2
 returns-2 c = λ q l h g.
     let t = c .before .before in
     let i = t .before .before in
-    rw (c .contains2 .ensures, c .before .content-from2 .ensures, i .id-at .ensures)
+    rw (c .search2 .ensures, c .before .content-from2 .ensures, i .id-at .ensures)
     (witness-named _ l g q (start i .pre .0 .1 .1) _ (readable _ q h .witness .are) (t .if1 .left))
 
-pub has-peer-spec : {M : Type 1} → statement M
-has-peer-spec =
+pub peer-position-spec : {M : Type 1} → statement M
+peer-position-spec =
     tie.close
     (tie.spec
     id-at-requires
     shared-slice-read-if1
     content-from-requires
-    contains-requires
+    search-requires
     returns
     content-from-requires-2
-    contains-requires-2
+    search-requires-2
     returns-2)
