@@ -1,5 +1,6 @@
 -- Laws of links that are tested and not read: whether a direct one names a peer of its map.
-use Prim.Native.Nat.{ℕ}
+use Prim.Native.Nat.{ℕ, _≤_}
+use native.Mathlib.Omega.{arith}
 use mathlib.Core.Path.{_≡_, refl, ap, sym, _∙_}
 use mathlib.Core.Bool.{Bool, true, false, _&&_}
 use mathlib.Core.Option.{Option, none, some}
@@ -12,7 +13,7 @@ use Rattle.base.proofs.Bool.{clash, last-false}
 use Rattle.base.proofs.Option.{picked, and-then, none-some}
 use Rattle.parts.specs.Bytes.{idAt}
 use Rattle.map.specs.Rows.{Pair, pairsOf, peersOf, peers, rising, find}
-use Rattle.map.proofs.Laws.{peers-pairsOf, find-get}
+use Rattle.map.proofs.Laws.{peers-pairsOf, peers-length, find-get}
 use Rattle.point.specs.Point.{PointId, Through, Includes, Witness, AnchorLink, Direct, Indirect, PointInfo, digestSafe}
 use Rattle.point.specs.Reading.{pointIdAt, readThrough, readLink}
 use Rattle.point.proofs.Laws.{MapOf}
@@ -20,6 +21,9 @@ use Rattle.rules.specs.List.{isNamed}
 
 pub map-rises : (s : List ℕ) (l : List Pair) → MapOf s l → rising (peersOf 64 s) ≡ true
 map-rises s l m = rw (← peers-pairsOf s, ← m .are) (m .rise)
+
+pub map-few : (s : List ℕ) (l : List Pair) → MapOf s l → length (peersOf 64 s) ≤ 255
+map-few s l m = rw (← peers-pairsOf s, ← m .are) (omega (arith, peers-length l, m .few))
 
 chosen : (a b : Bool) (t : Through) (x : PointId) (l : AnchorLink) → pick a (some (Direct t)) (pick b (some (Indirect x t)) none) ≡ some l →
     (a ≡ false → l ≡ Indirect x t) × (b ≡ false → l ≡ Direct t)

@@ -55,7 +55,7 @@ pub fn row_of(rec: &[u8], info: PointInfo, m: usize, id: PointId) -> Position
     let Position::At(i) = map::search(map, 64, id.author) else {
         return Position::Absent;
     };
-    if parts::same(map::digest_at(map, i), id.digest) {
+    if parts::same(map::digest_at(map, i as usize), id.digest) {
         return Position::At(i);
     }
     Position::Absent

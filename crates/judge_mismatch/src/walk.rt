@@ -110,7 +110,7 @@ fn walk(presence: u8, rec: &[u8], info: PointInfo, list: &[u8], seen: &mut [u8])
             let Position::At(i) = maps::row_of(rec, info, m, head.id) else {
                 continue;
             };
-            let mark = maps::HALF * m + i;
+            let mark = maps::HALF * m + i as usize;
             if seen[mark] != 0 {
                 is_mismatch = true;
                 break 'entries;

@@ -11,9 +11,9 @@ ghost use Rattle.parts.specs.Parts.{order};
 ghost use Rattle.map.specs.Rows.{peersOf, pairsOf, digests, rising, wellRowed, find, peers, get};
 ghost use Rattle.map.specs.Code.{positionOf, foundOf};
 
-// Where a peer stands.
+// Where a peer stands: a set or a map has at most 255 rows.
 pub enum Position {
-    At(usize),
+    At(u16),
     Absent,
 }
 
@@ -103,13 +103,14 @@ pub fn is_well_rowed(rows: &[u8], width: usize) -> bool
 // The position of a peer among rising rows, by halving.
 pub fn search(rows: &[u8], width: usize, peer: Id) -> Position
     requires { ⌜ (32 ≤ width) × (rising (peersOf width (now rows)) ≡ true) ⌝ }
+    requires { ⌜ length (peersOf width (now rows)) ≤ 255 ⌝ }
     ensures { λ r. ⌜ positionOf r ≡ find (peersOf width (now (rows .entry))) (number peer) ⌝ }
 {
-    let mut lo = 0;
-    let mut hi = count(rows, width);
+    let mut lo: u16 = 0;
+    let mut hi = count(rows, width) as u16;
     while lo < hi {
         let mid = lo + (hi - lo) / 2;
-        let o = compare_row(rows, width, mid, peer);
+        let o = compare_row(rows, width, mid as usize, peer);
         match o {
             Order::Same => return Position::At(mid),
             Order::Less => lo = mid + 1,
@@ -121,12 +122,12 @@ pub fn search(rows: &[u8], width: usize, peer: Id) -> Position
 
 // The digest beside a peer of a rising map.
 pub fn get(map: &[u8], peer: Id) -> Found
-    requires { ⌜ rising (peers (pairsOf (now map))) ≡ true ⌝ }
+    requires { ⌜ (rising (peers (pairsOf (now map))) ≡ true) × (length (pairsOf (now map)) ≤ 255) ⌝ }
     ensures { λ r. ⌜ foundOf r ≡ get (pairsOf (now (map .entry))) (number peer) ⌝ }
 {
     let position = search(map, 64, peer);
     match position {
-        Position::At(i) => Found::Digest(digest_at(map, i)),
+        Position::At(i) => Found::Digest(digest_at(map, i as usize)),
         Position::Absent => Found::Absent,
     }
 }

@@ -97,6 +97,10 @@ pub through-rises : (s : List ℕ) (p : PointInfo) (t : Through) → readPoint s
 through-rises s p (Includes x) h = readable s p h .includes .rise
 through-rises s p (Witness x) h = readable s p h .witness .rise
 
+pub through-few : (s : List ℕ) (p : PointInfo) (t : Through) → readPoint s ≡ some p → length (throughMap t p) ≤ 255
+through-few s p (Includes x) h = readable s p h .includes .few
+through-few s p (Witness x) h = readable s p h .witness .few
+
 -- ---- steps of the code
 
 module _ (s : List ℕ) where

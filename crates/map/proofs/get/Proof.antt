@@ -23,10 +23,18 @@ found : (c : tie.After-position) →
 found c = sym (told (c .before .before)) ∙ ap positionOf (c .position .given .1)
 
 search-requires : tie.Need-search-requires
-search-requires c κs = (omega arith, rw (← peers-pairsOf (now (c .before .args .map))) (c .before .pre))
+search-requires c κs =
+    let s = now (c .before .args .map) in
+    ((omega arith, rw (← peers-pairsOf s) (c .before .pre .0)), rw (← peers-pairsOf s) (omega (arith, peers-length (pairsOf s), c .before .pre .1)))
 
 enum-known-position : tie.Need-enum-known-position
 enum-known-position c = search needs
+
+cast-digest-at : tie.Need-cast-digest-at
+cast-digest-at c =
+    let a = c .before .before .before .before .before in
+    let l = pairsOf (now (a .args .map)) in
+    omega (arith, peers-length l, find-some (peers l) _ _ (found (c .before)) .inside, a .pre .1)
 
 digest-at-requires : tie.Need-digest-at-requires
 digest-at-requires c κs =
@@ -46,4 +54,4 @@ returns-2 c = sym (get-none _ _ (sym (told (c .before .before)) ∙ ap positionO
 pub get-spec : {M : Type 1} → statement M
 get-spec =
     tie.close
-    (tie.spec search-requires enum-known-position digest-at-requires enum-told returns returns-2)
+    (tie.spec search-requires enum-known-position cast-digest-at digest-at-requires enum-told returns returns-2)

@@ -29,6 +29,9 @@ told c = sym (c .compare-row .ensures)
 count-requires : tie.Need-count-requires Inv-loop μ-loop
 count-requires c κs = search needs
 
+cast-hi : tie.Need-cast-hi Inv-loop μ-loop
+cast-hi c = omega (arith, c .count .ensures, c .before .before .pre .1)
+
 loop-holds : tie.Need-loop-holds Inv-loop μ-loop
 loop-holds c = rw (c .count .ensures) (bracket-start _ _)
 
@@ -37,6 +40,9 @@ sub-mid c = search needs
 
 add-mid : tie.Need-add-mid Inv-loop μ-loop
 add-mid c = let a = c .before .before .before .before .args in omega (arith, peersOf-fits (a .width) (now (a .rows)))
+
+cast-compare-row : tie.Need-cast-compare-row Inv-loop μ-loop
+cast-compare-row c = search needs
 
 compare-row-requires : tie.Need-compare-row-requires Inv-loop μ-loop
 compare-row-requires c κs = search needs
@@ -49,7 +55,7 @@ returns c =
     let at-loop = c .before .before .before .before in
     let start = at-loop .before .before .before in
     let a = start .args in
-    sym (find-rising (peersOf (a .width) (now (a .rows))) (number (a .peer)) _ (start .pre .1) (omega arith) (order-same _ _ (told (c .before .before) ∙ c .enum-told .given .1)))
+    sym (find-rising (peersOf (a .width) (now (a .rows))) (number (a .peer)) _ (start .pre .0 .1) (omega arith) (order-same _ _ (told (c .before .before) ∙ c .enum-told .given .1)))
 
 enum-told-2 : tie.Need-enum-told-2 Inv-loop μ-loop
 enum-told-2 c = search needs
@@ -65,7 +71,7 @@ loop-again c =
     let at-loop = c .before .before .before .before in
     let start = at-loop .before .before .before in
     let a = start .args in
-    bracket-up (peersOf (a .width) (now (a .rows))) (number (a .peer)) (at-loop .loop .lo) (at-loop .loop .hi) _ (start .pre .1) (at-loop .loop .inv) (omega arith) (omega arith) (order-less _ _ (told (c .before .before) ∙ c .enum-told2 .given .1))
+    bracket-up (peersOf (a .width) (now (a .rows))) (number (a .peer)) (at-loop .loop .lo) (at-loop .loop .hi) _ (start .pre .0 .1) (at-loop .loop .inv) (omega arith) (omega arith) (order-less _ _ (told (c .before .before) ∙ c .enum-told2 .given .1))
 
 enum-told-3 : tie.Need-enum-told-3 Inv-loop μ-loop
 enum-told-3 c = search needs
@@ -78,7 +84,7 @@ loop-again-2 c =
     let at-loop = c .before .before .before .before in
     let start = at-loop .before .before .before in
     let a = start .args in
-    bracket-down (peersOf (a .width) (now (a .rows))) (number (a .peer)) (at-loop .loop .lo) (at-loop .loop .hi) _ (start .pre .1) (at-loop .loop .inv) (omega arith) (omega arith) (order-more _ _ (told (c .before .before) ∙ c .enum-told3 .given .1))
+    bracket-down (peersOf (a .width) (now (a .rows))) (number (a .peer)) (at-loop .loop .lo) (at-loop .loop .hi) _ (start .pre .0 .1) (at-loop .loop .inv) (omega arith) (omega arith) (order-more _ _ (told (c .before .before) ∙ c .enum-told3 .given .1))
 
 returns-2 : tie.Need-returns-2 Inv-loop μ-loop
 returns-2 c = sym (bracket-none _ _ _ _ (c .loop-test .left) (c .before .loop .inv))
@@ -90,9 +96,11 @@ search-spec =
     Inv-loop
     μ-loop
     count-requires
+    cast-hi
     loop-holds
     sub-mid
     add-mid
+    cast-compare-row
     compare-row-requires
     enum-told
     returns

@@ -13,7 +13,8 @@ peers-for-requires c κs = search needs
 search-requires : tie.Need-search-requires
 search-requires c κs =
     let st = c .before .before in
-    (omega arith, ap rising (c .peers-for .ensures .0) ∙ peers-few _ _ (st .args .round) (st .pre) .rises)
+    let f = peers-few _ _ (st .args .round) (st .pre) in
+    ((omega arith, ap rising (c .peers-for .ensures .0) ∙ f .rises), rw (c .peers-for .ensures .0) (f .few))
 
 returns : tie.Need-returns
 returns c = rw (← c .before .peers-for .ensures .0) (c .search .ensures)

@@ -13,7 +13,7 @@ use Rattle.base.proofs.Lists.{empty-length}
 use Rattle.map.specs.Rows.{peersOf, pairsOf, find, peers, rising}
 use Rattle.map.specs.Code.{positionOf}
 use Rattle.map.specs.declared.Position.{Position}
-use Rattle.map.proofs.Laws.{peers-pairsOf}
+use Rattle.map.proofs.Laws.{peers-pairsOf, peers-length}
 use Rattle.point.specs.Point.{PointInfo, prevDigest, requiresPrevPoint}
 use Rattle.point.specs.Code.{pointOf}
 use Rattle.point.proofs.Laws.{readable}
@@ -123,7 +123,8 @@ returns-2 c = sym (has-prev (c .before .before .before .before) ∙ row-here _ _
 search-requires : tie.Need-search-requires
 search-requires c κs =
     let e = c .before .before .before in
-    (omega arith, ap rising (evidence e) ∙ readable _ _ (cut e .pre .read) .evidence .rise)
+    let m = readable _ _ (cut e .pre .read) .evidence in
+    ((omega arith, ap rising (evidence e) ∙ m .rise), rw (evidence e) (m .few))
 
 enum-told : tie.Need-enum-told
 enum-told c = search needs
@@ -139,7 +140,9 @@ witness-requires : tie.Need-witness-requires
 witness-requires c κs = search needs
 
 search-requires-2 : tie.Need-search-requires-2
-search-requires-2 c κs = (omega arith, ap rising (witness c) ∙ readable _ _ (cut (past c) .pre .read) .witness .rise)
+search-requires-2 c κs =
+    let m = readable _ _ (cut (past c) .pre .read) .witness in
+    ((omega arith, ap rising (witness c) ∙ m .rise), rw (witness c) (omega (arith, peers-length (point (cut (past c)) .witness), m .few)))
 
 enum-told-3 : tie.Need-enum-told-3
 enum-told-3 c = search needs

@@ -8,7 +8,7 @@ use Rattle.base.proofs.Option.{some-of}
 use Rattle.point.specs.Point.{PointInfo}
 use Rattle.point.specs.Reading.{readPoint}
 use Rattle.point.proofs.Laws.{Readable, readable}
-use Rattle.book_layout.proofs.Named.{map-rises, includes-named, witness-named}
+use Rattle.book_layout.proofs.Named.{map-rises, map-few, includes-named, witness-named}
 use borrow.Author.Needs.{needs}
 use Rattle.book_layout.proofs.read.peer_position.Statement.{statement}
 use Rattle.book_layout.proofs.read.peer_position.Tie as tie
@@ -36,7 +36,9 @@ content-from-requires c κs =
     ((parts i .shaped, omega arith), (p .0, p .1 .0))
 
 search-requires : tie.Need-search-requires
-search-requires c κs = (omega arith, rw (c .content-from .ensures) (map-rises _ _ (parts (c .before .before .before) .includes)))
+search-requires c κs =
+    let m = parts (c .before .before .before) .includes in
+    ((omega arith, rw (c .content-from .ensures) (map-rises _ _ m)), rw (c .content-from .ensures) (map-few _ _ m))
 
 returns : tie.Need-returns
 returns c = λ q l h g.
@@ -52,7 +54,9 @@ content-from-requires-2 c κs =
     ((parts i .shaped, omega arith), (p .1 .0, p .1 .1))
 
 search-requires-2 : tie.Need-search-requires-2
-search-requires-2 c κs = (omega arith, rw (c .content-from2 .ensures) (map-rises _ _ (parts (c .before .before .before) .witness)))
+search-requires-2 c κs =
+    let m = parts (c .before .before .before) .witness in
+    ((omega arith, rw (c .content-from2 .ensures) (map-rises _ _ m)), rw (c .content-from2 .ensures) (map-few _ _ m))
 
 returns-2 : tie.Need-returns-2
 returns-2 c = λ q l h g.

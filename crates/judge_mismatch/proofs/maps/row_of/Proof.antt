@@ -10,7 +10,7 @@ use denote.Ref.{now}
 use Rattle.parts.specs.Code.{number}
 use Rattle.map.specs.Rows.{Pair, peersOf, rising, find, peers, digests}
 use Rattle.map.specs.Code.{positionOf}
-use Rattle.map.proofs.Laws.{peers-pairsOf}
+use Rattle.map.proofs.Laws.{peers-pairsOf, peers-length}
 use Rattle.point.specs.Code.{pointIdOf, pointOf}
 use Rattle.point.proofs.Laws.{MapOf, readable}
 use Rattle.judge_mismatch.specs.Code.{roundIn, pairsIn}
@@ -61,7 +61,7 @@ map-of-requires : tie.Need-map-of-requires
 map-of-requires c κs = search needs
 
 search-requires : tie.Need-search-requires
-search-requires c κs = (omega arith, ap rising (peers-are c) ∙ the-map c .rise)
+search-requires c κs = ((omega arith, ap rising (peers-are c) ∙ the-map c .rise), rw (peers-are c) (omega (arith, peers-length (pairs c), the-map c .few)))
 
 enum-known-i : tie.Need-enum-known-i
 enum-known-i c = search needs
@@ -71,6 +71,9 @@ enum-told c = search needs
 
 returns-2 : tie.Need-returns-2
 returns-2 c = row-nowhere _ _ _ (sym (told (c .before .before)) ∙ ap positionOf (c .enum-told .given .1))
+
+cast-digest-at : tie.Need-cast-digest-at
+cast-digest-at c = omega (arith, inside c, the-map (m-of c) .few)
 
 digest-at-requires : tie.Need-digest-at-requires
 digest-at-requires c κs =
@@ -103,6 +106,7 @@ row-of-spec =
     enum-known-i
     enum-told
     returns-2
+    cast-digest-at
     digest-at-requires
     same-requires
     returns-3

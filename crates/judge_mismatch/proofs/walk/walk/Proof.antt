@@ -187,6 +187,9 @@ loop-again c =
 mul-mark : tie.Need-mul-mark Inv-loop μ-loop Inv-entries μ-entries
 mul-mark c = let l = below (c .before .before .before .before) in omega (arith, l .0, l .1)
 
+cast-mark : tie.Need-cast-mark Inv-loop μ-loop Inv-entries μ-entries
+cast-mark c = search needs
+
 add-mark : tie.Need-add-mark Inv-loop μ-loop Inv-entries μ-entries
 add-mark c =
     let l = below (c .before .before .before .before) in
@@ -311,6 +314,7 @@ walk-spec =
     loop-less
     loop-again
     mul-mark
+    cast-mark
     add-mark
     slice-read-if3
     slice-write-seen

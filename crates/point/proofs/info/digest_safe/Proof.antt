@@ -1,8 +1,8 @@
--- `digest_safe` meets its contract: the maps of a point that was read rise.
+-- `digest_safe` meets its contract: the maps of a point that was read rise, and have at most 255 rows.
 use borrow.Author.Needs.{needs}
 use Rattle.point.specs.Point.{digestSafe}
 use Rattle.point.specs.Code.{throughOf}
-use Rattle.point.proofs.Laws.{through-rises}
+use Rattle.point.proofs.Laws.{through-rises, through-few}
 use Rattle.point.proofs.info.digest_safe.Statement.{statement}
 use Rattle.point.proofs.info.digest_safe.Tie as tie
 
@@ -16,7 +16,8 @@ get-requires : tie.Need-get-requires
 get-requires c κs =
     let m = c .before in
     let b = m .before .before in
-    rw (m .map-of .ensures) (through-rises _ _ (throughOf (b .args .through)) (b .pre .read))
+    let t = throughOf (b .args .through) in
+    rw (m .map-of .ensures) (through-rises _ _ t (b .pre .read), through-few _ _ t (b .pre .read))
 
 returns : tie.Need-returns
 unfolding digestSafe

@@ -1,4 +1,4 @@
--- `prev_digest` meets its contract: the includes of a point that was read rise.
+-- `prev_digest` meets its contract: the includes of a point that was read rise, and are at most 255.
 use borrow.Author.Needs.{needs}
 use Rattle.point.specs.Point.{prevDigest}
 use Rattle.point.proofs.Laws.{readable}
@@ -9,7 +9,9 @@ includes-requires : tie.Need-includes-requires
 includes-requires c κs = search needs
 
 get-requires : tie.Need-get-requires
-get-requires c κs = rw (c .includes .ensures) (readable _ _ (c .before .before .before .pre .read) .includes .rise)
+get-requires c κs =
+    let m = readable _ _ (c .before .before .before .pre .read) .includes in
+    rw (c .includes .ensures) (m .rise, m .few)
 
 returns : tie.Need-returns
 unfolding prevDigest
