@@ -9,8 +9,8 @@
  *
  *   1. checks signatures: the author's on the point's id, and every one of its evidence on the id of the author's
  *      previous point. A record only names the peers of the evidence. A point that names enough of them certifies its
- *      previous point, even if it is found invalid itself, and a child of that one is then valid where it would be
- *      trans-invalid;
+ *      previous point and what lies below that, even if it is found invalid itself, and a child of any of these is then
+ *      valid where it would be trans-invalid;
  *   2. computes the digest of the point and compares it with the one in its id;
  *   3. finds out who leads the point's round: the leader flag is 1 exactly for that peer;
  *   4. brings the network's schedule, with the peers of the point's round, of the two before it, of the rounds that
@@ -93,14 +93,14 @@ extern "C" {
  * The caller's part: no pointer is null, not even with the length 0; each has as many bytes after it as its length
  * says, the answer 114; and the peer buffer and the answer overlap neither each other nor the rest.
  *
- * Stack, as measured on x86-64 (docs/RELIABILITY.md) with room added: verifying needs at most 4 KB, judging 16 KB, opening
- * 1 KB and an offer 56 KB. A call takes no other memory.
+ * Stack, as measured on x86-64 (docs/RELIABILITY.md) with room added: verifying needs at most 4 KB, judging 48 KB, opening
+ * 1 KB and an offer 72 KB. A call takes no other memory.
  *
  * Threads: a call keeps nothing for the next one. Calls may be made from several threads at once, also on separate books
  * and on the same bytes where these are const. One book may be in one call at a time, and is not read by others
  * meanwhile.
  *
- * A process that is killed inside an offer can leave bytes that are no book, or a mark without its entry: a book still,
+ * A process that is killed inside an offer can leave bytes that are no book, or marks without the entry: a book still,
  * and nothing tells that it was cut short. Opening can likewise be cut short. Where the book's memory outlives the
  * process, shared or mapped from a file, a host keeps a journal beside it, or offers to a copy that takes the book's
  * place when the call has returned.
@@ -160,8 +160,11 @@ uint8_t wutherdish_open(uint8_t *book, size_t book_len, const uint8_t *settings,
  *   12  4,096 entries, or no room for the point
  *
  * and then 6 as above. Where the list is needed, the point's previous point, if the book keeps it, is marked certified,
- * whatever the verdict. Fail leaves the book as it is; any other verdict is appended with the point, and is never taken
- * back. As above, the book, the peer buffer and the answer overlap neither each other nor the rest.
+ * whatever the verdict, and with it, as a certificate spreads at a node, what it includes and witnesses, what these do,
+ * and so on: every entry that is reached so over entries above genesis that are not ill-formed, down to
+ * commit_history_rounds below the previous point. Then the point is judged. Fail leaves the book as it is; any other
+ * verdict is appended with the point, and is never taken back. As above, the book, the peer buffer and the answer overlap
+ * neither each other nor the rest.
  */
 uint8_t wutherdish_offer(uint8_t *book, size_t book_len,
                          const uint8_t *schedule, size_t schedule_len,

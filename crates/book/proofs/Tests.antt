@@ -1,25 +1,25 @@
--- Laws of the tests on the way to a decision: whether there is room, the previous point's id, and the entry at a place.
+-- Laws of the tests on the way to a decision: the numbers in their order, whether there is room, and the previous point's id.
 use Prim.Native.Nat.{ℕ, _+_, _-_, _≤_, _<_}
 use native.Mathlib.Omega.{arith}
 use native.Mathlib.Decide.{decLt}
 use mathlib.Core.Path.{_≡_, refl, ap, sym, _∙_, subst}
 use mathlib.Core.Bool.{Bool, true, false, not, _&&_, _||_}
-use mathlib.Core.Option.{Option, none, some, Option·map}
+use mathlib.Core.Option.{Option, none, some}
 use mathlib.Core.List.{List}
-use lib.ListN.{length, take, drop}
+use lib.ListN.{length}
 use lib.Dec.{leb, ltb}
-use borrow.Author.Tests.{ltb-false, lt-ltb, le-ltb, le-leb, lt-leb}
+use borrow.Author.Tests.{ltb-false, lt-ltb, le-ltb, le-leb, lt-leb, ne-eqb}
 use Rattle.base.specs.Base.{pick}
-use Rattle.base.proofs.Option.{picked, and-then, none-some}
-use Rattle.record.specs.Record.{fieldRow, fieldOk, recordEnd}
-use Rattle.point.specs.Point.{PointInfo, prevDigest, prevId, inDomain}
+use Rattle.point.specs.Point.{PointId, PointInfo, prevDigest, prevId, inDomain}
+use Rattle.point.specs.Code.{pointOf}
+use Rattle.point.specs.declared.info.PointInfo as code-info
 use Rattle.point.specs.Reading.{readPoint}
 use Rattle.schedule.specs.Settings.{Settings}
 use Rattle.schedule.specs.Schedule.{Schedule, readSchedule}
 use Rattle.rules.specs.Judge.{Input, Tested, refused, admitted, testedWith}
 use Rattle.books.specs.Kept.{Kept, findKept, Opened}
 use Rattle.books.specs.Offer.{Offer, used, isFull, testedRoom, inputTested, offerTested}
-use Rattle.books.specs.Layout.{readKept, KeptFront, keptFront}
+use Rattle.book.specs.Code.{passedOr, InputTested}
 
 pub full-last : (a b : ℕ) → 108 ≤ a → ltb (a - 108) b ≡ ltb a (b + 108)
 full-last a b h = elim (decLt (a - 108) b) [
@@ -39,31 +39,14 @@ module _ (p : PointInfo) where
   unfolding prevId
   prev-some d round h e = rw (h, e)
 
--- ---- the entry at the front of a slice
-
-size-is : (n : ℕ) (o : Option Kept) (x : KeptFront) → Option·map (λ k. record { kept = k; size = n }) o ≡ some x → x .size ≡ n
-size-is n none x h = none-some h
-size-is n (some k) x h = cc
-
-front-end : (s : List ℕ) (x : KeptFront) → keptFront s ≡ some x → (n : ℕ) × ((recordEnd s ≡ some n) × (x .size ≡ n + 108))
-unfolding keptFront
-front-end s x h =
-    let a = and-then (recordEnd s) _ x h in
-    let b = and-then (readPoint (take (a .0) s)) _ x (a .2) in
-    let m = picked (fieldOk (fieldRow 33 105 105) s (a .0)) _ x (b .2) .1 in
-    (a .0, (a .1, size-is (a .0 + 108) (readKept (take (a .0) s) (b .0) (take 105 (drop (a .0 + 3) s))) x m))
-
-module _ (s : List ℕ) (k : Kept) (g : keptFront s ≡ some (record { kept = k; size = length (k .bytes) + 108 })) where
-  pub front-len : (n : ℕ) → recordEnd s ≡ some n → n ≡ length (k .bytes)
-  front-len n e =
-      let f = front-end s _ g in
-      let same : f .0 ≡ n = let h = f .1 .0 in cc in
-      omega (arith, f .1 .1)
-
-  pub front-none : recordEnd s ≡ none → ⊥
-  front-none e = let f = front-end s _ g in none-some (sym e ∙ f .1 .0)
-
 -- ---- the numbers 2 to 5 in their order
+
+module _ (n : ℕ) (i : Input) where
+  pub passed-none : n ≡ 0 → passedOr n i ≡ admitted i
+  passed-none e = rw e
+
+  pub passed-number : (n ≡ 0 → ⊥) → passedOr n i ≡ refused n
+  passed-number d = rw (ne-eqb n 0 d)
 
 module _ (c : Settings) (o : Offer) where
   pub no-schedule : readSchedule (o .schedule) ≡ none → inputTested c o ≡ refused 2
@@ -73,20 +56,23 @@ module _ (c : Settings) (o : Offer) where
     pub no-point : readPoint (o .bytes) ≡ none → inputTested c o ≡ refused 3
     no-point g = rw (h, g)
 
-    module _ (p : PointInfo) (g : readPoint (o .bytes) ≡ some p) where
-      pub no-domain : inDomain p ≡ false → inputTested c o ≡ refused 4
-      no-domain d = rw (h, g) (rw d)
+    pub with-point : (p : PointInfo) → readPoint (o .bytes) ≡ some p → inputTested c o ≡ testedWith (some c) (some s) (some p) (leb (o .leader) 1) (length (o .peers))
+    with-point p g = rw (h, g)
 
-      module _ (d : inDomain p ≡ true) where
-        pub no-leader : 1 < o .leader → inputTested c o ≡ refused 4
-        no-leader l = rw (h, g) (rw (d, lt-leb (o .leader) 1 l))
+module _ (rec : List ℕ) (info : code-info.PointInfo) (leader room : ℕ) where
+  pub no-domain : inDomain (pointOf rec info) ≡ false → InputTested rec info leader room 4
+  no-domain d = λ c s. rw d
 
-        module _ (l : o .leader ≤ 1) where
-          pub no-buffer : length (o .peers) < 8160 → inputTested c o ≡ refused 5
-          no-buffer m = rw (h, g) (rw (d, le-leb (o .leader) 1 l, lt-ltb (length (o .peers)) 8160 m))
+  module _ (d : inDomain (pointOf rec info) ≡ true) where
+    pub no-leader : 1 < leader → InputTested rec info leader room 4
+    no-leader l = λ c s. rw (d, lt-leb leader 1 l)
 
-          pub all-passed : 8160 ≤ length (o .peers) → inputTested c o ≡ admitted (record { settings = c; schedule = s; point = p })
-          all-passed m = rw (h, g) (rw (d, le-leb (o .leader) 1 l, le-ltb (length (o .peers)) 8160 m))
+    module _ (l : leader ≤ 1) where
+      pub no-buffer : room < 8160 → InputTested rec info leader room 5
+      no-buffer m = λ c s. rw (d, le-leb leader 1 l, lt-ltb room 8160 m)
+
+      pub all-passed : 8160 ≤ room → InputTested rec info leader room 0
+      all-passed m = λ c s. rw (d, le-leb leader 1 l, le-ltb room 8160 m)
 
 abbrev Roomy : ℕ → Tested → Type 0
 Roomy size (refused n) = Unit
@@ -113,20 +99,20 @@ module _ (z : Opened) (c : Settings) (e : c ≡ z .settings) (o : Offer) where
   unfolding offerTested
   input-refused n h = ap (λ (x : Settings). testedRoom z (o .bytes) (inputTested x o)) (sym e) ∙ rw h
 
-  module _ (i : Input) (h : inputTested c o ≡ admitted i) where
-    after-input : offerTested z o ≡ testedRoom z (o .bytes) (admitted i)
-    unfolding offerTested
-    after-input = ap (λ (x : Settings). testedRoom z (o .bytes) (inputTested x o)) (sym e) ∙ ap (testedRoom z (o .bytes)) h
+  pub after-input : (i : Input) → inputTested c o ≡ admitted i → offerTested z o ≡ testedRoom z (o .bytes) (admitted i)
+  unfolding offerTested
+  after-input i h = ap (λ (x : Settings). testedRoom z (o .bytes) (inputTested x o)) (sym e) ∙ ap (testedRoom z (o .bytes)) h
 
-    pub is-there : (k : Kept) → findKept (z .book) (i .point .id) ≡ some k → offerTested z o ≡ refused 11
-    is-there k f = after-input ∙ rw f
+module _ (z : Opened) (bytes : List ℕ) (i : Input) (id : PointId) (e : i .point .id ≡ id) where
+  pub is-there : (k : Kept) → findKept (z .book) id ≡ some k → testedRoom z bytes (admitted i) ≡ refused 11
+  is-there k f = rw (e, f)
 
-    module _ (f : findKept (z .book) (i .point .id) ≡ none) where
-      pub no-room : isFull z (o .bytes) ≡ true → offerTested z o ≡ refused 12
-      no-room r = after-input ∙ rw (f, r)
+  module _ (f : findKept (z .book) id ≡ none) where
+    pub no-room : isFull z bytes ≡ true → testedRoom z bytes (admitted i) ≡ refused 12
+    no-room r = rw (e, f, r)
 
-      pub all-taken : isFull z (o .bytes) ≡ false → offerTested z o ≡ admitted i
-      all-taken r = after-input ∙ rw (f, r)
+    pub all-taken : isFull z bytes ≡ false → testedRoom z bytes (admitted i) ≡ admitted i
+    all-taken r = rw (e, f, r)
 
 -- of a book that was read, n entries that end at a place
 pub full-is : (z : Opened) (bytes : List ℕ) (len n end : ℕ) → z .length ≡ len → n ≡ length (z .book) → end ≡ 47 + used (z .book) →

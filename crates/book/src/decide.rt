@@ -1,48 +1,70 @@
-// What an offer comes to, decided over the book as it stands.
+// What an offer comes to over the book as it stands: an answer, or that its list is needed.
 use book_read::ReadBook;
 use id_index::Place;
 use judge::Before;
 use judge::JudgeAnswer;
-use map::Found;
 use point::PointId;
 use point::PointInfo;
 use point::ReadPoint;
-use record::End;
 use schedule::Schedule;
 use schedule::Settings;
 ghost use mathlib.Core.Path.{_≡_};
 ghost use mathlib.Core.Bool.{_||_};
-ghost use Prim.Native.Nat.{_+_, _-_, _≤_};
-ghost use lib.ListN.{length};
+ghost use mathlib.Core.List.{List};
+ghost use mathlib.Core.Option.{some};
+ghost use Prim.Native.Nat.{ℕ, _+_, _-_, _≤_};
+ghost use lib.ListN.{length, replicate};
 ghost use lib.Dec.{leb, ltb};
-ghost use Rattle.parts.specs.Limits.{tag33Length, mostKept};
-ghost use Rattle.point.specs.Point.{prevId};
-ghost use Rattle.point.specs.Code.{pointOf, Reads};
-ghost use Rattle.schedule.specs.Code.{settingsOf};
-ghost use Rattle.rules.specs.Judge.{admitted, Number};
-ghost use Rattle.judge.specs.Code.{judgeAnswerOf};
+ghost use Rattle.parts.specs.Bytes.{Bytes};
+ghost use Rattle.parts.specs.Limits.{tag33Length, mostKept, peersRoom};
+ghost use Rattle.point.specs.Code.{pointIdOf, Reads};
+ghost use Rattle.schedule.specs.Code.{settingsOf, scheduleOf};
+ghost use Rattle.schedule.specs.Schedule.{readSchedule};
 ghost use Rattle.id_index.specs.Code.{Index};
-ghost use Rattle.book_read.specs.Code.{IsRead};
-ghost use Rattle.books.specs.Offer.{inputTested, offerOf};
-ghost use Rattle.book.specs.Code.{Decides, inputOf, Ready, MarkPlace, FlagAt};
+ghost use Rattle.books.specs.Offer.{offerOf};
+ghost use Rattle.book.specs.Code.{refusal, inputOf, InputTested, RoomTested, Ready, Decides};
 
-// The answer, the place of the mark that the offer makes, 0 if none, and where the entries end.
-pub struct Decided {
-    pub answer: JudgeAnswer,
-    pub mark: usize,
+// What was read of an offer to a book with these settings.
+struct Input {
+    conf: Settings,
+    spans: Schedule,
+    info: PointInfo,
+}
+
+// What judging by the list needs: the settings, the point, whether regular points are required, and where the entries end.
+pub struct Needs {
+    pub conf: Settings,
+    pub info: PointInfo,
+    pub required: bool,
     pub end: usize,
 }
 
+// An answer and where the entries end, or that the list is needed.
+pub enum Decided {
+    Answered(JudgeAnswer, usize),
+    Needed(Needs),
+}
+
 fn refused(number: u8) -> Decided
-    ensures { λ r. ⌜ judgeAnswerOf (r .answer) ≡ Number number ⌝ }
-    ensures { λ r. ⌜ r .mark ≡ 0 ⌝ }
+    ensures { λ r. ⌜ r ≡ refusal number ⌝ }
 {
-    let mark = 0;
-    Decided {
-        answer: JudgeAnswer::Number(number),
-        mark,
-        end: 0,
+    Decided::Answered(JudgeAnswer::Number(number), 0)
+}
+
+// The numbers 4 and 5 in their order, 0 if neither comes. The peer buffer has `room` bytes.
+fn input_number(rec: &[u8], info: PointInfo, leader: u8, room: usize) -> u8
+    ensures { λ r. ⌜ InputTested (now (rec .entry)) info leader room r ⌝ }
+{
+    if !point::is_in_domain(rec, info) {
+        return 4;
     }
+    if 1 < leader {
+        return 4;
+    }
+    if room < parts::PEERS_ROOM {
+        return 5;
+    }
+    0
 }
 
 // Whether a book of `len` bytes, whose n entries end at a place, has no room for a record of a length.
@@ -59,180 +81,83 @@ fn is_full(len: usize, n: usize, end: usize, rec_len: usize) -> bool
     len - end - parts::TAG33_LENGTH < rec_len
 }
 
-// Where the certified flag of the entry at a place stands.
-fn flag_at(book: &[u8], place: usize) -> usize
-    requires { ⌜ place ≤ length (now book) ⌝ }
-    ensures { λ r. ⌜ FlagAt (now (book .entry)) place r ⌝ }
+// The numbers 11 and 12 in their order, 0 if neither comes.
+fn room_number(book: &[u8], end: usize, index: &[u16], rec: &[u8], id: PointId) -> u8
+    requires { ⌜ Index (now book) (now index) × (end ≤ length (now book)) ⌝ }
+    ensures { λ r. ⌜ RoomTested (now (book .entry)) end (now (index .entry)) (now (rec .entry)) (pointIdOf id) r ⌝ }
 {
-    let end = record::record_end(&book[place..]);
-    match end {
-        End::At(n) => place + n + 4,
-        End::Unreadable => 0,
-    }
-}
-
-// Where the mark of the previous point goes, 0 if it is not kept.
-fn mark_at(rec: &[u8], info: PointInfo, book: &[u8], index: &[u16]) -> usize
-    requires { ⌜ Reads (now rec) info ⌝ }
-    requires { ⌜ Index (now book) (now index) ⌝ }
-    ensures { λ r. ⌜ MarkPlace (now (book .entry)) (now (index .entry)) (prevId (pointOf (now (rec .entry)) info)) r ⌝ }
-{
-    let found = point::prev_digest(rec, info);
-    let Found::Digest(digest) = found else {
-        return 0;
-    };
-    let own = info.id;
-    let author = own.author;
-    let id = PointId {
-        round: parts::rounds_back(own.round, 1),
-        digest,
-        author,
-    };
-    let place = id_index::find(book, index, id);
-    match place {
-        Place::At(place) => flag_at(book, place),
-        Place::Absent => 0,
-    }
-}
-
-// Judges an offer that passed the tests.
-fn judge_offer(
-    conf: Settings,
-    schedule: &[u8],
-    spans: Schedule,
-    leader: u8,
-    rec: &[u8],
-    info: PointInfo,
-    peers: &mut [u8],
-    book: &[u8],
-    end: usize,
-    index: &[u16],
-) -> Decided
-    requires { ⌜ Reads (now rec) info ⌝ }
-    requires { ⌜ Ready (now book) (offerOf (now schedule) leader (now rec) (now peers)) (settingsOf conf) end (now index)
-        (inputOf conf (now schedule) spans (now rec) info) ⌝ }
-    ensures { λ r. ⌜ Decides (now (book .entry)) (offerOf (now (schedule .entry)) leader (now (rec .entry)) (now (peers .entry))) r (now (peers .exit)) ⌝ }
-{
-    let before = judge::before_list(conf, schedule, spans, rec, info, leader == 1, peers);
-    match before {
-        Before::Answered(answer) => Decided {
-            answer,
-            mark: 0,
-            end,
-        },
-        Before::Needed(required) => {
-            let v = book_judge::judge_book(conf, required, rec, info, book, index);
-            Decided {
-                answer: JudgeAnswer::Verdict(v),
-                mark: mark_at(rec, info, book, index),
-                end,
-            }
-        }
-    }
-}
-
-// The numbers 11 and 12 of an offer whose point was read, then the judgement.
-fn decide_point(
-    conf: Settings,
-    schedule: &[u8],
-    spans: Schedule,
-    leader: u8,
-    rec: &[u8],
-    info: PointInfo,
-    peers: &mut [u8],
-    book: &[u8],
-    end: usize,
-    index: &[u16],
-) -> Decided
-    requires { ⌜ Reads (now rec) info ⌝ }
-    requires { ⌜ IsRead (now book) (settingsOf conf) end (now index) ⌝ }
-    requires { ⌜ inputTested (settingsOf conf) (offerOf (now schedule) leader (now rec) (now peers)) ≡ admitted
-        (inputOf conf (now schedule) spans (now rec) info) ⌝ }
-    ensures { λ r. ⌜ Decides (now (book .entry)) (offerOf (now (schedule .entry)) leader (now (rec .entry)) (now (peers .entry))) r (now (peers .exit)) ⌝ }
-{
-    let id = info.id;
     let Place::Absent = id_index::find(book, index, id) else {
-        return refused(11);
+        return 11;
     };
     if is_full(book.len(), id_index::count(index), end, rec.len()) {
-        return refused(12);
+        return 12;
     }
-    judge_offer(
-        conf,
-        schedule,
-        spans,
-        leader,
-        rec,
-        info,
-        peers,
-        book,
-        end,
-        index,
-    )
+    0
 }
 
-// The numbers 2 to 5 in their order, then the rest.
-fn decide_in(
-    conf: Settings,
+// Judges an offer that passed the tests, as far as no list is needed.
+fn judge_input(
+    input: Input,
+    end: usize,
     schedule: &[u8],
     leader: u8,
     rec: &[u8],
     peers: &mut [u8],
-    book: &[u8],
-    end: usize,
-    index: &[u16],
 ) -> Decided
-    requires { ⌜ IsRead (now book) (settingsOf conf) end (now index) ⌝ }
-    ensures { λ r. ⌜ Decides (now (book .entry)) (offerOf (now (schedule .entry)) leader (now (rec .entry)) (now (peers .entry))) r (now (peers .exit)) ⌝ }
+    requires { ⌜ readSchedule (now schedule) ≡ some (scheduleOf (now schedule) (input .spans)) ⌝ }
+    requires { ⌜ Reads (now rec) (input .info) ⌝ }
+    requires { ⌜ peersRoom ≤ length (now peers) ⌝ }
+    ensures { λ r. ⌜ ((s x : List ℕ) → Bytes s →
+        Ready s (offerOf (now (schedule .entry)) leader (now (rec .entry)) (now (peers .entry))) (settingsOf (input .conf)) end x
+        (inputOf input (now (schedule .entry)) (now (rec .entry))) →
+        Decides s (offerOf (now (schedule .entry)) leader (now (rec .entry)) (now (peers .entry))) r x (now (peers .exit))) ⌝ }
 {
+    let conf = input.conf;
+    let info = input.info;
+    let before = judge::before_list(conf, schedule, input.spans, rec, info, leader == 1, peers);
+    match before {
+        Before::Answered(answer) => Decided::Answered(answer, end),
+        Before::Needed(required) => Decided::Needed(Needs {
+            conf,
+            info,
+            required,
+            end,
+        }),
+    }
+}
+
+// Decides an offer over a book as it stands, the numbers 10, 2 to 5, 11 and 12 first, and makes the book's index.
+pub fn decide(
+    book: &[u8],
+    schedule: &[u8],
+    leader: u8,
+    rec: &[u8],
+    peers: &mut [u8],
+    index: &mut [u16],
+) -> Decided
+    requires { ⌜ now index ≡ replicate 16386 0 ⌝ }
+    ensures { λ r. ⌜ Decides (now (book .entry)) (offerOf (now (schedule .entry)) leader (now (rec .entry)) (now (peers .entry))) r
+        (now (index .exit)) (now (peers .exit)) ⌝ }
+{
+    let ReadBook::Book(conf, end) = book_read::read_book(book, index) else {
+        return refused(10);
+    };
     let read = schedule::read_schedule(schedule);
     if !read.readable {
         return refused(2);
     }
-    let spans = read.schedule;
     let ReadPoint::Point(info) = point::read_point(rec) else {
         return refused(3);
     };
-    if !point::is_in_domain(rec, info) {
-        return refused(4);
+    let number = input_number(rec, info, leader, peers.len());
+    if number != 0 {
+        return refused(number);
     }
-    if 1 < leader {
-        return refused(4);
+    let number = room_number(book, end, index, rec, info.id);
+    if number != 0 {
+        return refused(number);
     }
-    if peers.len() < parts::PEERS_ROOM {
-        return refused(5);
-    }
-    decide_point(
-        conf,
-        schedule,
-        spans,
-        leader,
-        rec,
-        info,
-        peers,
-        book,
-        end,
-        index,
-    )
-}
-
-// Decides an offer over a book as it stands, number 10 first.
-pub fn decide(book: &[u8], schedule: &[u8], leader: u8, rec: &[u8], peers: &mut [u8]) -> Decided
-    ensures { λ r. ⌜ Decides (now (book .entry)) (offerOf (now (schedule .entry)) leader (now (rec .entry)) (now (peers .entry))) r (now (peers .exit)) ⌝ }
-{
-    let mut index = [0u16; id_index::LENGTH];
-    let read = book_read::read_book(book, &mut index);
-    match read {
-        ReadBook::Book(conf, end) => decide_in(
-            conf,
-            schedule,
-            leader,
-            rec,
-            peers,
-            book,
-            end,
-            &index,
-        ),
-        ReadBook::Unreadable => refused(10),
-    }
+    let spans = read.schedule;
+    let input = Input { conf, spans, info };
+    judge_input(input, end, schedule, leader, rec, peers)
 }

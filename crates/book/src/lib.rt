@@ -2,16 +2,24 @@
 mod decide;
 
 use book_layout::Left;
+use decide::Decided;
+use decide::Needs;
 use judge::JudgeAnswer;
+use map::Found;
+use point::PointId;
 use schedule::ReadSettings;
 ghost use mathlib.Core.Path.{_≡_};
 ghost use mathlib.Core.List.{_++_};
-ghost use Prim.Native.Nat.{_-_, _≤_, _<_};
+ghost use Prim.Native.Nat.{_+_, _-_, _≤_};
 ghost use lib.ListN.{length, take, replicate};
+ghost use Rattle.parts.specs.Limits.{tag33Length};
+ghost use Rattle.point.specs.Code.{pointOf, Reads};
+ghost use Rattle.schedule.specs.Code.{settingsOf};
 ghost use Rattle.judge.specs.Code.{judgeAnswerOf};
+ghost use Rattle.book_read.specs.Code.{IsRead};
 ghost use Rattle.books.specs.Calls.{openNumber, openBytes, offerBytes};
 ghost use Rattle.books.specs.Offer.{offerOf};
-ghost use Rattle.book.specs.Code.{markedAt, FitsAt, LeftAt};
+ghost use Rattle.book.specs.Code.{FitsAt, LeftAt, Marked, ListJudged};
 
 // Sets the bytes from a place on to 0.
 fn clear(s: &mut [u8], from: usize)
@@ -44,16 +52,6 @@ pub fn open(book: &mut [u8], settings: &[u8]) -> u8
     0
 }
 
-// Sets a mark, if its place is not 0.
-fn set_mark(book: &mut [u8], mark: usize)
-    requires { ⌜ ((mark ≡ 0 → ⊥) → mark < length (now book)) ⌝ }
-    ensures { λ r. ⌜ now (book .exit) ≡ markedAt (now (book .entry)) mark ⌝ }
-{
-    if mark != 0 {
-        book[mark] = 1;
-    }
-}
-
 // Keeps what an answer leaves, where the entries end.
 fn keep(book: &mut [u8], end: usize, rec: &[u8], answer: JudgeAnswer)
     requires { ⌜ FitsAt (now book) end (now rec) (judgeAnswerOf answer) ⌝ }
@@ -71,6 +69,43 @@ fn keep(book: &mut [u8], end: usize, rec: &[u8], answer: JudgeAnswer)
     }
 }
 
+// Marks the previous point, if the point names one, and what its certificate covers.
+fn mark_covered(book: &mut [u8], index: &[u16], rec: &[u8], needs: Needs)
+    requires { ⌜ IsRead (now book) (settingsOf (needs .conf)) (needs .end) (now index) ⌝ }
+    requires { ⌜ Reads (now rec) (needs .info) ⌝ }
+    ensures { λ r. ⌜ Marked (settingsOf (needs .conf)) (pointOf (now (rec .entry)) (needs .info)) (now (book .entry)) (now (book .exit)) ⌝ }
+{
+    let info = needs.info;
+    let own = info.id;
+    let found = point::prev_digest(rec, info);
+    match found {
+        Found::Digest(digest) => {
+            let author = own.author;
+            let prev = PointId {
+                round: parts::rounds_back(own.round, 1),
+                digest,
+                author,
+            };
+            book_certify::certify(needs.conf, book, needs.end, index, prev)
+        }
+        Found::Absent => {}
+    }
+}
+
+// Judges an offer whose list is needed, and keeps it. The marks are made first: the list is judged over the book as it then stands.
+fn judge_needed(book: &mut [u8], index: &[u16], rec: &[u8], needs: Needs) -> JudgeAnswer
+    requires { ⌜ IsRead (now book) (settingsOf (needs .conf)) (needs .end) (now index) ⌝ }
+    requires { ⌜ Reads (now rec) (needs .info) ⌝ }
+    requires { ⌜ needs .end + length (now rec) + tag33Length ≤ length (now book) ⌝ }
+    ensures { λ r. ⌜ ListJudged (now (book .entry)) (now (index .entry)) (now (rec .entry)) needs (judgeAnswerOf r) (now (book .exit)) ⌝ }
+{
+    mark_covered(book, index, rec, needs);
+    let verdict = book_judge::judge_book(needs.conf, needs.required, rec, needs.info, book, index);
+    let answer = JudgeAnswer::Verdict(verdict);
+    keep(book, needs.end, rec, answer);
+    answer
+}
+
 // Offers a point to a book: a number of document 01, or its verdict. Fail leaves the book as it was; any other verdict is kept.
 pub fn offer(
     book: &mut [u8],
@@ -86,9 +121,13 @@ pub fn offer(
     ensures { λ r. ⌜ now (book .exit) ≡ offerBytes (now (book .entry))
         (offerOf (now (schedule .entry)) leader (now (rec .entry)) (now (peers .entry))) .after ⌝ }
 {
-    let decided = decide::decide(book, schedule, leader, rec, peers);
-    let answer = decided.answer;
-    set_mark(book, decided.mark);
-    keep(book, decided.end, rec, answer);
-    answer
+    let mut index = [0u16; id_index::LENGTH];
+    let decided = decide::decide(book, schedule, leader, rec, peers, &mut index);
+    match decided {
+        Decided::Answered(answer, end) => {
+            keep(book, end, rec, answer);
+            answer
+        }
+        Decided::Needed(needs) => judge_needed(book, &index, rec, needs),
+    }
 }

@@ -1,9 +1,9 @@
--- Laws of judging over a book: marks, the entry of an id, dependencies that are no versions, and the lists one after the other.
+-- Laws of judging over a book: the entry of an id, dependencies that are no versions, and the lists one after the other.
 use Prim.Native.Nat.{ℕ, _+_, _-_, _≤_, _<_}
 use native.Mathlib.Omega.{arith}
 use mathlib.Core.Path.{_≡_, refl, ap, sym, _∙_, subst}
 use mathlib.Core.Bool.{Bool, true, false, not, _&&_, and-false}
-use mathlib.Core.Option.{Option, none, some, Option·map}
+use mathlib.Core.Option.{Option, none, some}
 use mathlib.Core.List.{List, [], _∷_, _++_}
 use lib.ListN.{length, getD, drop, drop-of-length-le}
 use lib.Seq.{drop-cons}
@@ -27,35 +27,27 @@ use Rattle.judge_step.specs.Code.{Judging, start, directStep, indirectStep, dir
 use Rattle.judge_step.proofs.Laws.{fold-over-lists}
 use Rattle.judge_mismatch.specs.Code.{noPair}
 use Rattle.rules.specs.Mismatch.{pairId, isVersion, isId}
-use Rattle.books.specs.Kept.{Kept, Book, findKept, markOne, mark}
+use Rattle.books.specs.Kept.{Kept, Book, findKept}
 use Rattle.books.specs.Lists.{firstValid, keptEntry, entryWith, lookup, lookups, versions, directList, targetEntry, isTriggerFirst, indirectList}
-use Rattle.books.proofs.Bytes.{mark-none}
 use Rattle.books.proofs.Clear.{lookup-id}
-use Rattle.books.proofs.Find.{find-id, find-marked}
-use Rattle.book_judge.specs.Code.{marked, overBook, shown, NoVersions}
+use Rattle.book_judge.specs.Code.{overBook, shown, NoVersions}
 
--- ---- the previous point is marked: an entry that is marked differs in its mark alone
+-- ---- the entry of an id
 
 -- what the book shows of an id, but for whether it is first valid
-abbrev pub Shows : Kept → Bool → Entry → Type 0
-Shows k covered e = shown k covered (e .firstValid) ≡ e
-
-marked-shows : (b : Book) (k : Kept) (covers : PointId → Bool) (i : PointId) → k .point .id ≡ i → Shows k (covers i) (keptEntry b (markOne covers k))
-unfolding keptEntry markOne
-marked-shows b k covers i e = rw e
+abbrev pub Shows : Kept → Entry → Type 0
+Shows k e = shown k (e .firstValid) ≡ e
 
 module _ (b : Book) (q : PointInfo) (i : PointId) where
-  -- an entry counts as certified by its mark, or as the previous point
-  pub looked-kept : (k : Kept) → findKept b i ≡ some k → Shows k (isId (prevId q) i) (lookup (marked q b) q i)
-  unfolding lookup
-  looked-kept k h =
-      let prev : PointId → Bool = isId (prevId q) in
-      rw (find-marked prev b i ∙ ap (Option·map (markOne prev)) h) (marked-shows (mark prev b) k prev i (find-id b i k h))
+  -- an entry counts as certified by its mark
+  pub looked-kept : (k : Kept) → findKept b i ≡ some k → Shows k (lookup b q i)
+  unfolding lookup keptEntry
+  looked-kept k h = rw h
 
   -- an id that is not kept counts as certified as the previous point
-  pub looked-absent : findKept b i ≡ none → lookup (marked q b) q i ≡ record { state = NotFound i; certified = isId (prevId q) i; firstValid = false }
+  pub looked-absent : findKept b i ≡ none → lookup b q i ≡ record { state = NotFound i; certified = isId (prevId q) i; firstValid = false }
   unfolding lookup
-  looked-absent h = ap (entryWith (marked q b) q i) (find-marked (isId (prevId q)) b i ∙ ap (Option·map (markOne (isId (prevId q)))) h)
+  looked-absent h = ap (entryWith b q i) h
 
 -- ---- a dependency that is no version is judged the same, first valid or not
 
@@ -196,23 +188,17 @@ module _ (c : Settings) (required : Bool) (p : PointView) where
         ∙ ap (λ (z : Judging). directFold c required p z (lookups b q (q .id .round - 1) (q .includes)))
         (map-judged two (q .id .round - 2) witness (q .witness) j x (et ∙ ap (λ (n : ℕ). n - 2) r) ew (witness-none q d (q .witness)) f)
 
--- without a previous point nothing is marked
-pub unmarked : (q : PointInfo) (b : Book) → prevDigest q ≡ none → marked q b ≡ b
-unfolding prevId
-unmarked q b h = rw h (mark-none b)
-
 -- after the maps, the versions where there is no previous point
 pub versions-after : (c : Settings) (required : Bool) (p : PointView) (b : Book) (q : PointInfo) (j x y : Judging) → p ≡ pointView q → prevDigest q ≡ none →
-    x ≡ inMaps c required p (marked q b) q j → y ≡ directFold c required p x (versions b (p .id .round - 1) (p .id .author) b) →
-    y ≡ directFold c required p j (directList (marked q b) q)
+    x ≡ inMaps c required p b q j → y ≡ directFold c required p x (versions b (p .id .round - 1) (p .id .author) b) →
+    y ≡ directFold c required p j (directList b q)
 unfolding pointView
 versions-after c required p b q j x y v h e f =
-    let maps = inMaps c required p (marked q b) q j in
+    let maps = inMaps c required p b q j in
     f
     ∙ ap (λ (z : Judging). directFold c required p z (versions b (p .id .round - 1) (p .id .author) b)) e
     ∙ ap (λ (i : PointId). directFold c required p maps (versions b (i .round - 1) (i .author) b)) (ap (λ (z : PointView). z .id) v)
-    ∙ ap (λ (z : Book). directFold c required p maps (versions z (q .id .round - 1) (q .id .author) z)) (sym (unmarked q b h))
-    ∙ sym (direct-unlinked c required p (marked q b) q j (ap (λ (o : Option ℕ). isSome o) h))
+    ∙ sym (direct-unlinked c required p b q j (ap (λ (o : Option ℕ). isSome o) h))
 
 module _ (c : Settings) (q : PointInfo) where
   indirect-append : (a b : List IndirectEntry) (j : Judging) → indirectFold c q j (a ++ b) ≡ indirectFold c q (indirectFold c q j a) b
@@ -246,13 +232,13 @@ view-prev v q e = ap (λ (z : PointView). z .prevDigest) e
 
 -- the direct entries, then the indirect ones; all rounds are present
 pub judged-over : (c : Settings) (required : Bool) (p : PointView) (q : PointInfo) (b : Book) (x y : Judging) (v : Verdict) → p ≡ pointView q →
-    x ≡ directFold c required p start (directList (marked q b) q) → y ≡ indirectFold c q x (indirectList (marked q b) q) → v ≡ resultOf y →
+    x ≡ directFold c required p start (directList b q) → y ≡ indirectFold c q x (indirectList b q) → v ≡ resultOf y →
     v ≡ overBook c required q b
 unfolding validate
 judged-over c required p q b x y v e f g h =
     h
     ∙ ap resultOf
     (g
-    ∙ ap (λ (j : Judging). indirectFold c q j (indirectList (marked q b) q))
-    (f ∙ ap (λ (z : PointView). directFold c required z start (directList (marked q b) q)) e))
-    ∙ fold-over-lists c required q (directList (marked q b) q) (indirectList (marked q b) q)
+    ∙ ap (λ (j : Judging). indirectFold c q j (indirectList b q))
+    (f ∙ ap (λ (z : PointView). directFold c required z start (directList b q)) e))
+    ∙ fold-over-lists c required q (directList b q) (indirectList b q)

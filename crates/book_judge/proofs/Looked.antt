@@ -2,8 +2,7 @@
 use Prim.Native.Nat.{ℕ, _+_, _-_, _≤_}
 use native.Mathlib.Omega.{arith}
 use mathlib.Core.Path.{_≡_, ap, sym, _∙_, subst}
-use mathlib.Core.Bool.{Bool, false, _||_}
-use mathlib.Core.Option.{some}
+use mathlib.Core.Bool.{Bool, false}
 use mathlib.Core.List.{List}
 use lib.ListN.{length, take, drop, length-drop}
 use Rattle.base.proofs.Option.{none-some}
@@ -18,7 +17,7 @@ use Rattle.judge_step.specs.Code.{Judging, directStep, indirectStep, indirectFo
 use Rattle.judge_valid.specs.declared.view.PointView as code-view
 use Rattle.rules.specs.Mismatch.{isVersion, isId}
 use Rattle.judge_list.specs.Code.{prevIn}
-use Rattle.id_index.specs.Code.{FoundAt}
+use Rattle.id_index.specs.Code.{placeIn, FoundAt}
 use Rattle.id_index.specs.declared.Place.{Place}
 use Rattle.id_index.specs.declared.Place.the-variants.{At, Absent}
 use Rattle.judge_entries.specs.Code.{dagPointOf, partOf, ReadFrom, EntryPlaced}
@@ -32,23 +31,23 @@ use Rattle.book_layout.specs.Code as layout
 use Rattle.book_layout.specs.declared.read.Kept as code-kept
 use Rattle.book_layout.specs.declared.read.ReadKept as code-read
 use Rattle.book_layout.specs.declared.read.ReadKept.the-variants as case-read
-use Rattle.book_judge.specs.Code.{marked, Asked, shown, lookedOf, Looks, KeptLooked}
+use Rattle.book_judge.specs.Code.{Asked, shown, lookedOf, Looks, KeptLooked}
 use Rattle.book_judge.specs.declared.look.Looked as code-looked
 use Rattle.book_read.proofs.Laws.{found-kept, absent-kept}
 use Rattle.book_judge.proofs.Laws.{looked-kept, looked-absent, step-looked, indirect-judged}
 
 -- what `kept_at` says of the entry that starts at a place
-abbrev pub LookedAt : List ℕ → ℕ → Bool → code-looked.Looked → Type 0
-LookedAt s place covered x =
+abbrev pub LookedAt : List ℕ → ℕ → code-looked.Looked → Type 0
+LookedAt s place x =
     EntryPlaced s (x .state) (x .place) (x .end)
-    × KeptLooked s place covered x
+    × KeptLooked s place x
 
 placed-kept : (s : List ℕ) (r : code-read.ReadKept) (k : code-kept.Kept) → r ≡ case-read.Kept k → KeptPlaced s r → layout.KeptAt s k
 placed-kept s r k e h = rw e at h
 
-module _ (s : List ℕ) (place : ℕ) (part : List ℕ) (e : part ≡ drop place s) (inside : place ≤ length s) (covered : Bool)
+module _ (s : List ℕ) (place : ℕ) (part : List ℕ) (e : part ≡ drop place s) (inside : place ≤ length s)
     (r : code-read.ReadKept) (front : readKeptOf part r ≡ keptFront part) where
-  pub looked-none : r ≡ case-read.Unreadable → LookedAt s place covered (record { state = case-point.Dropped; certified = false; place = place; end = place })
+  pub looked-none : r ≡ case-read.Unreadable → LookedAt s place (record { state = case-point.Dropped; certified = false; place = place; end = place })
   looked-none g = (
     record { ordered = omega arith; inside = inside; read = tt },
     λ y f. none-some (ap (readKeptOf part) (sym g) ∙ (front ∙ (ap keptFront e ∙ f))),
@@ -58,12 +57,11 @@ module _ (s : List ℕ) (place : ℕ) (part : List ℕ) (e : part ≡ drop place
     pub kept-end : place + k .len ≤ length s
     kept-end = omega (arith, placed-kept part r k g placed .inside, ap length e, length-drop place s)
 
-    pub looked-some : (state : code-point.DagPoint) (certified : Bool) →
+    pub looked-some : (state : code-point.DagPoint) →
         ((t : List ℕ) → dagPointOf t state ≡ dagPoint (pointOf t (k .info)) (statusOf (k .status))) →
         ((t : List ℕ) → Reads t (k .info) → ReadFrom t state) →
-        certified ≡ (k .certified || covered) →
-        LookedAt s place covered (record { state = state; certified = certified; place = place; end = place + k .len })
-    looked-some state certified dag from c =
+        LookedAt s place (record { state = state; certified = k .certified; place = place; end = place + k .len })
+    looked-some state dag from =
         let t = partOf s place (place + k .len) in
         let h : take (k .len) part ≡ t = let n : place + k .len - place ≡ k .len = omega arith in rw (n, e) in (
           record {
@@ -73,7 +71,7 @@ module _ (s : List ℕ) (place : ℕ) (part : List ℕ) (e : part ≡ drop place
           },
           λ y f first.
               let w : keptOf (take (k .len) part) k ≡ y .kept = let q = ap (readKeptOf part) (sym g) ∙ (front ∙ (ap keptFront e ∙ f)) in cc in
-              rw (dag t, c) (ap (λ (z : Kept). shown z covered first) (ap (λ (z : List ℕ). keptOf z k) (sym h) ∙ w)),
+              rw (dag t) (ap (λ (z : Kept). shown z first) (ap (λ (z : List ℕ). keptOf z k) (sym h) ∙ w)),
         )
 
 -- ---- the entry of an id
@@ -81,27 +79,26 @@ module _ (s : List ℕ) (place : ℕ) (part : List ℕ) (e : part ≡ drop place
 pub found-there : (s x : List ℕ) (i : PointId) (r q : Place) → r ≡ q → FoundAt s x i r → FoundAt s x i q
 found-there s x i r q e h = rw e at h
 
-covered-prev : (v : PointView) (q : PointInfo) (i : PointId) (covered : Bool) → v ≡ pointView q → covered ≡ isId (prevIn v) i → covered ≡ isId (prevId q) i
+prev-in : (v : PointView) (q : PointInfo) (i : PointId) (prev : Bool) → v ≡ pointView q → prev ≡ isId (prevIn v) i → prev ≡ isId (prevId q) i
 unfolding pointView prevId
-covered-prev v q i covered e h = h ∙ ap (λ (o : _). isId o i) (ap prevIn e)
+prev-in v q i prev e h = h ∙ ap (λ (o : _). isId o i) (ap prevIn e)
 
 abbrev absent : PointId → Bool → Entry
-absent i covered = record { state = NotFound i; certified = covered; firstValid = false }
+absent i prev = record { state = NotFound i; certified = prev; firstValid = false }
 
-module _ {s : List ℕ} {b : Book} {x : List ℕ} {v : code-view.PointView} {q : PointInfo} (a : Asked s b x v q) (covered : Bool) where
-  pub looks-found : (i : PointId) → covered ≡ isId (prevIn (pointViewOf v)) i → (place : ℕ) → FoundAt s x i (At place) → (y : code-looked.Looked) → LookedAt s place covered y →
-      Looks s y (lookup (marked q b) q i)
-  looks-found i c place f y l =
-      let w = found-kept (a .holds) i place f in
-      let e = lookup (marked q b) q i in
-      l .1 _ (rw (f .there) at (a .holds .placed .fronts (f .which) (w .kept) (w .rest) (w .there))) (e .firstValid)
-      ∙ (ap (λ (t : Bool). shown (w .kept) t (e .firstValid)) (covered-prev (pointViewOf v) q i covered (a .view) c) ∙ looked-kept b q i (w .kept) (w .found))
+module _ {s : List ℕ} {b : Book} {x : List ℕ} {v : code-view.PointView} {q : PointInfo} (a : Asked s b x v q) where
+  pub looks-found : (i : PointId) (j : ℕ) → FoundAt s x i (At j) → (place : ℕ) → place ≡ placeIn x j → (y : code-looked.Looked) → LookedAt s place y →
+      Looks s y (lookup b q i)
+  looks-found i j f place e y l =
+      let w = found-kept (a .holds) i j f in
+      l .1 (record { kept = w .kept; size = length (w .kept .bytes) + 108 }) (rw e (a .holds .placed .fronts j (w .kept) (w .rest) (w .there))) (lookup b q i .firstValid)
+      ∙ looked-kept b q i (w .kept) (w .found)
 
-  pub looks-absent : (i : code-id.PointId) → covered ≡ isId (prevIn (pointViewOf v)) (pointIdOf i) → FoundAt s x (pointIdOf i) Absent →
-      Looks s (record { state = case-point.NotFound i; certified = covered; place = 0; end = 0 }) (lookup (marked q b) q (pointIdOf i))
-  looks-absent i c f =
+  pub looks-absent : (i : code-id.PointId) (prev : Bool) → prev ≡ isId (prevIn (pointViewOf v)) (pointIdOf i) → FoundAt s x (pointIdOf i) Absent →
+      Looks s (record { state = case-point.NotFound i; certified = prev; place = 0; end = 0 }) (lookup b q (pointIdOf i))
+  looks-absent i prev c f =
       rw (looked-absent b q (pointIdOf i) (absent-kept (a .holds) (pointIdOf i) f))
-      (ap (absent (pointIdOf i)) (covered-prev (pointViewOf v) q (pointIdOf i) covered (a .view) c))
+      (ap (absent (pointIdOf i)) (prev-in (pointViewOf v) q (pointIdOf i) prev (a .view) c))
 
 -- ---- judging what was looked up
 

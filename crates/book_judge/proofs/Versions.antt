@@ -1,7 +1,7 @@
 -- Laws of the versions of an author: the first one that is Valid in the book's order is the first valid one, since no id stands twice.
 use Prim.Native.Nat.{ℕ, _+_, _-_, _≤_}
 use mathlib.Core.Path.{_≡_, refl, ap, sym, _∙_}
-use mathlib.Core.Bool.{Bool, true, false, not, _&&_, _||_, and-false, or-false}
+use mathlib.Core.Bool.{Bool, true, false, not, _&&_, _||_, and-false}
 use mathlib.Core.Option.{Option, none, some}
 use mathlib.Core.List.{List, [], _∷_}
 use lib.ListN.{length, drop, drop-of-length-le}
@@ -75,10 +75,10 @@ module _ (round author : ℕ) where
         (rw e (sym (same-refl (k .point .id))), λ i f. let same : k .point .id ≡ i = cc in rw same at (once-first k l once))
     come-own false false o once h v t = let e : o ≡ firstValid l round author = t ∙ rw v in (sym (other-after once o e), e)
 
-  shown-kept : (b : Book) (k : Kept) (first : Bool) → isOf round author k ≡ true → first ≡ isId (firstValid b round author) (k .point .id) → shown k false first ≡ keptEntry b k
+  shown-kept : (b : Book) (k : Kept) (first : Bool) → isOf round author k ≡ true → first ≡ isId (firstValid b round author) (k .point .id) → shown k first ≡ keptEntry b k
   unfolding keptEntry
   shown-kept b k first h e =
-      rw (or-false (k .certified), e, eqb-true (k .point .id .round) round (and-left (eqb (k .point .id .round) round) _ h), eqb-true (k .point .id .author) author (and-right (eqb (k .point .id .round) round) _ h))
+      rw (e, eqb-true (k .point .id .round) round (and-left (eqb (k .point .id .round) round) _ h), eqb-true (k .point .id .author) author (and-right (eqb (k .point .id .round) round) _ h))
 
 module _ (c : Settings) (required : Bool) (p : PointView) (b : Book) where
   abbrev versionsIn : List Kept → List Entry
@@ -95,7 +95,7 @@ module _ (c : Settings) (required : Bool) (p : PointView) (b : Book) where
       next : Versions
       next =
           record {
-            judging = directStep c required p (w .judging) (shown k false (isFirst k (w .seen)));
+            judging = directStep c required p (w .judging) (shown k (isFirst k (w .seen)));
             seen = w .seen || isFirst k (w .seen);
           }
 
@@ -125,7 +125,7 @@ module _ (c : Settings) (required : Bool) (p : PointView) where
   version-other w k h = rw h
 
   pub version-own : (w : Versions) (k : Kept) (e : Entry) (first seen : Bool) (j : Judging) → isOf (p .id .round - 1) (p .id .author) k ≡ true →
-      e ≡ shown k false first → first ≡ (isValidState (e .state) && not (w .seen)) → j ≡ directStep c required p (w .judging) e → seen ≡ (w .seen || first) →
+      e ≡ shown k first → first ≡ (isValidState (e .state) && not (w .seen)) → j ≡ directStep c required p (w .judging) e → seen ≡ (w .seen || first) →
       record { judging = j; seen = seen } ≡ versionStep c required p w k
   unfolding versionStep
   version-own w k e first seen j h d f g o =

@@ -6,15 +6,15 @@ use mathlib.Core.List.{List, List·Memᴰ}
 use Rattle.judge_valid.specs.Code.{pointViewOf}
 use Rattle.base.specs.Base.{pick}
 use Rattle.map.specs.Rows.{Pair, pairsOf}
-use Rattle.point.specs.Point.{PointInfo, prevId, PointId, AnchorLink, anchorLink, inDomain}
+use Rattle.point.specs.Point.{PointInfo, PointId, AnchorLink, anchorLink, inDomain}
 use Rattle.schedule.specs.Settings.{Settings}
 use Rattle.reasons.specs.Verdict.{Verdict}
 use Rattle.rules.specs.DagPoint.{DagPoint, Valid, TransInvalid, Invalid, IllFormed, NotFound, Dropped, Entry, PointView, pointView}
 use Rattle.rules.specs.Validate.{validate}
 use Rattle.judge_entries.specs.Code.{entryOf, partOf}
 use Rattle.judge_step.specs.Code.{Judging, directStep, judgingOf, start, directFold, indirectFold}
-use Rattle.rules.specs.Mismatch.{pairId, isVersion, isId}
-use Rattle.books.specs.Kept.{Kept, Book, mark}
+use Rattle.rules.specs.Mismatch.{pairId, isVersion}
+use Rattle.books.specs.Kept.{Kept, Book}
 use Rattle.books.specs.Lists.{dagPoint, isValid, isOf, directList, indirectList, lookup, lookups, versions, targetEntry}
 use Rattle.book_read.specs.Code.{Holds}
 use Rattle.judge_valid.specs.declared.view.PointView as code-view
@@ -29,13 +29,9 @@ use Rattle.point.specs.declared.data.AnchorStageRole.{AnchorStageRole}
 use Rattle.books.specs.Layout.{KeptFront, keptFront}
 use Rattle.point.specs.declared.info.PointInfo as code-info
 
--- "before its direct entries are judged, the previous point, if kept, is marked certified"
-abbrev pub marked : PointInfo → Book → Book
-marked p b = mark (isId (prevId p)) b
-
--- the verdict over the lists that the book builds; all rounds are present
+-- the verdict over the lists that the book builds, its marks made before; all rounds are present
 abbrev pub overBook : Settings → Bool → PointInfo → Book → Verdict
-overBook c required p b = validate c required 3 p (directList (marked p b) p) (indirectList (marked p b) p)
+overBook c required p b = validate c required 3 p (directList b p) (indirectList b p)
 
 -- ---- for contracts between functions
 
@@ -44,9 +40,9 @@ pub record Asked (s : List ℕ) (b : Book) (x : List ℕ) (v : code-view.PointVi
   pub holds : Holds s b x
   pub view : pointViewOf v ≡ pointView p
 
--- what the judge is told of a kept point; covered says that a certificate covers it whatever its mark
-abbrev pub shown : Kept → Bool → Bool → Entry
-shown k covered first = record { state = dagPoint (k .point) (k .status); certified = k .certified || covered; firstValid = first }
+-- what the judge is told of a kept point
+abbrev pub shown : Kept → Bool → Entry
+shown k first = record { state = dagPoint (k .point) (k .status); certified = k .certified; firstValid = first }
 
 abbrev pub lookedOf : List ℕ → code-looked.Looked → Bool → Entry
 lookedOf s x first = entryOf (partOf s (x .place) (x .end)) (x .state) (x .certified) first
@@ -86,7 +82,7 @@ unfolding directStep
 versionStep c required p w k =
     pick (isOf (p .id .round - 1) (p .id .author) k)
     (record {
-      judging = directStep c required p (w .judging) (shown k false (isFirst k (w .seen)));
+      judging = directStep c required p (w .judging) (shown k (isFirst k (w .seen)));
       seen = w .seen || isFirst k (w .seen);
     })
     w
@@ -94,19 +90,19 @@ versionStep c required p w k =
 -- ---- what functions promise of the book whose bytes are s and whose index is x, and of a point whose view is v
 
 -- what stands at a place, if it is an entry, is handed on as the judge is told of it
-abbrev pub KeptLooked : List ℕ → ℕ → Bool → code-looked.Looked → Type 0
-KeptLooked s place covered r =
-    (x : KeptFront) → keptFront (drop place s) ≡ some x → (first : Bool) → lookedOf s r first ≡ shown (x .kept) covered first
+abbrev pub KeptLooked : List ℕ → ℕ → code-looked.Looked → Type 0
+KeptLooked s place r =
+    (x : KeptFront) → keptFront (drop place s) ≡ some x → (first : Bool) → lookedOf s r first ≡ shown (x .kept) first
 
 -- what was looked up is what the book says of an id
 abbrev pub LookedUp : List ℕ → List ℕ → code-view.PointView → PointId → code-looked.Looked → Type 0
-LookedUp s x v i r = (b : Book) (p : PointInfo) → Asked s b x v p → Looks s r (lookup (marked p b) p i)
+LookedUp s x v i r = (b : Book) (p : PointInfo) → Asked s b x v p → Looks s r (lookup b p i)
 
 -- the dependencies that a map's rows name at a round were judged, none of which is a version
 abbrev pub MapJudged : Settings → Bool → code-view.PointView → ℕ → List ℕ → List ℕ → List ℕ → Judging → Judging → Type 0
 MapJudged c required v round rows s x old new =
     (b : Book) (p : PointInfo) → Asked s b x v p → NoVersions p round (pairsOf rows) →
-    new ≡ directFold c required (pointViewOf v) old (lookups (marked p b) p round (pairsOf rows))
+    new ≡ directFold c required (pointViewOf v) old (lookups b p round (pairsOf rows))
 
 -- the entry at a place was judged, if it is a version
 abbrev pub VersionJudged : Settings → Bool → code-view.PointView → List ℕ → ℕ → Versions → Versions → Type 0
@@ -124,19 +120,19 @@ VersionsJudged c required v s x old new =
 abbrev pub DirectListJudged : Settings → Bool → code-view.PointView → List ℕ → List ℕ → List ℕ → Judging → Type 0
 DirectListJudged c required v rec s x new =
     (b : Book) (i : code-info.PointInfo) → Asked s b x v (pointOf rec i) → inDomain (pointOf rec i) ≡ true →
-    new ≡ directFold c required (pointViewOf v) start (directList (marked (pointOf rec i) b) (pointOf rec i))
+    new ≡ directFold c required (pointViewOf v) start (directList b (pointOf rec i))
 
 -- the target of a link was judged, if the link is indirect
 abbrev pub TargetJudged : Settings → code-view.PointView → AnchorStageRole → AnchorLink → List ℕ → List ℕ → Judging → Judging → Type 0
 TargetJudged c v role link s x old new =
     (b : Book) (p : PointInfo) → Asked s b x v p → link ≡ anchorLink role p →
-    new ≡ indirectFold c p old (targetEntry (marked p b) p role link)
+    new ≡ indirectFold c p old (targetEntry b p role link)
 
 -- the indirect list that the book builds for a point was judged, whatever its record
 abbrev pub TargetsJudged : Settings → code-view.PointView → code-info.PointInfo → List ℕ → List ℕ → Judging → Judging → Type 0
 TargetsJudged c v i s x old new =
     (b : Book) (rec : List ℕ) → Asked s b x v (pointOf rec i) →
-    new ≡ indirectFold c (pointOf rec i) old (indirectList (marked (pointOf rec i) b) (pointOf rec i))
+    new ≡ indirectFold c (pointOf rec i) old (indirectList b (pointOf rec i))
 
 -- a point in the domain was judged by the book
 abbrev pub BookJudged : Settings → Bool → PointInfo → List ℕ → List ℕ → Verdict → Type 0

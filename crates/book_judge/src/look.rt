@@ -4,8 +4,6 @@ use id_index::Place;
 use judge_entries::DagPoint;
 use judge_valid::PointView;
 use point::PointId;
-ghost use mathlib.Core.Path.{_≡_};
-ghost use mathlib.Core.Bool.{_||_};
 ghost use Prim.Native.Nat.{_≤_};
 ghost use lib.ListN.{length};
 ghost use Rattle.point.specs.Code.{pointIdOf};
@@ -21,20 +19,11 @@ pub struct Looked {
     pub end: usize,
 }
 
-pub fn either(a: bool, b: bool) -> bool
-    ensures { λ r. ⌜ r ≡ (a || b) ⌝ }
-{
-    if a {
-        return true;
-    }
-    b
-}
-
-// The entry that starts at a place; covered says that a certificate covers it whatever its mark.
-pub fn kept_at(book: &[u8], place: usize, covered: bool) -> Looked
+// The entry that starts at a place.
+pub fn kept_at(book: &[u8], place: usize) -> Looked
     requires { ⌜ place ≤ length (now book) ⌝ }
     ensures { λ r. ⌜ EntryPlaced (now (book .entry)) (r .state) (r .place) (r .end) ⌝ }
-    ensures { λ r. ⌜ KeptLooked (now (book .entry)) place covered r ⌝ }
+    ensures { λ r. ⌜ KeptLooked (now (book .entry)) place r ⌝ }
 {
     let read = book_layout::read_kept(&book[place..]);
     match read {
@@ -43,10 +32,9 @@ pub fn kept_at(book: &[u8], place: usize, covered: bool) -> Looked
             let status = k.status;
             let end = place + k.len;
             let state = book_layout::dag_point(info, status);
-            let certified = either(k.certified, covered);
             Looked {
                 state,
-                certified,
+                certified: k.certified,
                 place,
                 end,
             }
@@ -60,20 +48,18 @@ pub fn kept_at(book: &[u8], place: usize, covered: bool) -> Looked
     }
 }
 
-// What the book says of an id. The previous point counts as certified: its mark is made before the list is judged, and it counts so
-// even if it is not kept.
+// What the book says of an id. The previous point counts as certified even if it is not kept.
 pub fn lookup(p: PointView, id: PointId, book: &[u8], index: &[u16]) -> Looked
     requires { ⌜ Index (now book) (now index) ⌝ }
     ensures { λ r. ⌜ EntryPlaced (now (book .entry)) (r .state) (r .place) (r .end) ⌝ }
     ensures { λ r. ⌜ LookedUp (now (book .entry)) (now (index .entry)) p (pointIdOf id) r ⌝ }
 {
-    let covered = judge_list::is_prev(p, id);
     let found = id_index::find(book, index, id);
     match found {
-        Place::At(place) => kept_at(book, place, covered),
+        Place::At(j) => kept_at(book, id_index::place_at(index, j)),
         Place::Absent => Looked {
             state: DagPoint::NotFound(id),
-            certified: covered,
+            certified: judge_list::is_prev(p, id),
             place: 0,
             end: 0,
         },

@@ -24,7 +24,7 @@ pub record KeptAt (b : Book) (i : PointId) (j : ℕ) : Type 0 where
   pub there : drop j b ≡ kept ∷ rest
   pub found : findKept b i ≡ some kept
 
-standing : (b : Book) (j : ℕ) → j < length b → (k : Kept) × (rest : Book) × (drop j b ≡ k ∷ rest)
+pub standing : (b : Book) (j : ℕ) → j < length b → (k : Kept) × (rest : Book) × (drop j b ≡ k ∷ rest)
 standing [] j lt = absurd (omega arith)
 standing (k ∷ b) zero lt = (k, b, refl)
 standing (k ∷ b) (suc j) lt = standing b j (omega arith)
@@ -42,21 +42,21 @@ not-found (k ∷ b) i h = rw (h 0 k b refl) (not-found b i (λ j. h (suc j)))
 
 module _ {s : List ℕ} {b : Book} {x : List ℕ} (h : Holds s b x) (i : PointId) where
   -- the entry that the index finds is the book's entry of the id
-  pub found-kept : (place : ℕ) (f : FoundAt s x i (At place)) → KeptAt b i (f .which)
+  pub found-kept : (j : ℕ) → FoundAt s x i (At j) → KeptAt b i j
   unfolding findKept
-  found-kept place f =
+  found-kept j f =
       let p = h .placed in
-      let x = standing b (f .which) (omega (arith, p .count, f .within)) in
+      let x = standing b j (omega (arith, p .count, f .within)) in
       let k = x .0 in
       let rest = x .1 in
-      let e : sameId (k .point .id) i ≡ true = rw (p .ids (f .which) k rest (x .2)) at (f .same) in
-      let parts : b ≡ take (f .which) b ++ k ∷ rest = sym (take-append-drop (f .which) b) ∙ ap (_++_ (take (f .which) b)) (x .2) in
-      let o = once-around i k rest e (take (f .which) b) (rw parts at (h .once)) in
+      let e : sameId (k .point .id) i ≡ true = rw (p .ids j k rest (x .2)) at (f .same) in
+      let parts : b ≡ take j b ++ k ∷ rest = sym (take-append-drop j b) ∙ ap (_++_ (take j b)) (x .2) in
+      let o = once-around i k rest e (take j b) (rw parts at (h .once)) in
       record {
         kept = k;
         rest = rest;
         there = x .2;
-        found = ap (λ (l : Book). findKept l i) parts ∙ (find-after (take (f .which) b) (k ∷ rest) i (o .0) ∙ rw e);
+        found = ap (λ (l : Book). findKept l i) parts ∙ (find-after (take j b) (k ∷ rest) i (o .0) ∙ rw e);
       }
 
   module _ (f : FoundAt s x i Absent) where

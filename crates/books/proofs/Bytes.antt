@@ -46,9 +46,9 @@ unfolding mark markOne used
 mark-used covers [] = refl
 mark-used covers (k ∷ b) = ap (λ (n : ℕ). length (k .bytes) + 108 + n) (mark-used covers b)
 
--- ---- a mark that covers no entry changes nothing
+-- ---- an entry that is not covered stays as it is
 
-unmarked : (covers : PointId → Bool) (k : Kept) → covers (k .point .id) ≡ false → markOne covers k ≡ k
+pub unmarked : (covers : PointId → Bool) (k : Kept) → covers (k .point .id) ≡ false → markOne covers k ≡ k
 unfolding markOne
 unmarked covers k h = rw (h, or-false (k .certified))
 
@@ -87,36 +87,44 @@ flag-set (TransInvalid d) c = refl
 flag-set (Invalid n) c = refl
 flag-set (IllFormed n) c = refl
 
-module _ (i : PointId) (k : Kept) (t : sameId (k .point .id) i ≡ true) where
-  kept-marked : set (keptBytes k) (length (k .bytes) + 4) 1 ≡ keptBytes (markOne (isId (some i)) k)
+module _ (covers : PointId → Bool) (k : Kept) (t : covers (k .point .id) ≡ true) where
+  kept-marked : set (keptBytes k) (length (k .bytes) + 4) 1 ≡ keptBytes (markOne covers k)
   unfolding keptBytes markOne
   kept-marked =
       set-after (k .bytes) (33 ∷ 105 ∷ 0 ∷ statusBytes (k .status) (k .certified)) (length (k .bytes) + 4) 4 1 refl
-      ∙ rw (same-sym i (k .point .id) ∙ t, or-true (k .certified), flag-set (k .status) (k .certified))
+      ∙ rw (t, or-true (k .certified), flag-set (k .status) (k .certified))
 
-  entries-marked : (front back : Book) → set (entriesBytes (front ++ k ∷ back)) (used front + (length (k .bytes) + 4)) 1 ≡ entriesBytes (front ++ markOne (isId (some i)) k ∷ back)
+  entries-marked : (front back : Book) → set (entriesBytes (front ++ k ∷ back)) (used front + (length (k .bytes) + 4)) 1 ≡ entriesBytes (front ++ markOne covers k ∷ back)
   unfolding entriesBytes
   entries-marked front back =
       let n = length (k .bytes) + 4 in
-      rw (entries-append front (k ∷ back), entries-append front (markOne (isId (some i)) k ∷ back))
+      rw (entries-append front (k ∷ back), entries-append front (markOne covers k ∷ back))
       (set-after (entriesBytes front) (keptBytes k ++ entriesBytes back) (used front + n) n 1 (rw (entries-length front))
       ∙ rw (set-append-left (keptBytes k) (entriesBytes back) n 1 (omega (arith, kept-length k)), kept-marked))
 
-  -- "the previous point, if kept, is marked": of an entry, the second byte of its tag 33's content
-  module _ (settings : List ℕ) (len : ℕ) (l : length settings ≡ 47) (front back : Book) (at : ℕ) (e : at ≡ 47 + used front + length (k .bytes) + 3 + 1) where
-    mark-parts : isTwice (front ++ k ∷ back) ≡ false →
-        set (bookBytes settings len (front ++ k ∷ back)) at 1 ≡ bookBytes settings len (mark (isId (some i)) (front ++ k ∷ back))
-    unfolding bookBytes
-    mark-parts o =
-        let b = front ++ k ∷ back in
-        let n = used front + (length (k .bytes) + 4) in
-        let zeros : List ℕ = replicate (len - 47 - used b) 0 in
-        let within : n < length (entriesBytes b) = omega (arith, entries-length b, entry-within front k back) in
-        set-after settings (entriesBytes b ++ zeros) at n 1 (omega arith)
-        ∙ rw (mark-used (isId (some i)) b, mark-once i k back t front o, set-append-left (entriesBytes b) zeros n 1 within, entries-marked front back)
+  one-used : (front back : Book) → used (front ++ markOne covers k ∷ back) ≡ used (front ++ k ∷ back)
+  unfolding markOne used
+  one-used front back = omega (arith, used-append front (markOne covers k ∷ back), used-append front (k ∷ back))
 
-    pub mark-bytes : (b : Book) → b ≡ front ++ k ∷ back → isTwice b ≡ false → set (bookBytes settings len b) at 1 ≡ bookBytes settings len (mark (isId (some i)) b)
-    mark-bytes b f o = rw f (mark-parts (rw f at o))
+  -- of an entry that is covered, the second byte of its tag 33's content
+  pub entry-marked : (settings : List ℕ) (len : ℕ) → length settings ≡ 47 → (front back : Book) (at : ℕ) → at ≡ 47 + used front + length (k .bytes) + 3 + 1 →
+      set (bookBytes settings len (front ++ k ∷ back)) at 1 ≡ bookBytes settings len (front ++ markOne covers k ∷ back)
+  unfolding bookBytes
+  entry-marked settings len l front back at e =
+      let b = front ++ k ∷ back in
+      let n = used front + (length (k .bytes) + 4) in
+      let zeros : List ℕ = replicate (len - 47 - used b) 0 in
+      let within : n < length (entriesBytes b) = omega (arith, entries-length b, entry-within front k back) in
+      set-after settings (entriesBytes b ++ zeros) at n 1 (omega arith)
+      ∙ rw (one-used front back, set-append-left (entriesBytes b) zeros n 1 within, entries-marked front back)
+
+-- one mark alone
+pub mark-bytes : (i : PointId) (k : Kept) → sameId (k .point .id) i ≡ true → (settings : List ℕ) (len : ℕ) → length settings ≡ 47 → (front back : Book) (at : ℕ) →
+    at ≡ 47 + used front + length (k .bytes) + 3 + 1 → (b : Book) → b ≡ front ++ k ∷ back → isTwice b ≡ false →
+    set (bookBytes settings len b) at 1 ≡ bookBytes settings len (mark (isId (some i)) b)
+mark-bytes i k t settings len l front back at e b f o =
+    rw f (entry-marked (isId (some i)) k (same-sym i (k .point .id) ∙ t) settings len l front back at e
+    ∙ ap (bookBytes settings len) (sym (mark-once i k back t front (rw f at o))))
 
 -- ---- a new entry is a run of bytes
 

@@ -10,7 +10,7 @@ use mathlib.Core.List.{List, [], _∷_, _++_, List·Memᴰ, List·Memᴰ·head, 
 use lib.Dec.{eqb}
 use borrow.Author.Tests.{eqb-true, eq-eqb, le-ltb}
 use Rattle.base.specs.Base.{pick, isSome}
-use Rattle.base.proofs.Bool.{and-left, and-right, clash, and-both, or-first, or-second, or-none}
+use Rattle.base.proofs.Bool.{and-left, and-right, clash, and-both, last-false, or-first, or-second, or-none}
 use Rattle.map.specs.Rows.{Pair, rising, peers, get}
 use Rattle.map.proofs.Pairs.{rising-tail, rising-below, get-there}
 use Rattle.point.specs.Point.{PointId, Through, AnchorLink, Direct, Indirect, PointInfo, prevDigest, prevId, anchorLink, sameId}
@@ -27,7 +27,7 @@ use Rattle.rules.proofs.Mismatch.{has-next, has-none}
 use Rattle.books.specs.Kept.{Status, Valid, TransInvalid, Invalid, IllFormed, Kept, Book, findKept, isTwice, markOne, mark}
 use Rattle.books.specs.Lists.{dagPoint, isOf, keptEntry, entryWith, lookup, lookups, versions, directList, targetEntry, isTriggerFirst, indirectList}
 use Rattle.books.specs.Offer.{isStateOk, areStatesOk, answerOver}
-use Rattle.books.proofs.Find.{find-id, find-member, absent-first, once-first, once-rest}
+use Rattle.books.proofs.Find.{find-id, find-member, absent-first, once-first, once-rest, mark-member}
 
 -- ---- the ids of the direct list
 
@@ -210,7 +210,7 @@ module _ {X : Type 0} (b : Book) (p : PointInfo) (j : PointId)
 
 -- ---- 8: each entry has its place
 
-among-member : (round : ℕ) (l : List Pair) (q : Pair) → List·Memᴰ q l → isAmong round l (pairId round q) ≡ true
+pub among-member : (round : ℕ) (l : List Pair) (q : Pair) → List·Memᴰ q l → isAmong round l (pairId round q) ≡ true
 unfolding isAmong
 among-member round [] q m = absurd (List·Memᴰ·not-nil m)
 among-member round (x ∷ l) q m = go (among-member round l q) (List·Memᴰ·cases-cons m)
@@ -501,7 +501,7 @@ abbrev pub InDomain : Book → Type 0
 InDomain b = (k : Kept) → List·Memᴰ k b → isStateOk (dagPoint (k .point) (k .status)) ≡ true
 
 -- the previous point, if kept, is certified
-abbrev Covered : Option PointId → Book → Type 0
+abbrev pub Covered : Option PointId → Book → Type 0
 Covered prev b = (k : Kept) → List·Memᴰ k b → (not (k .certified) && isId prev (k .point .id)) ≡ false
 
 module _ (b : Book) (p : PointInfo) where
@@ -524,21 +524,19 @@ module _ (b : Book) (p : PointInfo) where
       kept : (k : Kept) → List·Memᴰ k b → uncovers (prevId p) (keptEntry b k) ≡ false
       kept k m = unfold uncovers keptEntry in rw (dag-there (k .point) (k .status), dag-id (k .point) (k .status)) (h k m)
 
--- the mark covers the previous point
-pub prev-covers : (prev : Option PointId) (b : Book) → Covered prev (mark (isId prev) b)
-unfolding mark markOne
-prev-covers prev [] k m = absurd (List·Memᴰ·not-nil m)
-prev-covers prev (x ∷ b) k m = go (prev-covers prev b k) (List·Memᴰ·cases-cons m)
-  where
-    either : (a t : Bool) → (not (a || t) && t) ≡ false
-    either true t = refl
-    either false t = not-and-self t
+-- marks that cover the previous point
+module _ (prev : Option PointId) (covers : PointId → Bool) (own : (i : PointId) → isId prev i ≡ true → covers i ≡ true) where
+  pub prev-covers : (b : Book) → Covered prev (mark covers b)
+  unfolding markOne
+  prev-covers b k m = let x = mark-member covers b k m in subst (λ (z : Kept). (not (z .certified) && isId prev (z .point .id)) ≡ false) (sym (x .1 .1)) (one (x .0))
+    where
+      either : (a t u : Bool) → (u ≡ true → t ≡ true) → (not (a || t) && u) ≡ false
+      either true t u f = refl
+      either false t true f = rw (f refl)
+      either false t false f = last-false (not t) false refl
 
-    go : (List·Memᴰ k (mark (isId prev) b) → (not (k .certified) && isId prev (k .point .id)) ≡ false) →
-        (k ≡ markOne (isId prev) x) ⊎ List·Memᴰ k (mark (isId prev) b) → (not (k .certified) && isId prev (k .point .id)) ≡ false
-    go rec (inl e) =
-        subst (λ (z : Kept). (not (z .certified) && isId prev (z .point .id)) ≡ false) (sym e) (either (x .certified) (isId prev (x .point .id)))
-    go rec (inr n) = rec n
+      one : (x : Kept) → (not (x .certified || covers (x .point .id)) && isId prev (x .point .id)) ≡ false
+      one x = either (x .certified) (covers (x .point .id)) (isId prev (x .point .id)) (own (x .point .id))
 
 -- ---- so demand 2 over the lists is the verdict
 

@@ -13,14 +13,14 @@ use Rattle.base.proofs.Bool.{or-left, or-right}
 use Rattle.base.proofs.Option.{none-some, some-none, unfound}
 use Rattle.base.proofs.Impossible.{impossible}
 use Rattle.map.specs.Rows.{Pair, rising, peers}
-use Rattle.point.specs.Point.{PointId, Through, Includes, Witness, AnchorLink, Direct, Indirect, PointInfo, prevDigest, prevId, through, anchorLink}
+use Rattle.point.specs.Point.{PointId, Through, Includes, Witness, AnchorLink, Direct, Indirect, PointInfo, prevDigest, through, anchorLink}
 use Rattle.point.specs.declared.data.AnchorStageRole.{AnchorStageRole}
 use Rattle.point.specs.declared.data.AnchorStageRole.the-variants.{Proof, Trigger}
 use Rattle.schedule.specs.Settings.{Settings}
 use Rattle.reasons.specs.Invalid.{InvalidDependency}
 use Rattle.rules.specs.DagPoint.{Entry, IndirectEntry, entryId, pointView}
 use Rattle.rules.specs.Validate.{asVersion, taken, recordOf, directThrough}
-use Rattle.rules.specs.Mismatch.{pairId, isId}
+use Rattle.rules.specs.Mismatch.{pairId}
 use Rattle.rules.proofs.Records.{NoneIn, takenAs, IsTaken, takenRecord, targetRecord, IsRoot}
 use Rattle.books.specs.Kept.{Status, Valid, TransInvalid, Invalid, IllFormed, Kept, Book, findKept, markOne, mark}
 use Rattle.books.specs.Lists.{dagPoint, isOf, keptEntry, entryWith, lookup, lookups, versions, directList, targetEntry, isTriggerFirst, indirectList}
@@ -177,11 +177,11 @@ module _ (c : Settings) (b : Book) (p : PointInfo) where
     -- where no entry records, nothing that the point depends on does
     pub depends-none : ((e : Entry) → List·Memᴰ e (directList b p) → IsTaken (pointView p) (entryId (e .state)) → takenRecord c (p .id .round) e ≡ none) →
         NoneIn (targetRecord c p) (indirectList b p) → (i : PointId) (t : Through) → DependsOn p i t → recordAt i t ≡ none
-    depends-none direct indirect i t (inl (q, (m, (e, f)))) =
+    depends-none direct indirect i t (inl (inl (q, (m, (e, f))))) =
         rw (e, f) (sym (includes-record q) ∙ direct _ (includes-listed b p q m) (looked-taken _ (includes-taken p q rise m)))
-    depends-none direct indirect i t (inr (inl (q, (m, (e, f))))) =
+    depends-none direct indirect i t (inl (inr (q, (m, (e, f))))) =
         rw (e, f) (sym (witness-record q) ∙ direct _ (witness-listed b p q m) (looked-taken _ (witness-taken p q second)))
-    depends-none direct indirect i t (inr (inr (g, e))) = sym (target-record g i t e) ∙ indirect _ (target-listed b p g i t e)
+    depends-none direct indirect i t (inr (g, e)) = sym (target-record g i t e) ∙ indirect _ (target-listed b p g i t e)
 
     -- what an entry records is what something that the point depends on does
     abbrev Cause : InvalidDependency → Type 0
@@ -192,14 +192,14 @@ module _ (c : Settings) (b : Book) (p : PointInfo) where
       where
         go : IsOneOf b p (p .id .round - 2) (p .witness) e ⊎ (IsOneOf b p (p .id .round - 1) (p .includes) e ⊎ IsVersion b p e) → Cause d
         go (inl (q, n, s)) =
-            (pairId (p .id .round - 2) q, Witness (q .peer), inr (inl (q, (n, (refl, refl)))), sym (witness-record q) ∙ (ap (takenRecord c (p .id .round)) (sym s) ∙ h))
+            (pairId (p .id .round - 2) q, Witness (q .peer), inl (inr (q, (n, (refl, refl)))), sym (witness-record q) ∙ (ap (takenRecord c (p .id .round)) (sym s) ∙ h))
         go (inr (inl (q, n, s))) =
-            (pairId (p .id .round - 1) q, Includes (q .peer), inl (q, (n, (refl, refl))), sym (includes-record q) ∙ (ap (takenRecord c (p .id .round)) (sym s) ∙ h))
+            (pairId (p .id .round - 1) q, Includes (q .peer), inl (inl (q, (n, (refl, refl)))), sym (includes-record q) ∙ (ap (takenRecord c (p .id .round)) (sym s) ∙ h))
         go (inr (inr v)) = absurd (version-apart b p e v w)
     cause d (inr (a, m, h)) = go (target-cases b p a m)
       where
         go : IsTarget b p a → Cause d
-        go (g, i, t, f, s) = (i, t, inr (inr (g, f)), sym (target-record g i t f) ∙ (ap (targetRecord c p) (sym s) ∙ h))
+        go (g, i, t, f, s) = (i, t, inr (g, f), sym (target-record g i t f) ∙ (ap (targetRecord c p) (sym s) ∙ h))
 
 -- ---- what a kept one records: it is bad, and has no mark
 
@@ -262,32 +262,29 @@ module _ (c : Settings) (round : ℕ) (certified : Bool) (t : Through) where
           }
       go (IllFormed n) e f = none-some f
 
--- ---- where the previous point is marked
+-- ---- where those that a test covers are marked
 
-abbrev pub markedFor : PointInfo → Book → Book
-markedFor p b = mark (isId (prevId p)) b
-
-module _ (c : Settings) (b : Book) (p : PointInfo) (i : PointId) (t : Through) where
+module _ (c : Settings) (b : Book) (covers : PointId → Bool) (p : PointInfo) (i : PointId) (t : Through) where
   abbrev recordWith : Option Kept → Option InvalidDependency
-  recordWith o = recordOf c (p .id .round) (entryWith (markedFor p b) p i o .certified) t (entryWith (markedFor p b) p i o .state)
+  recordWith o = recordOf c (p .id .round) (entryWith (mark covers b) p i o .certified) t (entryWith (mark covers b) p i o .state)
 
-  looked-up : recordAt c (markedFor p b) p i t ≡ recordWith (Option·map (markOne (isId (prevId p))) (findKept b i))
+  looked-up : recordAt c (mark covers b) p i t ≡ recordWith (Option·map (markOne covers) (findKept b i))
   unfolding lookup
-  looked-up = ap recordWith (find-marked (isId (prevId p)) b i)
+  looked-up = ap recordWith (find-marked covers b i)
 
   pub kept-record : (k : Kept) → findKept b i ≡ some k →
-      recordAt c (markedFor p b) p i t ≡ recordOf c (p .id .round) (k .certified || isId (prevId p) i) t (dagPoint (k .point) (k .status))
+      recordAt c (mark covers b) p i t ≡ recordOf c (p .id .round) (k .certified || covers i) t (dagPoint (k .point) (k .status))
   unfolding keptEntry markOne
   kept-record k f =
       looked-up
-      ∙ (ap (λ (o : Option Kept). recordWith (Option·map (markOne (isId (prevId p))) o)) f
-      ∙ ap (λ (j : PointId). recordOf c (p .id .round) (k .certified || isId (prevId p) j) t (dagPoint (k .point) (k .status))) (find-id b i k f))
+      ∙ (ap (λ (o : Option Kept). recordWith (Option·map (markOne covers) o)) f
+      ∙ ap (λ (j : PointId). recordOf c (p .id .round) (k .certified || covers j) t (dagPoint (k .point) (k .status))) (find-id b i k f))
 
   -- one that is not kept records nothing
-  pub recorded-kept : (d : InvalidDependency) → recordAt c (markedFor p b) p i t ≡ some d → (k : Kept) × (findKept b i ≡ some k)
+  pub recorded-kept : (d : InvalidDependency) → recordAt c (mark covers b) p i t ≡ some d → (k : Kept) × (findKept b i ≡ some k)
   unfolding recordOf
   recorded-kept d h = go (findKept b i) refl
     where
       go : (o : Option Kept) → findKept b i ≡ o → (k : Kept) × (findKept b i ≡ some k)
-      go none f = none-some (sym (looked-up ∙ ap (λ (o : Option Kept). recordWith (Option·map (markOne (isId (prevId p))) o)) f) ∙ h)
+      go none f = none-some (sym (looked-up ∙ ap (λ (o : Option Kept). recordWith (Option·map (markOne covers) o)) f) ∙ h)
       go (some k) f = (k, f)

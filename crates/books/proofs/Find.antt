@@ -1,9 +1,9 @@
 -- Laws of the entry of an id: where it is found, that no id stands twice, and what a mark changes.
-use mathlib.Core.Path.{_≡_, refl, ap, sym, _∙_}
+use mathlib.Core.Path.{_≡_, refl, ap, sym, _∙_, subst}
 use mathlib.Core.Logic.{_⊎_, inl, inr, _↔_}
-use mathlib.Core.Bool.{Bool, true, false}
+use mathlib.Core.Bool.{Bool, true, false, _||_}
 use mathlib.Core.Option.{none, some, Option·map}
-use mathlib.Core.List.{[], _∷_, _++_, List·Memᴰ, List·Memᴰ·head, List·Memᴰ·tail, List·Memᴰ·not-nil, List·Memᴰ·cases-cons}
+use mathlib.Core.List.{[], _∷_, _++_, map, List·Memᴰ, List·Memᴰ·head, List·Memᴰ·tail, List·Memᴰ·not-nil, List·Memᴰ·cases-cons}
 use Rattle.base.specs.Base.{pick, isSome}
 use Rattle.base.proofs.Bool.{or-left, or-right}
 use Rattle.base.proofs.Option.{none-some, unfound, unpicked, map-some}
@@ -11,6 +11,7 @@ use Rattle.point.specs.Point.{PointId, sameId}
 use Rattle.point.proofs.Ids.{same-refl, same-eq, same-sym}
 use Rattle.books.specs.Kept.{Kept, Book, findKept, isTwice, markOne, mark}
 use Rattle.books.specs.FoundBook.{NoIdTwice}
+use Rattle.books.specs.AnyMarks.{remark}
 
 -- an entry that stands first is found by its id
 first-found : (k : Kept) (b : Book) → findKept (k ∷ b) (k .point .id) ≡ some k
@@ -117,29 +118,47 @@ module _ (i : PointId) (k : Kept) (back : Book) (t : sameId (k .point .id) i ≡
 
 -- ---- marks: an entry that is marked differs in its mark alone
 
-pub find-marked : (covers : PointId → Bool) (b : Book) (j : PointId) → findKept (mark covers b) j ≡ Option·map (markOne covers) (findKept b j)
-unfolding findKept mark markOne
-find-marked covers [] j = refl
-find-marked covers (k ∷ b) j = go (sameId (k .point .id) j) (find-marked covers b j)
-  where
-    go : (t : Bool) → findKept (mark covers b) j ≡ Option·map (markOne covers) (findKept b j) →
-        pick t (some (markOne covers k)) (findKept (mark covers b) j) ≡ Option·map (markOne covers) (pick t (some k) (findKept b j))
-    go true h = refl
-    go false h = h
+module _ (marks : Kept → Bool) where
+  find-remarked : (b : Book) (j : PointId) → findKept (map (remark marks) b) j ≡ Option·map (remark marks) (findKept b j)
+  unfolding findKept
+  find-remarked [] j = refl
+  find-remarked (k ∷ b) j = go (sameId (k .point .id) j) (find-remarked b j)
+    where
+      go : (t : Bool) → findKept (map (remark marks) b) j ≡ Option·map (remark marks) (findKept b j) →
+          pick t (some (remark marks k)) (findKept (map (remark marks) b) j) ≡ Option·map (remark marks) (pick t (some k) (findKept b j))
+      go true h = refl
+      go false h = h
 
-pub marked-kept : (covers : PointId → Bool) (b : Book) (j : PointId) (k : Kept) → findKept b j ≡ some k → findKept (mark covers b) j ≡ some (markOne covers k)
-marked-kept covers b j k h = find-marked covers b j ∙ ap (Option·map (markOne covers)) h
+  pub remarked-kept : (b : Book) (j : PointId) (k : Kept) → findKept b j ≡ some k → findKept (map (remark marks) b) j ≡ some (remark marks k)
+  remarked-kept b j k h = find-remarked b j ∙ ap (Option·map (remark marks)) h
 
-pub marked-found : (covers : PointId → Bool) (b : Book) (j : PointId) → isSome (findKept (mark covers b) j) ≡ isSome (findKept b j)
-marked-found covers b j = ap isSome (find-marked covers b j) ∙ map-some (markOne covers) (findKept b j)
+  -- an entry of a marked book is one of the book, marked
+  pub remark-member : (b : Book) (k : Kept) → List·Memᴰ k (map (remark marks) b) → (x : Kept) × (List·Memᴰ x b × (k ≡ remark marks x))
+  remark-member [] k m = absurd (List·Memᴰ·not-nil m)
+  remark-member (x ∷ b) k m = go (remark-member b k) (List·Memᴰ·cases-cons m)
+    where
+      go : (List·Memᴰ k (map (remark marks) b) → (y : Kept) × (List·Memᴰ y b × (k ≡ remark marks y))) → (k ≡ remark marks x) ⊎ List·Memᴰ k (map (remark marks) b) →
+          (y : Kept) × (List·Memᴰ y (x ∷ b) × (k ≡ remark marks y))
+      go rec (inl e) = (x, (List·Memᴰ·head refl, e))
+      go rec (inr n) = let r = rec n in (r .0, (List·Memᴰ·tail (r .1 .0), r .1 .1))
 
--- an entry of a marked book is one of the book, marked
-pub mark-member : (covers : PointId → Bool) (b : Book) (k : Kept) → List·Memᴰ k (mark covers b) → (x : Kept) × (List·Memᴰ x b × (k ≡ markOne covers x))
-unfolding mark
-mark-member covers [] k m = absurd (List·Memᴰ·not-nil m)
-mark-member covers (x ∷ b) k m = go (mark-member covers b k) (List·Memᴰ·cases-cons m)
-  where
-    go : (List·Memᴰ k (mark covers b) → (y : Kept) × (List·Memᴰ y b × (k ≡ markOne covers y))) → (k ≡ markOne covers x) ⊎ List·Memᴰ k (mark covers b) →
-        (y : Kept) × (List·Memᴰ y (x ∷ b) × (k ≡ markOne covers y))
-    go rec (inl e) = (x, (List·Memᴰ·head refl, e))
-    go rec (inr n) = let r = rec n in (r .0, (List·Memᴰ·tail (r .1 .0), r .1 .1))
+-- the marks that stood there, and those that a test on ids makes
+module _ (covers : PointId → Bool) where
+  abbrev pub orCovers : Kept → Bool
+  orCovers k = k .certified || covers (k .point .id)
+
+  pub mark-remark : (b : Book) → mark covers b ≡ map (remark orCovers) b
+  unfolding mark markOne
+  mark-remark [] = refl
+  mark-remark (k ∷ b) = ap (λ (l : Book). remark orCovers k ∷ l) (mark-remark b)
+
+  pub find-marked : (b : Book) (j : PointId) → findKept (mark covers b) j ≡ Option·map (markOne covers) (findKept b j)
+  unfolding markOne
+  find-marked b j = ap (λ (l : Book). findKept l j) (mark-remark b) ∙ find-remarked orCovers b j
+
+  pub marked-found : (b : Book) (j : PointId) → isSome (findKept (mark covers b) j) ≡ isSome (findKept b j)
+  marked-found b j = ap isSome (find-marked b j) ∙ map-some (markOne covers) (findKept b j)
+
+  pub mark-member : (b : Book) (k : Kept) → List·Memᴰ k (mark covers b) → (x : Kept) × (List·Memᴰ x b × (k ≡ markOne covers x))
+  unfolding markOne
+  mark-member b k m = remark-member orCovers b k (subst (List·Memᴰ k) (mark-remark b) m)

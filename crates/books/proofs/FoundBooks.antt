@@ -2,6 +2,8 @@
 use Prim.Native.Nat.{ℕ}
 use mathlib.Core.Path.{_≡_, ap, sym, _∙_, subst}
 use mathlib.Core.Logic.{_↔_}
+use mathlib.Core.Bool.{true}
+use mathlib.Core.Option.{Option}
 use mathlib.Core.List.{List, List·Memᴰ}
 use lib.ListN.{length}
 use Rattle.parts.specs.Bytes.{Bytes}
@@ -11,12 +13,12 @@ use Rattle.books.specs.Kept.{Kept, Opened}
 use Rattle.books.specs.Offer.{Offer, offer}
 use Rattle.books.specs.Run.{Run}
 use Rattle.books.specs.Calls.{opened, laidOut, inBytes, offerBytes}
-use Rattle.books.specs.FoundBook.{Left, allLeft, leftIn, WasKept, HasNoRoom, everMarked, NextOffer, FoundBook, FoundBooks}
+use Rattle.books.specs.FoundBook.{Left, allLeft, leftIn, WasKept, HasNoRoom, EverMarked, NextOffer, FoundBook, FoundBooks}
+use Rattle.books.specs.AnyMarks.{Built}
 use Rattle.books.proofs.Find.{find-exact, once-found, no-id-twice}
 use Rattle.books.proofs.Offered.{numbers, number-unchanged}
-use Rattle.books.proofs.Following.{AllStand}
-use Rattle.books.proofs.Found.{found-connected}
-use Rattle.books.proofs.Marks.{isCertified}
+use Rattle.books.proofs.Kept.{any-marks}
+use Rattle.books.proofs.Marks.{isCertified, next-told}
 use Rattle.books.proofs.LeftEntries.{left-in-slice}
 use Rattle.books.proofs.Invariant.{sound-reads, laid-length, offer-bytes, Invariant, opens, invariant}
 use Rattle.books.proofs.NextOffer.{next-tests, next-again, next-no-room}
@@ -31,11 +33,12 @@ module _ (settings : List ℕ) (c : Settings) (len : ℕ) (found : Run (List ℕ
   given : (z .bytes ≡ settings) × ((z .settings ≡ c) × (z .length ≡ len))
   given = (ap (λ (x : Opened). x .bytes) (h .stays), (ap (λ (x : Opened). x .settings) (h .stays), ap (λ (x : Opened). x .length) (h .stays)))
 
-  stands : AllStand c (z .book)
-  stands = subst (λ (x : Settings). AllStand x (z .book)) (given .1 .0) (h .sound .stands)
+  built : Built c (z .book)
+  built = subst (λ (x : Settings). Built x (z .book)) (given .1 .0) (h .sound .built)
 
-  marks : (k : Kept) → List·Memᴰ k (z .book) → k .certified ≡ everMarked (plain .moments) (k .point .id)
-  marks k m = ap isCertified (sym (once-found (z .book) (h .sound .shape .once) k m)) ∙ h .marks (k .point .id)
+  marks : (k : Kept) → List·Memᴰ k (z .book) → (k .certified ≡ true) ↔ EverMarked (plain .moments) (k .point .id)
+  marks k m =
+      subst (λ (x : Option Kept). (isCertified x ≡ true) ↔ EverMarked (plain .moments) (k .point .id)) (once-found (z .book) (h .sound .shape .once) k m) (h .marks (k .point .id))
 
   last-bytes : found .last ≡ laidOut z
   last-bytes = ap (λ (x : Run (List ℕ)). x .last) (h .same)
@@ -53,9 +56,10 @@ module _ (settings : List ℕ) (c : Settings) (len : ℕ) (found : Run (List ℕ
             subst (λ (l : List Left). (offer z o .answer ≡ Number 12) ↔ ((WasKept l (i .point .id) → ⊥) × HasNoRoom (z .length) l (o .bytes))) kept
             (next-no-room z o (h .sound) i e);
         unchanged = λ n e. (let u = number-unchanged z o n e in (numbers z o (h .sound .shape) n e, (ap laidOut (u .0) ∙ sym last-bytes, u .1)));
-        judged = next-judged plain o w (h .sound) marks;
-        clean = next-clean plain o (h .sound) marks;
-        caught = next-caught plain o (h .sound) marks;
+        judged = next-judged plain o w (h .sound) (h .marks);
+        told = next-told plain o (h .sound .settings) (h .sound .shape) (h .marks);
+        clean = next-clean plain o (h .sound) (h .marks);
+        caught = next-caught plain o (h .sound) (h .marks);
       }
 
   found-book : FoundBook settings c len found plain
@@ -70,7 +74,7 @@ module _ (settings : List ℕ) (c : Settings) (len : ℕ) (found : Run (List ℕ
         says = λ k m. h .sound .shape .entries k m .read;
         finds = λ i k. find-exact (z .book) (h .sound .shape .once) i k;
         kept = kept;
-        connected = found-connected c (z .book) stands;
+        connected = any-marks c (z .book) built;
         marks = marks;
         next = λ o w. subst (NextOffer found plain o) (sym (ap (λ (s : List ℕ). offerBytes s o) last-bytes ∙ offer-bytes z (h .sound) o)) (next-offer o w);
       }

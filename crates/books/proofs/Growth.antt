@@ -4,14 +4,15 @@ use mathlib.Core.Path.{_≡_, refl, sym, ap, _∙_, subst}
 use mathlib.Core.Logic.{_⊎_, inl, inr}
 use mathlib.Core.Bool.{Bool, not}
 use mathlib.Core.Option.{some}
-use mathlib.Core.List.{_++_, List·Memᴰ, List·Memᴰ·append-cases}
+use mathlib.Core.List.{_++_, map, List·Memᴰ, List·Memᴰ·append-cases}
 use lib.Dec.{T}
 use Rattle.point.specs.Point.{PointId, PointInfo, source, target, top}
 use Rattle.point.specs.declared.data.AnchorStageRole.{AnchorStageRole}
 use Rattle.schedule.specs.Settings.{Settings}
 use Rattle.rules.specs.Mismatch.{pairId}
-use Rattle.books.specs.Kept.{Status, Kept, Book, findKept, markOne, mark}
-use Rattle.books.proofs.Find.{find-front, marked-kept, mark-member}
+use Rattle.books.specs.Kept.{Status, Kept, Book, findKept}
+use Rattle.books.specs.AnyMarks.{remark}
+use Rattle.books.proofs.Find.{find-front, remarked-kept, remark-member}
 use Rattle.books.specs.Following.{isIllFormed}
 use Rattle.books.proofs.Following.{Inherited, HeldById, Linked, Stands, AllStand}
 
@@ -30,9 +31,8 @@ Grows b d = (i : PointId) (k : Kept) → findKept b i ≡ some k → Still d i k
 grows-append : (b l : Book) → Grows b (b ++ l)
 grows-append b l i k h = record { entry = k; kept = find-front b l i k h; point = refl; status = refl }
 
-grows-marked : (covers : PointId → Bool) (b : Book) → Grows b (mark covers b)
-unfolding markOne
-grows-marked covers b i k h = record { entry = markOne covers k; kept = marked-kept covers b i k h; point = refl; status = refl }
+grows-remarked : (marks : Kept → Bool) (b : Book) → Grows b (map (remark marks) b)
+grows-remarked marks b i k h = record { entry = remark marks k; kept = remarked-kept marks b i k h; point = refl; status = refl }
 
 -- ---- what holds of an entry holds in the grown book
 
@@ -70,18 +70,17 @@ module _ (c : Settings) (b d : Book) (grow : Grows b d) where
 
 -- ---- and of every entry
 
--- what is said of points and statuses is said of those of a marked book
-all-marked : (P : PointInfo → Status → Type 0) (covers : PointId → Bool) (b : Book) → ((k : Kept) → List·Memᴰ k b → P (k .point) (k .status)) →
-    (k : Kept) → List·Memᴰ k (mark covers b) → P (k .point) (k .status)
-unfolding markOne
-all-marked P covers b f k m =
-    let x = mark-member covers b k m in subst (λ (y : Kept). P (y .point) (y .status)) (sym (x .1 .1)) (f (x .0) (x .1 .0))
+-- what is said of points and statuses is said of those of a book with other marks
+all-remarked : (P : PointInfo → Status → Type 0) (marks : Kept → Bool) (b : Book) → ((k : Kept) → List·Memᴰ k b → P (k .point) (k .status)) →
+    (k : Kept) → List·Memᴰ k (map (remark marks) b) → P (k .point) (k .status)
+all-remarked P marks b f k m =
+    let x = remark-member marks b k m in subst (λ (y : Kept). P (y .point) (y .status)) (sym (x .1 .1)) (f (x .0) (x .1 .0))
 
 module _ (c : Settings) where
-  pub all-stand-marked : (covers : PointId → Bool) (b : Book) → AllStand c b → AllStand c (mark covers b)
-  all-stand-marked covers b all =
-      all-marked (Stands c (mark covers b)) covers b
-      (λ k m. stands-grows c b (mark covers b) (grows-marked covers b) (k .point) (k .status) (all k m))
+  pub all-stand-remarked : (marks : Kept → Bool) (b : Book) → AllStand c b → AllStand c (map (remark marks) b)
+  all-stand-remarked marks b all =
+      all-remarked (Stands c (map (remark marks) b)) marks b
+      (λ k m. stands-grows c b (map (remark marks) b) (grows-remarked marks b) (k .point) (k .status) (all k m))
 
   pub all-stand-append : (b l : Book) → AllStand c b → ((k : Kept) → List·Memᴰ k l → Stands c b (k .point) (k .status)) → AllStand c (b ++ l)
   all-stand-append b l all new k m = go (List·Memᴰ·append-cases b m)

@@ -1,28 +1,29 @@
 -- What is so of a slice and of the plain book after any list of offers since the opening.
 use Prim.Native.Nat.{ℕ, _+_, _≤_}
 use mathlib.Core.Path.{_≡_, refl, ap, sym, _∙_, subst}
-use mathlib.Core.Bool.{Bool, _&&_, _||_}
+use mathlib.Core.Logic.{_↔_}
+use mathlib.Core.Bool.{true}
 use mathlib.Core.Option.{some}
-use mathlib.Core.List.{List, [], _∷_, _++_, map, map-append}
+use mathlib.Core.List.{List, [], _∷_, _++_, map, map-append, List·Memᴰ·not-nil}
 use lib.ListN.{length}
 use borrow.Author.Tests.{le-ltb}
-use Rattle.base.specs.Base.{isSome}
+use Rattle.base.proofs.Impossible.{impossible}
 use Rattle.parts.specs.Bytes.{Bytes}
 use Rattle.parts.specs.Limits.{entriesStart, longestBook}
 use Rattle.point.specs.Point.{PointId}
 use Rattle.schedule.specs.Settings.{Settings, readSettings}
 use Rattle.books.specs.Kept.{findKept, Opened, withEntries}
-use Rattle.books.specs.Offer.{Offer, Result, startIn, used, offerTested, offer}
+use Rattle.books.specs.Offer.{Offer, Result, startIn, used, offer}
 use Rattle.books.specs.Run.{Moment, Run, momentOf, run, AreBytes}
 use Rattle.books.specs.Layout.{readBook}
 use Rattle.books.specs.Calls.{openNumber, openBytes, opened, laidOut, inBytes, offerTo, offerBytes}
-use Rattle.books.specs.FoundBook.{Left, leaves, allLeft, leftIn, covers, everMarked, runInBytes}
+use Rattle.books.specs.FoundBook.{Left, leaves, allLeft, leftIn, EverMarked, runInBytes}
+use Rattle.books.specs.AnyMarks.{Built, empty}
 use Rattle.books.proofs.Shape.{Shape, empty-shape}
 use Rattle.books.proofs.RoundTrip.{settings-length, book-length, book-reads}
 use Rattle.books.proofs.Offered.{offer-within, offer-shape, offer-room}
-use Rattle.books.proofs.Following.{AllStand}
-use Rattle.books.proofs.Kept.{offer-stands, empty-stands}
-use Rattle.books.proofs.Marks.{isCertified, offer-certified, offer-marked}
+use Rattle.books.proofs.Kept.{offer-built}
+use Rattle.books.proofs.Marks.{isCertified, offer-marked}
 use Rattle.books.proofs.LeftEntries.{offer-left, all-left-more, inSlice}
 use Rattle.books.proofs.Run.{more, run-more, by-offers}
 
@@ -33,12 +34,12 @@ pub record Sound (z : Opened) : Type 0 where
   pub short : z .length ≤ longestBook
   pub shape : Shape (z .book)
   pub room : startIn z + used (z .book) ≤ z .length
-  pub stands : AllStand (z .settings) (z .book)
+  pub built : Built (z .settings) (z .book)
 
 offer-sound : (z : Opened) (o : Offer) → Bytes (o .bytes) → Sound z → Sound (offer z o .after)
 offer-sound z o w h =
     subst Sound (sym (offer-within z o))
-    (record { settings = h .settings; short = h .short; shape = offer-shape z o w (h .shape); room = offer-room z o (h .room); stands = offer-stands z o (h .stands) })
+    (record { settings = h .settings; short = h .short; shape = offer-shape z o w (h .shape); room = offer-room z o (h .room); built = offer-built z o (h .built) })
 
 module _ (z : Opened) (h : Sound z) where
   -- it is read back from its slice
@@ -63,7 +64,7 @@ pub record Invariant (start : Opened) (found : Run (List ℕ)) (plain : Run Open
   pub sound : Sound (plain .last)
   pub same : found ≡ runInBytes plain
   pub kept : leftIn (plain .last .book) ≡ allLeft (plain .moments)
-  pub marks : (i : PointId) → isCertified (findKept (plain .last .book) i) ≡ everMarked (plain .moments) i
+  pub marks : (i : PointId) → (isCertified (findKept (plain .last .book) i) ≡ true) ↔ EverMarked (plain .moments) i
 
 module _ (start : Opened) (found : Run (List ℕ)) (plain : Run Opened) (h : Invariant start found plain) (o : Offer) where
   abbrev z : Opened
@@ -85,9 +86,7 @@ module _ (start : Opened) (found : Run (List ℕ)) (plain : Run Opened) (h : Inv
         kept =
             offer-left z o
             ∙ (ap (λ (l : List Left). l ++ leaves (o .bytes) (offer z o .answer)) (h .kept) ∙ sym (all-left-more (plain .moments) (momentOf offer z o)));
-        marks = λ i.
-            offer-certified z o (h .sound .shape) i
-            ∙ (ap (λ (t : Bool). t || (isSome (findKept (z .book) i) && covers (o .leader) (offerTested z o) i)) (h .marks i) ∙ sym (offer-marked (plain .moments) z o (h .sound .settings) (h .sound .shape) i));
+        marks = λ i. offer-marked z o (h .sound .settings) (h .sound .shape) i (plain .moments) (h .marks i);
       }
 
 -- ---- since the opening
@@ -110,14 +109,14 @@ module _ (settings slice : List ℕ) (c : Settings) (r : readSettings settings �
   room-opened = least
 
   invariant-opened : Invariant first (run offerBytes (openBytes settings slice) []) (run offer first [])
-  unfolding run leftIn allLeft everMarked findKept
+  unfolding run leftIn allLeft findKept
   invariant-opened =
       record {
         stays = refl;
-        sound = record { settings = r; short = most; shape = empty-shape; room = room-opened; stands = empty-stands c };
+        sound = record { settings = r; short = most; shape = empty-shape; room = room-opened; built = empty };
         same = ap (λ (x : List ℕ). record { moments = []; last = x }) as-opened;
         kept = refl;
-        marks = λ i. refl;
+        marks = λ i. (λ e. impossible (cc), λ e. absurd (List·Memᴰ·not-nil (e .1 .0)));
       }
 
   pub invariant : (l : List Offer) → AreBytes l → Invariant first (run offerBytes (openBytes settings slice) l) (run offer first l)

@@ -1,43 +1,46 @@
--- After an offer every entry stands as before, and the entry that it leaves stands too.
+-- Every entry of a book that is built of judged points stands, whatever the marks; the book after an offer is built of them.
 use Prim.Native.Nat.{ℕ, _≤_}
 use native.Mathlib.Omega.{arith}
 use mathlib.Core.Path.{_≡_, refl, sym, ap, subst}
 use mathlib.Core.Bool.{Bool, true, false}
 use mathlib.Core.Option.{Option, none, some}
-use mathlib.Core.List.{List, [], _∷_, List·Memᴰ, List·Memᴰ·not-nil, List·Memᴰ·eq-of-singleton}
+use mathlib.Core.List.{List, [], _∷_, _++_, List·Memᴰ, List·Memᴰ·not-nil, List·Memᴰ·eq-of-singleton}
 use lib.Dec.{eqb}
 use borrow.Author.Tests.{eqb-true}
 use Rattle.map.specs.Rows.{rising, peers}
-use Rattle.point.specs.Point.{PointInfo, prevId, inDomain}
-use Rattle.point.specs.Reading.{readPoint}
+use Rattle.point.specs.Point.{PointInfo, prevId}
 use Rattle.point.proofs.Laws.{readable}
 use Rattle.schedule.specs.Settings.{Settings}
 use Rattle.schedule.specs.Schedule.{Schedule}
 use Rattle.reasons.specs.IllFormed.{illFormedNumber}
 use Rattle.reasons.specs.Invalid.{invalidNumber}
 use Rattle.reasons.specs.Verdict as verdict
+use Rattle.reasons.specs.Verdict.{Verdict}
 use Rattle.reasons.specs.declared.ill_formed.VerifyError.{VerifyError}
 use Rattle.reasons.specs.declared.ill_formed.VerifyError.the-variants as case-error
 use Rattle.rules.specs.Verify.{verify}
 use Rattle.rules.specs.DagPoint.{IndirectEntry, pointView}
 use Rattle.rules.specs.Validate.{validate}
-use Rattle.rules.specs.Judge.{Input, JudgeAnswer, Number, Given, ofError, Before, answered, needed, beforeWith, before}
+use Rattle.rules.specs.Judge.{Input, admitted, JudgeAnswer, Number, Given, ofError, Before, answered, needed, beforeWith, before}
 use Rattle.reasons.specs.declared.ill_formed.WaveChecked.{WaveChecked}
 use Rattle.reasons.specs.declared.ill_formed.WaveChecked.the-variants as case-wave
 use Rattle.rules.specs.CheckIllFormed.{waveChecked}
 use Rattle.rules.specs.Passed.{hasReason, Passed}
 use Rattle.rules.proofs.Passed.{validate-all}
-use Rattle.rules.specs.Mismatch.{isId}
 use Rattle.books.specs.Kept.{Status, Valid, TransInvalid, Invalid, IllFormed, Kept, Book, Opened}
 use Rattle.books.specs.Lists.{directList, indirectList}
-use Rattle.books.specs.Offer.{Offer, markedBy, answerOver, answerWith, keptAs, leftBy, beforeIn, markedIn, answerIn, offer}
+use Rattle.books.specs.Spread.{covers}
+use Rattle.books.specs.Offer.{Offer, inputTested, offerTested, markedBy, answerOver, answerWith, keptAs, leftBy, beforeIn, markedIn, answerIn, offer}
+use Rattle.books.specs.AnyMarks.{Built, empty, remarks, judges, AnyMarks}
 use Rattle.books.proofs.Clear.{over-cases}
-use Rattle.books.proofs.Offered.{accepted, offer-cases}
+use Rattle.books.proofs.Find.{orCovers, mark-remark}
+use Rattle.books.proofs.Offered.{tested-input, accepted, offer-cases}
 use Rattle.books.proofs.Shape.{domain-least}
 use Rattle.books.proofs.Following.{Stands, AllStand}
-use Rattle.books.proofs.Growth.{all-stand-marked, all-stand-append}
+use Rattle.books.proofs.Growth.{all-stand-remarked, all-stand-append}
 use Rattle.books.proofs.Verified.{pass-floor, pass-genesis, pass-link}
 use Rattle.books.proofs.Dependencies.{includes-held, witness-held, source-linked}
+use Rattle.books.proofs.Found.{found-connected}
 
 -- ---- an entry by its verdict
 
@@ -122,34 +125,44 @@ module _ (c : Settings) (s : Schedule) (b : Book) (bytes : List ℕ) (p : PointI
   each-before none v false t (case-wave.IllFormed r) = each-one (IllFormed (illFormedNumber r)) (ill-formed-stands c b p (illFormedNumber r))
   each-before none v false t (case-wave.Sound required) = each-lists v required (indirectList b p)
 
--- ---- the book after an offer
+-- ---- every entry of a book that is built of judged points stands, whatever the marks
 
-by-stands : (c : Settings) (p : PointInfo) (b : Book) (x : Before) → AllStand c b → AllStand c (markedBy p b x)
-by-stands c p b (answered a) all = all
-by-stands c p b (needed required) all = all-stand-marked c (isId (prevId p)) b all
+module _ (c : Settings) where
+  judged-stands : (b : Book) (o : Offer) (i : Input) → inputTested c o ≡ admitted i → (v : Verdict) → answerWith c 3 (i .point) b (beforeIn i (o .leader)) ≡ Given v →
+      Each c b (leftBy (o .bytes) (i .point) v)
+  unfolding beforeIn before
+  judged-stands b o i t v e =
+      let w = tested-input c o i t in
+      let four : 4 ≤ i .point .id .round = domain-least (i .point) (w .3) in
+      subst (λ (a : JudgeAnswer). Each c b (leftFrom (o .bytes) (i .point) a)) e
+      (subst (λ (x : Settings). Each c b (leftFrom (o .bytes) (i .point) (answerWith c 3 (i .point) b (before x (i .schedule) (eqb (o .leader) 1) (i .point))))) (sym (w .0))
+      (each-before c (i .schedule) b (o .bytes) (i .point) (readable (o .bytes) (i .point) (w .2) .includes .rise) (omega arith)
+      (verify c (i .schedule) (i .point)) refl (eqb (i .point .id .round) (c .genesisRound)) refl (waveChecked (i .schedule) (eqb (o .leader) 1) (i .point))))
 
-module _ (z : Opened) (i : Input) (leader : ℕ) where
-  marked-stands : (c : Settings) → AllStand c (z .book) → AllStand c (markedIn z i leader)
-  unfolding markedIn
-  marked-stands c all = by-stands c (i .point) (z .book) (beforeIn i leader) all
+  built-stands : (b : Book) → Built c b → AllStand c b
+  built-stands b empty = λ k m. absurd (List·Memᴰ·not-nil m)
+  built-stands b (remarks d h marks) = all-stand-remarked c marks d (built-stands d h)
+  built-stands b (judges d h o i t v e) = all-stand-append c d (leftBy (o .bytes) (i .point) v) (built-stands d h) (judged-stands d o i t v e)
 
-  answer-stands : (bytes : List ℕ) → readPoint bytes ≡ some (i .point) → inDomain (i .point) ≡ true →
-      Each (i .settings) (markedIn z i leader) (leftFrom bytes (i .point) (answerIn z i leader))
-  unfolding answerIn beforeIn before inDomain
-  answer-stands bytes read domain =
-      let four : 4 ≤ i .point .id .round = domain-least (i .point) domain in
-      each-before (i .settings) (i .schedule) (markedIn z i leader) bytes (i .point) (readable bytes (i .point) read .includes .rise) (omega arith)
-      (verify (i .settings) (i .schedule) (i .point)) refl (eqb (i .point .id .round) (i .settings .genesisRound)) refl (waveChecked (i .schedule) (eqb leader 1) (i .point))
+pub any-marks : AnyMarks
+any-marks c b h = found-connected c b (built-stands c b h)
 
-pub offer-stands : (z : Opened) (o : Offer) → AllStand (z .settings) (z .book) → AllStand (z .settings) (offer z o .after .book)
-offer-stands z o all =
-    offer-cases z o (λ x. AllStand (z .settings) (x .after .book)) (λ n h. all) (λ i h n e. all)
-    (λ i h v e. (let w = accepted z o i h in
-    all-stand-append (z .settings) (markedIn z i (o .leader)) (leftBy (o .bytes) (i .point) v)
-    (marked-stands z i (o .leader) (z .settings) all)
-    (subst (λ (c : Settings). Each c (markedIn z i (o .leader)) (leftBy (o .bytes) (i .point) v)) (w .settings)
-    (subst (λ (a : JudgeAnswer). Each (i .settings) (markedIn z i (o .leader)) (leftFrom (o .bytes) (i .point) a)) e
-    (answer-stands z i (o .leader) (o .bytes) (w .read) (w .domain))))))
+-- ---- and so is the book after an offer
 
-pub empty-stands : (c : Settings) → AllStand c []
-empty-stands c k m = absurd (List·Memᴰ·not-nil m)
+by-built : (c : Settings) (p : PointInfo) (b : Book) (x : Before) → Built c b → Built c (markedBy c p b x)
+by-built c p b (answered a) h = h
+by-built c p b (needed required) h = subst (Built c) (sym (mark-remark (covers c b (prevId p)) b)) (remarks b h (orCovers (covers c b (prevId p))))
+
+module _ (z : Opened) (o : Offer) where
+  given-built : (i : Input) → offerTested z o ≡ admitted i → (v : Verdict) → answerIn z i (o .leader) ≡ Given v → Built (z .settings) (z .book) →
+      Built (i .settings) (markedIn z i (o .leader) ++ leftBy (o .bytes) (i .point) v)
+  unfolding answerIn markedIn
+  given-built i q v e h =
+      let w = accepted z o i q in
+      judges (markedIn z i (o .leader)) (by-built (i .settings) (i .point) (z .book) (beforeIn i (o .leader)) (rw (w .settings) h)) o i
+      (subst (λ (c : Settings). inputTested c o ≡ admitted i) (sym (w .settings)) (w .input)) v e
+
+  pub offer-built : Built (z .settings) (z .book) → Built (z .settings) (offer z o .after .book)
+  offer-built h =
+      offer-cases z o (λ x. Built (z .settings) (x .after .book)) (λ n q. h) (λ i q n e. h)
+      (λ i q v e. subst (λ (c : Settings). Built c (markedIn z i (o .leader) ++ leftBy (o .bytes) (i .point) v)) (accepted z o i q .settings) (given-built i q v e h))

@@ -14,11 +14,12 @@ use Rattle.base.proofs.Bool.{or-first, or-second, or-cases}
 use Rattle.base.proofs.Option.{some-of}
 use Rattle.point.specs.Point.{PointId, PointInfo, prevId}
 use Rattle.point.specs.Reading.{readPoint}
+use Rattle.schedule.specs.Settings.{Settings}
 use Rattle.reasons.specs.Verdict as verdict
 use Rattle.reasons.specs.Verdict.{Verdict}
 use Rattle.rules.specs.Judge.{Input, Given, Before, answered, needed}
-use Rattle.rules.specs.Mismatch.{isId}
 use Rattle.books.specs.Kept.{Kept, Book, findKept, markOne, mark, Opened}
+use Rattle.books.specs.Spread.{covers}
 use Rattle.books.specs.Offer.{Offer, used, isFull, markedBy, leftBy, beforeIn, markedIn, offer}
 use Rattle.books.specs.Run.{Moment}
 use Rattle.books.specs.Calls.{laidOut, inBytes}
@@ -39,13 +40,13 @@ unfolding leftIn mark markOne
 mark-left covers [] = refl
 mark-left covers (k ∷ b) = ap (λ (l : List Left). record { bytes = k .bytes; status = k .status } ∷ l) (mark-left covers b)
 
-by-left : (p : PointInfo) (b : Book) (x : Before) → leftIn (markedBy p b x) ≡ leftIn b
-by-left p b (answered a) = refl
-by-left p b (needed required) = mark-left (isId (prevId p)) b
+by-left : (c : Settings) (p : PointInfo) (b : Book) (x : Before) → leftIn (markedBy c p b x) ≡ leftIn b
+by-left c p b (answered a) = refl
+by-left c p b (needed required) = mark-left (covers c b (prevId p)) b
 
 marked-left : (z : Opened) (i : Input) (leader : ℕ) → leftIn (markedIn z i leader) ≡ leftIn (z .book)
 unfolding markedIn
-marked-left z i leader = by-left (i .point) (z .book) (beforeIn i leader)
+marked-left z i leader = by-left (i .settings) (i .point) (z .book) (beforeIn i leader)
 
 verdict-left : (bytes : List ℕ) (p : PointInfo) (v : Verdict) → leftIn (leftBy bytes p v) ≡ leaves bytes (Given v)
 unfolding leftIn

@@ -32,9 +32,9 @@ use Rattle.rules.specs.CheckIllFormed.{waveChecked}
 use Rattle.reasons.specs.declared.ill_formed.WaveChecked.{WaveChecked}
 use Rattle.reasons.specs.declared.ill_formed.WaveChecked.the-variants as case-wave
 use Rattle.rules.specs.List.{isListable}
-use Rattle.rules.specs.Mismatch.{isId}
 use Rattle.books.specs.Kept.{Status, Valid, TransInvalid, Invalid, IllFormed, Book, findKept, mark, Opened, withEntries}
 use Rattle.books.specs.Lists.{directList, indirectList}
+use Rattle.books.specs.Spread.{covers}
 use Rattle.books.specs.Offer.{Offer, Result, startIn, used, isFull, testedRoom, inputTested, offerTested, markedBy, answerWith, keptAs, leftBy, beforeIn, markedIn, answerIn, numbered, judgedAs, offerWith, offer}
 use Rattle.books.specs.Calls.{IsOfferNumber}
 use Rattle.books.specs.FoundBook.{testedAs}
@@ -45,6 +45,7 @@ use Rattle.books.proofs.Roots.{Root, reason-fits, validated}
 use Rattle.books.proofs.Bytes.{used-append, mark-used}
 use Rattle.books.proofs.Shape.{StatusShape, Shape, mark-length, mark-shape, append-shape, direct-rooted, indirect-rooted, whole}
 use Rattle.books.proofs.Find.{marked-found}
+use Rattle.books.proofs.Spread.{covers-prev}
 
 -- ---- the tests before judging
 
@@ -77,6 +78,11 @@ with-taken c (some s) (some p) others size i h = go (inDomain p) refl others (lt
     go true e false u k = impossible (cc)
     go false e t u k = impossible (cc)
 
+-- what the tests 2 to 5 of an offer say
+pub tested-input : (c : Settings) (o : Offer) (i : Input) → inputTested c o ≡ admitted i →
+    (i .settings ≡ c) × (readSchedule (o .schedule) ≡ some (i .schedule)) × (readPoint (o .bytes) ≡ some (i .point)) × (inDomain (i .point) ≡ true)
+tested-input c o i h = with-taken c (readSchedule (o .schedule)) (readPoint (o .bytes)) (leb (o .leader) 1) (length (o .peers)) i h
+
 room-taken : (z : Opened) (bytes : List ℕ) (t : Tested) (i : Input) → testedRoom z bytes t ≡ admitted i →
     (t ≡ admitted i) × (isSome (findKept (z .book) (i .point .id)) ≡ false) × (isFull z bytes ≡ false)
 room-taken z bytes (refused n) i h = impossible (cc)
@@ -94,7 +100,7 @@ module _ (z : Opened) (o : Offer) where
   unfolding offerTested isFull
   accepted i h =
       let r = room-taken z (o .bytes) (inputTested (z .settings) o) i h in
-      let w = with-taken (z .settings) (readSchedule (o .schedule)) (readPoint (o .bytes)) (leb (o .leader) 1) (length (o .peers)) i (r .0) in
+      let w = tested-input (z .settings) o i (r .0) in
       record {
         input = r .0;
         settings = w .0;
@@ -180,9 +186,10 @@ before-six c s leader p = go (verify c s p) (eqb (p .id .round) (c .genesisRound
     go none false (case-wave.Sound required) = tt
 
 module _ (c : Settings) (bytes : List ℕ) (p : PointInfo) (b : Book) (h : Shape b) (r : readPoint bytes ≡ some p) (d : inDomain p ≡ true) where
-  number-with : (x : Before) (n : ℕ) → answerWith c 3 p (markedBy p b x) x ≡ Number n → x ≡ answered (Number n)
+  number-with : (x : Before) (n : ℕ) → answerWith c 3 p (markedBy c p b x) x ≡ Number n → x ≡ answered (Number n)
   number-with (answered a) n e = ap answered e
-  number-with (needed required) n e = let w = whole c required bytes p b h r d in impossible (cc)
+  number-with (needed required) n e =
+      let w = whole c required bytes p (mark (covers c b (prevId p)) b) (mark-shape (covers c b (prevId p)) b h) (covers-prev c b (prevId p)) r d in impossible (cc)
 
 pub number-of : (n m : ℕ) → Number m ≡ Number n → m ≡ n
 number-of n m e = cc
@@ -312,12 +319,12 @@ module _ (p : PointInfo) where
 -- ---- an offer keeps the shape
 
 module _ (bytes : List ℕ) (p : PointInfo) (b : Book) (h : Shape b) (by : Bytes bytes) (r : readPoint bytes ≡ some p) (d : inDomain p ≡ true) where
-  answer-shape : (c : Settings) (x : Before) → BeforeShape p x → AnswerShape p (answerWith c 3 p (markedBy p b x) x)
+  answer-shape : (c : Settings) (x : Before) → BeforeShape p x → AnswerShape p (answerWith c 3 p (markedBy c p b x) x)
   answer-shape c (answered a) s = s
   answer-shape c (needed required) l =
-      let marked : Book = mark (isId (prevId p)) b in
-      let s : Shape marked = mark-shape (isId (prevId p)) b h in
-      rw (whole c required bytes p b h r d)
+      let marked : Book = mark (covers c b (prevId p)) b in
+      let s : Shape marked = mark-shape (covers c b (prevId p)) b h in
+      rw (whole c required bytes p marked s (covers-prev c b (prevId p)) r d)
       (validated (VerdictShape p) (invalid-shape p l) (trans-invalid-shape p l) (valid-shape p l)
       c required p (directList marked p) (indirectList marked p) (point-fits bytes p by r) (direct-rooted marked p s) (indirect-rooted marked p s) 3)
 
@@ -333,22 +340,22 @@ module _ (bytes : List ℕ) (p : PointInfo) (b : Book) (h : Shape b) (by : Bytes
     left-shape verdict.Valid s = left-entry Valid s
 
 -- marks change neither the ids nor how many entries there are
-module _ (p : PointInfo) (b : Book) where
-  marked-shape : (x : Before) → Shape b → Shape (markedBy p b x)
+module _ (c : Settings) (p : PointInfo) (b : Book) where
+  marked-shape : (x : Before) → Shape b → Shape (markedBy c p b x)
   marked-shape (answered a) h = h
-  marked-shape (needed required) h = mark-shape (isId (prevId p)) b h
+  marked-shape (needed required) h = mark-shape (covers c b (prevId p)) b h
 
-  marked-new : (x : Before) (i : PointId) → findKept b i ≡ none → findKept (markedBy p b x) i ≡ none
+  marked-new : (x : Before) (i : PointId) → findKept b i ≡ none → findKept (markedBy c p b x) i ≡ none
   marked-new (answered a) i h = h
-  marked-new (needed required) i h = unfound (findKept (mark (isId (prevId p)) b) i) (marked-found (isId (prevId p)) b i ∙ ap isSome h)
+  marked-new (needed required) i h = unfound (findKept (mark (covers c b (prevId p)) b) i) (marked-found (covers c b (prevId p)) b i ∙ ap isSome h)
 
-  marked-length : (x : Before) → length (markedBy p b x) ≡ length b
+  marked-length : (x : Before) → length (markedBy c p b x) ≡ length b
   marked-length (answered a) = refl
-  marked-length (needed required) = mark-length (isId (prevId p)) b
+  marked-length (needed required) = mark-length (covers c b (prevId p)) b
 
-  pub marked-used : (x : Before) → used (markedBy p b x) ≡ used b
+  pub marked-used : (x : Before) → used (markedBy c p b x) ≡ used b
   marked-used (answered a) = refl
-  marked-used (needed required) = mark-used (isId (prevId p)) b
+  marked-used (needed required) = mark-used (covers c b (prevId p)) b
 
 left-used : (bytes : List ℕ) (p : PointInfo) (v : Verdict) → used (leftBy bytes p v) ≤ length bytes + 108
 unfolding used
@@ -366,8 +373,8 @@ module _ (z : Opened) (o : Offer) where
       let a = accepted z o i q in
       let p : PointInfo = i .point in
       let x : Before = before (i .settings) (i .schedule) (eqb (o .leader) 1) p in
-      left-shape (o .bytes) p (markedBy p (z .book) x) (marked-shape p (z .book) x h) by (a .read) (a .domain)
-      (marked-new p (z .book) x (p .id) (a .new)) (rw (marked-length p (z .book) x) (a .few)) v
+      left-shape (o .bytes) p (markedBy (i .settings) p (z .book) x) (marked-shape (i .settings) p (z .book) x h) by (a .read) (a .domain)
+      (marked-new (i .settings) p (z .book) x (p .id) (a .new)) (rw (marked-length (i .settings) p (z .book) x) (a .few)) v
       (subst (AnswerShape p) e
       (answer-shape (o .bytes) p (z .book) h by (a .read) (a .domain) (i .settings) x (before-shape p (i .settings) (i .schedule) (eqb (o .leader) 1) (a .domain))))
 
@@ -383,8 +390,8 @@ module _ (z : Opened) (o : Offer) where
       omega (
         arith,
         accepted z o i q .room,
-        used-append (markedBy (i .point) (z .book) x) (leftBy (o .bytes) (i .point) v),
-        marked-used (i .point) (z .book) x,
+        used-append (markedBy (i .settings) (i .point) (z .book) x) (leftBy (o .bytes) (i .point) v),
+        marked-used (i .settings) (i .point) (z .book) x,
         left-used (o .bytes) (i .point) v,
       )
 

@@ -23,7 +23,7 @@ use Rattle.books.specs.Offer.{Offer, Result}
 use Rattle.books.specs.Run.{Run}
 use Rattle.books.specs.ListFor.{listFor}
 use Rattle.books.specs.Calls.{IsOfferNumber}
-use Rattle.books.specs.FoundBook.{everMarked, withNext, testedAs, NextOffer}
+use Rattle.books.specs.FoundBook.{testedAs, NextOffer}
 use Rattle.books.specs.OffersTold.{OffersTold}
 
 -- a record that can't be read is refused
@@ -54,7 +54,7 @@ module _ (found : Run (List ℕ)) (plain : Run Opened) (o : Offer) (x : Result (
             point = o .bytes;
             leader = o .leader;
             presence = 3;
-            list = listFor (plain .last .book) (everMarked (withNext plain o)) p;
+            list = listFor (plain .last .book) (h .told .0) p;
             size = length (o .peers);
           }
 
@@ -64,7 +64,7 @@ module _ (found : Run (List ℕ)) (plain : Run Opened) (o : Offer) (x : Result (
           let n = h .tests (u .0) (u .1) in
           impossible (cc)
       go (some p) r =
-          let j = h .judged p r (λ n. impossible (cc)) (λ n. impossible (cc)) in
+          let j = h .judged p r (λ n. impossible (cc)) (λ n. impossible (cc)) (h .told .0) (h .told .1) in
           record { call = call p; bytes = (w, j .0); answer = j .1 .0 }
 
   number-above : (n : ℕ) → x .answer ≡ Number n → IsOfferNumber n

@@ -21,7 +21,7 @@ use Rattle.schedule.specs.Settings.{Settings}
 use Rattle.reasons.specs.Invalid.{InvalidDependency, dagRound}
 use Rattle.rules.specs.Validate.{validate}
 use Rattle.rules.specs.List.{isListable}
-use Rattle.rules.specs.Mismatch.{entriesIn, isId}
+use Rattle.rules.specs.Mismatch.{entriesIn}
 use Rattle.rules.specs.Judge.{Given}
 use Rattle.books.specs.Kept.{Status, Valid, TransInvalid, Invalid, IllFormed, Kept, Book, findKept, isTwice, markOne, mark}
 use Rattle.books.specs.Lists.{dagPoint, keptEntry, directList, indirectList}
@@ -30,7 +30,7 @@ use Rattle.books.specs.Layout.{isKeepable}
 use Rattle.rules.proofs.All.{All}
 use Rattle.rules.proofs.Roots.{Rooted}
 use Rattle.rules.proofs.Fits.{IdFits, PointFits, point-fits}
-use Rattle.books.proofs.Clear.{once-distinct, each-direct, each-indirect, prev-covers, clear}
+use Rattle.books.proofs.Clear.{once-distinct, each-direct, each-indirect, Covered, clear}
 use Rattle.books.proofs.Roots.{Root, RootedEntry}
 use Rattle.books.proofs.Find.{once-more, marked-found, mark-member}
 
@@ -155,12 +155,9 @@ module _ (b : Book) (p : PointInfo) (h : Shape b) where
 
 -- ---- over the lists that such a book builds, demand 2 gives a verdict
 
-module _ (c : Settings) (required : Bool) (bytes : List ℕ) (p : PointInfo) (b : Book) (h : Shape b) (r : readPoint bytes ≡ some p) (d : inDomain p ≡ true) where
-  pub whole :
-      answerOver c required 3 p (directList (mark (isId (prevId p)) b) p) (indirectList (mark (isId (prevId p)) b) p)
-      ≡ Given (validate c required 3 p (directList (mark (isId (prevId p)) b) p) (indirectList (mark (isId (prevId p)) b) p))
+module _ (c : Settings) (required : Bool) (bytes : List ℕ) (p : PointInfo) (b : Book) (h : Shape b) (v : Covered (prevId p) b)
+    (r : readPoint bytes ≡ some p) (d : inDomain p ≡ true) where
+  pub whole : answerOver c required 3 p (directList b p) (indirectList b p) ≡ Given (validate c required 3 p (directList b p) (indirectList b p))
   whole =
-      let s = mark-shape (isId (prevId p)) b h in
       let w = readable bytes p r in
-      clear c required p (mark (isId (prevId p)) b) (λ k m. s .entries k m .status .state) (once-distinct (mark (isId (prevId p)) b) (s .once)) (prev-covers (prevId p) b)
-      (w .includes .rise) (w .witness .rise) (omega (arith, domain-least p d))
+      clear c required p b (λ k m. h .entries k m .status .state) (once-distinct b (h .once)) v (w .includes .rise) (w .witness .rise) (omega (arith, domain-least p d))

@@ -223,13 +223,14 @@ expectedAnswers =
 abbrev pub entry : PointInfo → Status → Bool → Kept
 entry p s certified = record { bytes = recordBytes p; point = p; status = s; certified = certified }
 
--- certified are the previous points of `first`, `dependent`, `covering` and `last`. That of `near` is not: no list is needed of it.
+-- certified are the previous points of `first`, `dependent`, `covering` and `last`, and what their certificates cover: that of
+-- `covering` also covers `third`. By `near`, whose previous point `third` is, nothing is: no list is needed of it.
 abbrev pub expectedBook : Book
 expectedBook =
     entry genesis Valid true
     ∷ entry first (Invalid 4) true
     ∷ entry second Valid true
-    ∷ entry third Valid false
+    ∷ entry third Valid true
     ∷ entry dependent (TransInvalid rootCause) false
     ∷ entry covering Valid true
     ∷ entry near (IllFormed 16) false
@@ -261,7 +262,7 @@ expectedEntries =
     (recordBytes genesis ++ tag33 0 1 0 noRoot)
     ∷ (recordBytes first ++ tag33 2 1 4 noRoot)
     ∷ (recordBytes second ++ tag33 0 1 0 noRoot)
-    ∷ (recordBytes third ++ tag33 0 0 0 noRoot)
+    ∷ (recordBytes third ++ tag33 0 1 0 noRoot)
     ∷ (recordBytes dependent ++ tag33 1 0 0 firstAsRoot)
     ∷ (recordBytes covering ++ tag33 0 1 0 noRoot)
     ∷ (recordBytes near ++ tag33 3 0 16 noRoot)

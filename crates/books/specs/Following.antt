@@ -3,24 +3,18 @@
 use Prim.Native.Nat.{ℕ, zero, suc}
 use mathlib.Core.Path.{_≡_}
 use mathlib.Core.Logic.{_⊎_}
-use mathlib.Core.Bool.{Bool, true, false, not, _||_}
+use mathlib.Core.Bool.{Bool, not, _||_}
 use mathlib.Core.Option.{some}
-use lib.Dec.{T}
+use lib.Dec.{T, eqb}
 use Rattle.point.specs.Point.{PointId, PointInfo, isAnchorStage, source, target}
 use Rattle.point.specs.declared.data.AnchorStageRole.{AnchorStageRole}
-use Rattle.books.specs.Kept.{Status, Valid, TransInvalid, Invalid, IllFormed, Kept, Book, findKept}
+use Rattle.books.specs.Kept.{Status, stateNumber, Kept, Book, findKept}
 
 abbrev pub isIllFormed : Status → Bool
-isIllFormed Valid = false
-isIllFormed (TransInvalid d) = false
-isIllFormed (Invalid n) = false
-isIllFormed (IllFormed n) = true
+isIllFormed s = eqb (stateNumber s) 3
 
 abbrev pub isInvalid : Status → Bool
-isInvalid Valid = false
-isInvalid (TransInvalid d) = false
-isInvalid (Invalid n) = true
-isInvalid (IllFormed n) = false
+isInvalid s = eqb (stateNumber s) 2
 
 -- Valid or TransInvalid
 abbrev pub isUsable : Status → Bool

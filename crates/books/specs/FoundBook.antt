@@ -1,14 +1,13 @@
 -- The statement on found books: one claim about every list of offers since the opening. Quoted are docs/GUIDE.md's words for the
--- demand, and document 01's for the table of numbers, the book and its rule for marks.
+-- demand, and document 01's for the table of numbers, the book and its rule for marks, which document 02 makes wider.
 use Prim.Native.Nat.{ℕ, _+_, _-_, _≤_, _<_}
 use mathlib.Core.Path.{_≡_}
 use mathlib.Core.Logic.{_⊎_, _↔_}
-use mathlib.Core.Bool.{Bool, true, false, not, _&&_, _||_}
+use mathlib.Core.Bool.{Bool, true, false, not}
 use mathlib.Core.Option.{some}
 use mathlib.Core.List.{List, [], _∷_, _++_, map, List·Memᴰ}
 use lib.ListN.{length}
 use lib.Dec.{T, ltb, eqb}
-use Rattle.base.specs.Base.{isSome}
 use Rattle.parts.specs.Bytes.{Bytes}
 use Rattle.parts.specs.Limits.{entriesStart, tag33Length, mostKept, longestBook}
 use Rattle.map.specs.Rows.{Pair}
@@ -20,9 +19,10 @@ use Rattle.schedule.specs.Settings.{Settings, readSettings}
 use Rattle.reasons.specs.IllFormed.{illFormedNumber}
 use Rattle.reasons.specs.Invalid.{invalidNumber, InvalidDependency}
 use Rattle.reasons.specs.Verdict as verdict
+use Rattle.reasons.specs.Verdict.{Verdict}
 use Rattle.rules.specs.Judge.{Input, Tested, refused, admitted, tested, verifyBuffer, JudgeAnswer, Number, Given}
-use Rattle.rules.specs.Judge.{Before, answered, needed, before, flagsOk, judgeWith}
-use Rattle.rules.specs.Mismatch.{pairId, isId}
+use Rattle.rules.specs.Judge.{needed, before, flagsOk, judgeWith}
+use Rattle.rules.specs.Mismatch.{pairId}
 use Rattle.books.specs.Kept.{Status, Valid, TransInvalid, Invalid, IllFormed, Kept, Book, findKept, Opened}
 use Rattle.books.specs.Offer.{Offer, Result, offer}
 use Rattle.books.specs.Run.{Moment, Run, momentOf, run, AreBytes}
@@ -69,27 +69,43 @@ HasNoRoom len l bytes = (mostKept ≤ length l) ⊎ (len < entriesStart + bytesT
 abbrev pub testedAs : List ℕ → Offer → Tested
 testedAs settings o = tested settings (o .schedule) (o .bytes) (flagsOk (o .leader) 3) (length (o .peers))
 
--- "Rule for marks: where the list is needed, .. the previous point .. is marked certified"
-abbrev pub coversWith : PointInfo → Before → PointId → Bool
-coversWith p (answered a) i = false
-coversWith p (needed required) i = isId (prevId p) i
+-- ---- the rule for marks, as chains of kept dependencies
 
-abbrev pub covers : ℕ → Tested → PointId → Bool
-covers leader (refused n) i = false
-covers leader (admitted x) i = coversWith (x .point) (before (x .settings) (x .schedule) (eqb leader 1) (x .point)) i
+-- an id is a dependency of a point through this map and peer: of its includes, one round down, or its witness, two
+abbrev pub IsDependency : PointInfo → PointId → Through → Type 0
+IsDependency p i t =
+    ((q : Pair) × (List·Memᴰ q (p .includes) × ((i ≡ pairId (p .id .round - 1) q) × (t ≡ Includes (q .peer)))))
+    ⊎ ((q : Pair) × (List·Memᴰ q (p .witness) × ((i ≡ pairId (p .id .round - 2) q) × (t ≡ Witness (q .peer)))))
 
-abbrev pub isGiven : JudgeAnswer → Bool
-isGiven (Number n) = false
-isGiven (Given v) = true
+-- a kept point that passes a mark on: above genesis and not ill-formed
+abbrev pub PassesOn : Settings → Book → Kept → Type 0
+PassesOn c b k = List·Memᴰ k b × ((c .genesisRound < k .point .id .round) × T (not (isIllFormed (k .status))))
 
--- "if kept", by an offer that got a verdict
-unfoldable pub everMarked : List (Moment Opened) → PointId → Bool
-unfolding findKept prevId before tested
-everMarked [] i = false
-everMarked (m ∷ l) i =
-    (isSome (findKept (m .before .book) i)
-    && (isGiven (m .result .answer) && covers (m .offer .leader) (testedAs (m .before .bytes) (m .offer)) i))
-    || everMarked l i
+-- from an id a chain leads to i: no step, or one from a point that passes a mark on to a dependency, and a chain from there
+pub data LeadsTo (c : Settings) (b : Book) (i : PointId) : PointId → Type 0 where
+  there : LeadsTo c b i i
+  down : (k : Kept) → PassesOn c b k → (j : PointId) (t : Through) → IsDependency (k .point) j t → LeadsTo c b i j → LeadsTo c b i (k .point .id)
+
+-- "where the list is needed, .. the previous point, if kept, is marked certified", by an offer that got a verdict; and with it "kept
+-- dependencies by the rule, and to the depth, that cert.rs sets" (document 02): each point kept at that moment that lies at most
+-- commit_history_rounds below and to which a chain leads
+pub record Marks (m : Moment Opened) (i : PointId) : Type 0 where
+  pub input : Input
+  pub taken : testedAs (m .before .bytes) (m .offer) ≡ admitted input
+  pub list : (required : Bool) × (before (input .settings) (input .schedule) (eqb (m .offer .leader) 1) (input .point) ≡ needed required)
+  pub given : (v : Verdict) × (m .result .answer ≡ Given v)
+  pub kept : (k : Kept) × (List·Memᴰ k (m .before .book) × (k .point .id ≡ i))
+  pub prev : PointId
+  pub previous : prevId (input .point) ≡ some prev
+  pub depth : prev .round ≤ i .round + input .settings .commitHistoryRounds
+  pub chain : LeadsTo (input .settings) (m .before .book) i prev
+
+abbrev pub EverMarked : List (Moment Opened) → PointId → Type 0
+EverMarked l i = (m : Moment Opened) × (List·Memᴰ m l × Marks m i)
+
+-- a test says of each entry of a book whether it was marked
+abbrev pub Tells : (PointId → Bool) → Book → List (Moment Opened) → Type 0
+Tells marked b l = (k : Kept) → List·Memᴰ k b → (marked (k .point .id) ≡ true) ↔ EverMarked l (k .point .id)
 
 -- the run with one offer more
 abbrev pub withNext : Run Opened → Offer → List (Moment Opened)
@@ -114,10 +130,7 @@ isBad c round (IllFormed n) = false
 
 -- an id is a dependency of a point or the target of one of its indirect links, through this map and peer
 abbrev pub DependsOn : PointInfo → PointId → Through → Type 0
-DependsOn p i t =
-    ((q : Pair) × (List·Memᴰ q (p .includes) × ((i ≡ pairId (p .id .round - 1) q) × (t ≡ Includes (q .peer)))))
-    ⊎ (((q : Pair) × (List·Memᴰ q (p .witness) × ((i ≡ pairId (p .id .round - 2) q) × (t ≡ Witness (q .peer)))))
-    ⊎ ((g : AnchorStageRole) × (anchorLink g p ≡ Indirect i t)))
+DependsOn p i t = IsDependency p i t ⊎ ((g : AnchorStageRole) × (anchorLink g p ≡ Indirect i t))
 
 -- the root cause and its reason, as an entry has them
 abbrev pub IsRootOf : Kept → InvalidDependency → Status → Type 0
@@ -127,12 +140,12 @@ IsRootOf k d (Invalid n) = (d .to ≡ k .point .id) × (d .reason ≡ n)
 IsRootOf k d (IllFormed n) = ⊥
 
 -- a bad one that a point depends on and that has no mark, from which a root cause comes
-pub record Caught (c : Settings) (b : Book) (marked : PointId → Bool) (p : PointInfo) (d : InvalidDependency) : Type 0 where
+pub record Caught (c : Settings) (b : Book) (l : List (Moment Opened)) (p : PointInfo) (d : InvalidDependency) : Type 0 where
   pub entry : Kept
   pub kept : List·Memᴰ entry b
   pub depends : DependsOn p (entry .point .id) (d .through)
   pub bad : T (isBad c (p .id .round) (entry .status))
-  pub unmarked : marked (entry .point .id) ≡ false
+  pub unmarked : EverMarked l (entry .point .id) → ⊥
   pub root : IsRootOf entry d (entry .status)
 
 -- ---- kept points
@@ -189,19 +202,22 @@ pub record NextOffer (found : Run (List ℕ)) (plain : Run Opened) (o : Offer) (
   -- "A number comes without a verdict, with all lent bytes unchanged"
   pub unchanged : (n : ℕ) → x .answer ≡ Number n → IsOfferNumber n × ((x .after ≡ found .last) × (x .peers ≡ o .peers))
   -- "demand 2's verdict, reason and unknown peers": those of the public call `judge`, presence 3, over the list that the entries and
-  -- the marks of this moment give, with the mark that this offer makes. The list consists of bytes.
+  -- the marks of this moment give, with the marks that this offer makes. The list consists of bytes.
   pub judged : (p : PointInfo) → readPoint (o .bytes) ≡ some p → (x .answer ≡ Number 11 → ⊥) → (x .answer ≡ Number 12 → ⊥) →
-      Bytes (listFor (plain .last .book) (everMarked (withNext plain o)) p)
-      × ((x .answer ≡ judgeWith (o .leader) 3 (listFor (plain .last .book) (everMarked (withNext plain o)) p) (testedAs (plain .last .bytes) o))
+      (marked : PointId → Bool) → Tells marked (plain .last .book) (withNext plain o) →
+      Bytes (listFor (plain .last .book) marked p)
+      × ((x .answer ≡ judgeWith (o .leader) 3 (listFor (plain .last .book) marked p) (testedAs (plain .last .bytes) o))
       × (x .peers ≡ verifyBuffer (testedAs (plain .last .bytes) o) (o .peers)))
-  -- a point above genesis is Valid only if each bad one that it depends on is marked, with the mark that this offer makes
+  -- there is a test that tells these marks
+  pub told : (marked : PointId → Bool) × Tells marked (plain .last .book) (withNext plain o)
+  -- a point above genesis is Valid only if each bad one that it depends on is marked, with the marks that this offer makes
   pub clean : (p : PointInfo) → readPoint (o .bytes) ≡ some p → x .answer ≡ Given verdict.Valid →
       plain .last .settings .genesisRound < p .id .round →
       (k : Kept) → List·Memᴰ k (plain .last .book) → (t : Through) → DependsOn p (k .point .id) t →
-      T (isBad (plain .last .settings) (p .id .round) (k .status)) → T (everMarked (withNext plain o) (k .point .id))
+      T (isBad (plain .last .settings) (p .id .round) (k .status)) → EverMarked (withNext plain o) (k .point .id)
   -- and is TransInvalid only by one that is not
   pub caught : (p : PointInfo) → readPoint (o .bytes) ≡ some p → (d : InvalidDependency) → x .answer ≡ Given (verdict.TransInvalid d) →
-      Caught (plain .last .settings) (plain .last .book) (everMarked (withNext plain o)) p d
+      Caught (plain .last .settings) (plain .last .book) (withNext plain o) p d
 
 -- of a slice of `len` bytes that was opened with `settings`, which say c, after a list of offers to it: `found` is the run over its
 -- bytes, `plain` the plain book's
@@ -224,7 +240,7 @@ pub record FoundBook (settings : List ℕ) (c : Settings) (len : ℕ) (found : R
   -- kept dependencies, links and times
   pub connected : Connected c (plain .last .book)
   -- "marked certified are exactly the entries that the rule for marks, applied in these offers, marked"
-  pub marks : (k : Kept) → List·Memᴰ k (plain .last .book) → k .certified ≡ everMarked (plain .moments) (k .point .id)
+  pub marks : (k : Kept) → List·Memᴰ k (plain .last .book) → (k .certified ≡ true) ↔ EverMarked (plain .moments) (k .point .id)
   -- whatever is offered next
   pub next : (o : Offer) → Bytes (o .bytes) → NextOffer found plain o (offerBytes (found .last) o)
 

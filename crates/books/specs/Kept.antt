@@ -16,6 +16,13 @@ pub data Status : Type 0 where
   Invalid : ℕ → Status
   IllFormed : ℕ → Status
 
+-- "0 valid, 1 trans-invalid, 2 invalid, 3 ill-formed"
+abbrev pub stateNumber : Status → ℕ
+stateNumber Valid = 0
+stateNumber (TransInvalid d) = 1
+stateNumber (Invalid n) = 2
+stateNumber (IllFormed n) = 3
+
 -- an entry: the record as it was offered, the point that it says, and "state, certified, reason, root id, root's reason, map and
 -- peer it came through"
 pub record Kept : Type 0 where
@@ -39,7 +46,7 @@ unfolding findKept
 isTwice [] = false
 isTwice (k ∷ b) = isSome (findKept b (k .point .id)) || isTwice b
 
--- ---- "A mark covers that one point": which points are covered is a test on their ids
+-- ---- a mark on each entry that a test on ids covers
 
 unfoldable pub markOne : (PointId → Bool) → Kept → Kept
 markOne covers k = record { bytes = k .bytes; point = k .point; status = k .status; certified = k .certified || covers (k .point .id) }

@@ -1,12 +1,15 @@
 pub mod Kept
 pub mod Lists
+pub mod Following
+pub mod Spread
 pub mod Offer
 pub mod Run
 pub mod Layout
 pub mod Calls
-pub mod Following
 pub mod ListFor
 pub mod FoundBook
+pub mod AnyMarks
 pub mod OffersTold
 pub mod AnyBytes
 pub mod Example
+pub mod SpreadFacts

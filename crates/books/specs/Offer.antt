@@ -21,9 +21,10 @@ use Rattle.rules.specs.DagPoint.{DagPoint, Entry, IndirectEntry}
 use Rattle.rules.specs.Judge.{Input, Tested, refused, admitted, testedWith, verifyBuffer, JudgeAnswer, Number, Given}
 use Rattle.rules.specs.Judge.{Before, answered, needed, before, overEntries}
 use Rattle.rules.specs.List.{isListable}
-use Rattle.rules.specs.Mismatch.{entriesIn, isId}
+use Rattle.rules.specs.Mismatch.{entriesIn}
 use Rattle.books.specs.Kept.{Status, Valid, TransInvalid, Invalid, IllFormed, Kept, Book, findKept, mark, Opened, withEntries}
 use Rattle.books.specs.Lists.{directList, indirectList}
+use Rattle.books.specs.Spread.{covers}
 
 pub record Offer : Type 0 where
   pub schedule : List ℕ
@@ -76,10 +77,11 @@ offerTested z o = testedRoom z (o .bytes) (inputTested (z .settings) o)
 
 -- ---- judging
 
--- "Rule for marks: where the list is needed, before its direct entries are judged, the previous point, if kept, is marked certified"
-abbrev pub markedBy : PointInfo → Book → Before → Book
-markedBy p b (answered a) = b
-markedBy p b (needed required) = mark (isId (prevId p)) b
+-- "Rule for marks: where the list is needed, before its direct entries are judged, the previous point, if kept, is marked certified",
+-- and with it what its certificate covers
+abbrev pub markedBy : Settings → PointInfo → Book → Before → Book
+markedBy c p b (answered a) = b
+markedBy c p b (needed required) = mark (covers c b (prevId p)) b
 
 -- the domain of a list, number 7: of records, root causes and reason numbers
 abbrev pub isStateOk : DagPoint → Bool
@@ -113,8 +115,8 @@ unfolding before
 beforeIn i leader = before (i .settings) (i .schedule) (eqb leader 1) (i .point)
 
 unfoldable pub markedIn : Opened → Input → ℕ → Book
-unfolding beforeIn
-markedIn z i leader = markedBy (i .point) (z .book) (beforeIn i leader)
+unfolding beforeIn covers
+markedIn z i leader = markedBy (i .settings) (i .point) (z .book) (beforeIn i leader)
 
 unfoldable pub answerIn : Opened → Input → ℕ → JudgeAnswer
 unfolding markedIn beforeIn answerOver directList indirectList

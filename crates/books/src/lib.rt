@@ -5,6 +5,8 @@ ghost use Rattle.books.specs.FoundBook.{FoundBooks};
 ghost use Rattle.books.specs.OffersTold.{OffersTold};
 ghost use Rattle.books.specs.AnyBytes.{AnyBytes};
 ghost use Rattle.books.specs.Example.{Example};
+ghost use Rattle.books.specs.AnyMarks.{AnyMarks};
+ghost use Rattle.books.specs.SpreadFacts.{SpreadFacts};
 
 // The statement and one book that it speaks of as a promise: without their proofs this crate is not proved, nor any that uses it.
 pub fn found_books()
@@ -19,4 +21,14 @@ pub fn offers_told()
 // Likewise what is so of any bytes, whether a book was opened in them or not.
 pub fn any_bytes()
     ensures { λ r. ⌜ ((s : List ℕ) → AnyBytes s) ⌝ }
+{}
+
+// Likewise that links, times and kept dependencies hold whatever the marks.
+pub fn any_marks()
+    ensures { λ r. ⌜ AnyMarks ⌝ }
+{}
+
+// Likewise how far marks spread in small books.
+pub fn spread_facts()
+    ensures { λ r. ⌜ SpreadFacts ⌝ }
 {}

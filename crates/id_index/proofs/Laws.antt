@@ -137,8 +137,8 @@ once-more s x n o h j k a b = elim (ℕ-discrete k n) [
   | no d ↦ o j k a (omega arith)
 ]
 
-pub at-twice : {s x : List ℕ} {n place : ℕ} → n < countOf x → IsAt s x n (idIn s x n) place → Twice s x
-at-twice {s} {x} {n} lt f = record { first = f .which; second = n; after = f .within; within = lt; same = f .same }
+pub at-twice : {s x : List ℕ} {n j : ℕ} → n < countOf x → IsAt s x n (idIn s x n) j → Twice s x
+at-twice {s} {x} {n} {j} lt f = record { first = j; second = n; after = f .within; within = lt; same = f .same }
 
 -- ---- buckets
 
@@ -604,12 +604,51 @@ module _ {s y x : List ℕ} (f : SameFront y x) where
   pub built-twice : Twice s x → Built s y x false
   built-twice t = record { count = same-count f; places = same-place f; sized = f .sized; index = t }
 
+-- ---- the index of other bytes, with the same ids at the same places
+
+module _ {s t x : List ℕ} (l : length t ≡ length s) (same : (j : ℕ) → j < countOf x → idIn t x j ≡ idIn s x j) where
+  same-last : (bucket n k : ℕ) → n ≤ countOf x → IsLast s x bucket n k → IsLast t x bucket n k
+  same-last bucket n k few h =
+      record {
+        within = h .within;
+        there = λ j e. ap bucketOf (same j (omega (arith, h .within))) ∙ h .there j e;
+        none = λ j from lt. ap (λ (i : PointId). eqb (bucketOf i) bucket) (same j (omega arith)) ∙ h .none j from lt;
+      }
+
+  same-chains : Chains s x (countOf x) → Chains t x (countOf x)
+  same-chains h =
+      record {
+        last = λ b few. same-last b (countOf x) (getD x (12290 + b) 0) (omega arith) (h .last b few);
+        before = λ j lt. rw (same j lt) (same-last (bucketOf (idIn s x j)) j (getD x (8194 + j) 0) (omega arith) (h .before j lt));
+      }
+
+  same-sorted : Sorted s x (countOf x) → Sorted t x (countOf x)
+  same-sorted h =
+      record {
+        within = h .within;
+        onto = h .onto;
+        rising = λ a b lt few.
+            rw (same (getD x (8194 + a) 0) (h .within a (omega arith)), same (getD x (8194 + b) 0) (h .within b few)) (h .rising a b lt few);
+      }
+
+  pub same-index : Index s x → Index t x
+  same-index h =
+      record {
+        places = record {
+          sized = h .places .sized;
+          room = h .places .room;
+          inside = λ j lt. omega (arith, l, h .places .inside j lt);
+        };
+        chains = λ e. same-chains (h .chains e);
+        sorted = λ d. same-sorted (h .sorted d);
+      }
+
 -- ---- what is found
 
 pub found-chain : (s x : List ℕ) (i : PointId) (r : Sought) → InChain s x (countOf x) i r → FoundAt s x i (foundOf r)
-found-chain s x i (case-sought.At place) h = h
+found-chain s x i (case-sought.At j) h = h
 found-chain s x i (case-sought.Absent n) h = h
 
 pub found-order : (s x : List ℕ) (i : PointId) (r : Sought) → Sorted s x (countOf x) → InOrder s x (countOf x) i r → FoundAt s x i (foundOf r)
-found-order s x i (case-sought.At place) w h = h
+found-order s x i (case-sought.At j) w h = h
 found-order s x i (case-sought.Absent n) w h = between-none w h

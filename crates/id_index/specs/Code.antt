@@ -52,12 +52,10 @@ pub record SameFront (x y : List ℕ) : Type 0 where
   pub sized : length y ≡ length x
   pub front : (q : ℕ) → q < 8194 → getD y q 0 ≡ getD x q 0
 
--- an id is at a place, as one of the first n; or it is none of them
-pub record IsAt (s x : List ℕ) (n : ℕ) (i : PointId) (place : ℕ) : Type 0 where
-  pub which : ℕ
-  pub within : which < n
-  pub there : placeIn x which ≡ place
-  pub same : sameId (idIn s x which) i ≡ true
+-- an id is one of the first n, with this number; or it is none of them
+pub record IsAt (s x : List ℕ) (n : ℕ) (i : PointId) (j : ℕ) : Type 0 where
+  pub within : j < n
+  pub same : sameId (idIn s x j) i ≡ true
 
 abbrev pub NoneIs : List ℕ → List ℕ → ℕ → PointId → Type 0
 NoneIs s x n i = (j : ℕ) → j < n → sameId (idIn s x j) i ≡ false
@@ -90,7 +88,7 @@ pub record Chains (s x : List ℕ) (n : ℕ) : Type 0 where
   pub before : (j : ℕ) → j < n → IsLast s x (bucketOf (idIn s x j)) j (getD x (8194 + j) 0)
 
 abbrev pub InChain : List ℕ → List ℕ → ℕ → PointId → Sought → Type 0
-InChain s x n i (case-sought.At place) = IsAt s x n i place
+InChain s x n i (case-sought.At j) = IsAt s x n i j
 InChain s x n i (case-sought.Absent passed) = NoneIs s x n i
 
 unfoldable pub linked : List ℕ → ℕ → ℕ → List ℕ
@@ -132,7 +130,7 @@ pub record Between (s x : List ℕ) (n : ℕ) (i : PointId) (low high : ℕ) : T
   pub above : (a : ℕ) → high ≤ a → a < n → Below i (nthIn s x a)
 
 abbrev pub InOrder : List ℕ → List ℕ → ℕ → PointId → Sought → Type 0
-InOrder s x n i (case-sought.At place) = IsAt s x n i place
+InOrder s x n i (case-sought.At j) = IsAt s x n i j
 InOrder s x n i (case-sought.Absent low) = Between s x n i low low
 
 pub record Shifted (x : List ℕ) (from to : ℕ) (y : List ℕ) : Type 0 where
@@ -168,9 +166,9 @@ pub record Built (s y x : List ℕ) (r : Bool) : Type 0 where
   pub index : IndexOf s x r
 
 abbrev pub foundOf : Sought → Place
-foundOf (case-sought.At place) = case-place.At place
+foundOf (case-sought.At j) = case-place.At j
 foundOf (case-sought.Absent n) = case-place.Absent
 
 abbrev pub FoundAt : List ℕ → List ℕ → PointId → Place → Type 0
-FoundAt s x i (case-place.At place) = IsAt s x (countOf x) i place
+FoundAt s x i (case-place.At j) = IsAt s x (countOf x) i j
 FoundAt s x i case-place.Absent = NoneIs s x (countOf x) i

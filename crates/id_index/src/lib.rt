@@ -28,7 +28,7 @@ const HEADS: usize = 12290;
 
 const LONGEST_CHAIN: usize = 16;
 
-// Where the field of an id stands in the slice.
+// The number of an id in the index.
 pub enum Place {
     At(usize),
     Absent,
@@ -85,7 +85,7 @@ fn has_id(s: &[u8], place: usize, id: PointId) -> bool
 
 // ---- chains
 
-// Where an id stands among the first n, by the chain of its bucket.
+// The number of an id among the first n, by the chain of its bucket.
 fn walk_chain(s: &[u8], index: &[u16], n: usize, id: PointId) -> Sought
     requires { ⌜ Places (now s) (now index) × ((n ≤ countOf (now index)) × Chains (now s) (now index) n) ⌝ }
     ensures { λ r. ⌜ InChain (now (s .entry)) (now (index .entry)) n (pointIdOf id) r ⌝ }
@@ -94,9 +94,8 @@ fn walk_chain(s: &[u8], index: &[u16], n: usize, id: PointId) -> Sought
     let mut passed = 0;
     while 0 < k {
         let j = k - 1;
-        let place = place_at(index, j);
-        if has_id(s, place, id) {
-            return Sought::At(place);
+        if has_id(s, place_at(index, j), id) {
+            return Sought::At(j);
         }
         k = index[LINKS + j] as usize;
         passed += 1;
@@ -188,7 +187,7 @@ fn compare(s: &[u8], place: usize, id: PointId) -> Order
     }
 }
 
-// Where an id stands among the first n, which are sorted.
+// The number of an id among the first n, which are sorted.
 fn seek(s: &[u8], index: &[u16], n: usize, id: PointId) -> Sought
     requires { ⌜ Places (now s) (now index) × ((n ≤ countOf (now index)) × Sorted (now s) (now index) n) ⌝ }
     ensures { λ r. ⌜ InOrder (now (s .entry)) (now (index .entry)) n (pointIdOf id) r ⌝ }
@@ -197,12 +196,12 @@ fn seek(s: &[u8], index: &[u16], n: usize, id: PointId) -> Sought
     let mut high = n;
     while low < high {
         let middle = low + (high - low) / 2;
-        let place = place_at(index, index[LINKS + middle] as usize);
-        let by = compare(s, place, id);
+        let j = index[LINKS + middle] as usize;
+        let by = compare(s, place_at(index, j), id);
         match by {
             Order::Less => low = middle + 1,
             Order::More => high = middle,
-            Order::Same => return Sought::At(place),
+            Order::Same => return Sought::At(j),
         }
     }
     Sought::Absent(low)
@@ -273,12 +272,12 @@ fn found(sought: Sought) -> Place
     ensures { λ r. ⌜ r ≡ foundOf sought ⌝ }
 {
     match sought {
-        Sought::At(place) => Place::At(place),
+        Sought::At(j) => Place::At(j),
         Sought::Absent(_) => Place::Absent,
     }
 }
 
-// Where an id stands, if it is in the index.
+// The number of an id, if it is in the index.
 pub fn find(s: &[u8], index: &[u16], id: PointId) -> Place
     requires { ⌜ Index (now s) (now index) ⌝ }
     ensures { λ r. ⌜ FoundAt (now (s .entry)) (now (index .entry)) (pointIdOf id) r ⌝ }

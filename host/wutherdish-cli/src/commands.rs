@@ -117,7 +117,7 @@ pub fn show(file: &OsStr, room: Option<usize>, output: Option<&OsStr>, progress:
     let words = Words { names: Names::new(ids.unwrap_or_else(|| Ids::of_book(&settings, &kept))) };
     let title = format!("Points kept: {}{title}", kept.len());
     let lines = [Summary::of_kept(&kept).to_string(), words.settings(&settings)];
-    let picture = picture::draw(&kept, &title, &lines, &words.names);
+    let picture = picture::draw((&settings, &kept), &title, &lines, &words.names);
     write(output, picture.as_bytes())?;
     bad.map_or(Ok(()), |unreadable| Err(input.bad(unreadable)))
 }

@@ -8,6 +8,7 @@ mod feed;
 mod files;
 mod ids;
 mod input;
+mod marks;
 mod names;
 mod output;
 mod picture;

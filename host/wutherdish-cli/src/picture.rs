@@ -7,7 +7,7 @@ mod legend;
 mod points;
 mod svg;
 
-use wutherdish::Kept;
+use wutherdish::{Kept, Settings};
 
 use graph::Graph;
 use layout::{Layout, MARGIN};
@@ -18,9 +18,9 @@ use crate::names::Names;
 /// The least width, for the heading and the legend.
 const LEAST: i32 = 950;
 
-/// The picture of what a book keeps, as SVG, under a title and two lines.
-pub fn draw(kept: &[Kept], title: &str, lines: &[String; 2], names: &Names) -> String {
-    let graph = Graph::new(kept);
+/// The picture of a book's settings and what it keeps, as SVG, under a title and two lines.
+pub fn draw((settings, kept): (&Settings, &[Kept]), title: &str, lines: &[String; 2], names: &Names) -> String {
+    let graph = Graph::new(settings, kept);
     let layout = Layout::new(&graph, names);
     let width = LEAST.max(layout.right + layout.widths.author + MARGIN);
     let mut svg = Svg::default();

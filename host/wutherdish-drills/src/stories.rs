@@ -10,7 +10,13 @@ use crate::{Answer, Drill};
 
 pub fn drills() -> Vec<Drill> {
     let mut drills = vec![never_found(), late_parent(), found_bad(), found_bad_certified()];
-    drills.extend([certified_by_invalid(), successor_first(), window_inside(), window_outside()]);
+    drills.extend([
+        certified_by_invalid(),
+        successor_first(),
+        certificate_spreads(),
+        window_inside(),
+        window_outside(),
+    ]);
     drills.extend([equivocation(), two_valid_versions()]);
     drills
 }
@@ -89,6 +95,22 @@ fn successor_first() -> Drill {
         "successor-first",
         "the points of found-bad-certified, where the parent comes after its author's next point and is not marked",
         TRANS_INVALID,
+    )
+}
+
+/// Of the points of round 12 B's alone stands above A's bad one, so it is trans-invalid. B's next point marks it, and that spreads
+/// to the bad one, which C's last point witnesses.
+fn certificate_spreads() -> Drill {
+    let world = World::new(E, &[A, B, C, D]);
+    let above = |round, author| world.point(round, author, &[B, C, D]);
+    let bad = bad_parent(&world);
+    let last = above(13, C).witness(A, bad.id.digest);
+    let feed = Feed::new(&world).offer(&world.genesis()).offer(&bad);
+    let feed = feed.offer_all([B, C, D].map(|author| world.first(author))).offer(&world.point(12, B, &[A, B, C]));
+    feed.offer_all([above(12, C), above(12, D), above(13, B)]).offer(&last).drill(
+        "certificate-spreads",
+        "a point above a bad one and above one that inherits from it: a certificate of the latter has spread to the former",
+        VALID,
     )
 }
 

@@ -36,8 +36,9 @@ impl<B: AsRef<[u8]> + AsMut<[u8]>> Book<B> {
 
     /// Offers a point. `leader` is 1 if its author leads its round, else 0. A refused offer and Fail leave the book as
     /// it is; any other verdict is kept with the point, and stays whatever is offered later. A point that names a
-    /// majority as evidence marks its author's previous point certified, if that is kept, even if it is itself found
-    /// invalid: [signatures are for the host to check](crate#the-hosts-duties).
+    /// majority as evidence marks its author's previous point certified, if that is kept, and with it what that one
+    /// depends on, as many rounds deep as the settings' `commit_history_rounds` say, even if it is itself found invalid:
+    /// [signatures are for the host to check](crate#the-hosts-duties).
     ///
     /// ```
     /// use wutherdish::{Book, Refusal};

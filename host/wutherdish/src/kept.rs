@@ -15,7 +15,8 @@ pub struct Kept {
     pub point: Point,
     /// Its verdict.
     pub status: Status,
-    /// Whether it is marked certified.
+    /// Whether it is marked certified: as the previous point of one that was offered later, or because the certificate of
+    /// such a point spread to it.
     pub certified: bool,
 }
 

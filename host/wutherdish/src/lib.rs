@@ -22,8 +22,8 @@
 //!
 //! 1. checks signatures: the author's on the point's id, and every one of its evidence on the id of the author's
 //!    previous point. A record only names the peers of the evidence. A point that names enough of them certifies its
-//!    previous point, even if it is found invalid itself, and a child of that one is then valid where it would be
-//!    trans-invalid;
+//!    previous point and what lies below that, even if it is found invalid itself, and a child of any of these is then
+//!    valid where it would be trans-invalid;
 //! 2. computes the digest of the point and compares it with the one in its id;
 //! 3. finds out who leads the point's round: the leader flag is 1 exactly for that peer;
 //! 4. brings the network's schedule, with the peers of the point's round, of the two before it, of the rounds that

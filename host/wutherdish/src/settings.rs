@@ -19,7 +19,7 @@ pub struct Settings {
     pub sticky_anchors: u8,
     /// How far in the future a dependency's time may lie.
     pub clock_skew_millis: u16,
-    /// How many rounds back a root cause still counts.
+    /// How many rounds back a root cause still counts, and how many rounds deep a certificate spreads.
     pub commit_history_rounds: u8,
 }
 

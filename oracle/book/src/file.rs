@@ -13,7 +13,7 @@ const TALLY: u8 = 7;
 const BATCH: u8 = 24;
 
 /// A case with its answer.
-#[derive(Clone)]
+#[derive(Clone, PartialEq, Eq)]
 pub enum Case {
     Open {
         settings: Vec<u8>,
@@ -42,13 +42,22 @@ pub enum Case {
 }
 
 /// What an offer leaves.
-#[derive(Clone)]
+#[derive(Clone, PartialEq, Eq)]
 pub struct After {
     pub sha256: Vec<u8>,
     pub answer: Vec<u8>,
 }
 
 impl Case {
+    /// Its answer alone: an opening's number, an offer's answer, or what `tally` prints.
+    pub fn answer(&self) -> &[u8] {
+        match self {
+            Self::Open { number, .. } | Self::Begin { number, .. } => std::slice::from_ref(number),
+            Self::Offer { after, .. } | Self::OfferTo { after, .. } => &after.answer,
+            Self::Tally { output, .. } => output,
+        }
+    }
+
     /// The case as a file holds it.
     pub fn write(&self, out: &mut Vec<u8>) {
         match self {

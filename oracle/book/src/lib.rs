@@ -11,6 +11,7 @@ mod layout;
 mod list;
 mod mistake;
 mod offer;
+pub mod replay;
 pub mod spread;
 mod tally;
 

@@ -5,7 +5,7 @@ plain::mistakes! {
     NoMark,
     /// every entry is marked
     MarkAll,
-    /// the mark covers every version of the author at r-1
+    /// every version of the author at r-1 is marked
     MarkVersions,
     /// an ill-formed previous point is not marked
     MarkWellFormed,
@@ -86,12 +86,6 @@ plain::mistakes! {
 }
 
 impl Mistake {
-    /// Whether it is about what the mark covers.
-    pub(crate) fn is_of_marks(self) -> bool {
-        use Mistake::{MarkAll, MarkValid, MarkVersions, MarkWellFormed, NoMark};
-        matches!(self, NoMark | MarkAll | MarkVersions | MarkWellFormed | MarkValid)
-    }
-
     /// Whether it is made in reading a book's bytes, so that only damaged books notice it.
     pub fn is_in_reading(self) -> bool {
         self as usize >= Self::AnythingAfter as usize

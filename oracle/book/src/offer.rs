@@ -116,11 +116,10 @@ impl Book {
         let Some(prev) = prev(point) else { return (None, Spread::default()) };
         let before = self.place(&prev).map(|place| (place, self.entries[place].certified));
         let mistake = self.mistake;
+        let is_marked = before.is_some_and(|(place, _)| covers(&self.entries[place], &prev, mistake));
         self.entries.iter_mut().for_each(|entry| entry.certified |= covers(entry, &prev, mistake));
         let spread = match self.marks {
-            Marks::Spread(spread) if self.mistake.is_none_or(|mistake| !mistake.is_of_marks()) => {
-                self.spread(&prev, spread)
-            }
+            Marks::Spread(spread) if is_marked => self.spread(&prev, spread),
             _ => Spread::default(),
         };
         (before, spread)
@@ -144,7 +143,7 @@ impl Book {
     }
 }
 
-/// Whether the mark on this previous point covers an entry.
+/// Whether this previous point's mark is on an entry before it spreads.
 fn covers(entry: &Entry, prev: &Id, mistake: Option<Mistake>) -> bool {
     match mistake {
         Some(Mistake::NoMark) => false,

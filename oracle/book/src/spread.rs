@@ -10,14 +10,14 @@ use crate::{Book, Entry, State};
 /// How far a mark goes.
 #[derive(Clone, Copy, PartialEq, Eq, Debug)]
 pub enum Marks {
-    /// It covers the previous point alone.
+    /// It covers the previous point alone, as in document 01 without U3.
     Prev,
     /// It spreads as a certificate does, with this mistake made on the way.
     Spread(Option<Mistake>),
 }
 
 /// What a book does that nobody told otherwise. The library's does the same.
-pub const MARKS: Marks = Marks::Prev;
+pub const MARKS: Marks = Marks::Spread(None);
 
 plain::mistakes! {
     /// a mark goes one round less deep

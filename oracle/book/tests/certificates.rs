@@ -1,7 +1,7 @@
 //! The two graphs outside the feeds for certificates where the book's rule for marks and the source's certificates part
 //! (docs/DIFFERENCES.md), run on both.
 
-use book::{Book, Marks, Offer};
+use book::{Book, Offer};
 use oracle::answer::{TRANS_INVALID, VALID};
 use oracle::feed::Feed;
 use oracle::value::{AnchorLink, Digest, Id, Peer, Point, PointRole, Schedule, Settings, Span, Through};
@@ -41,7 +41,7 @@ impl Both {
         ];
         let book = Book::open(&write::settings(&settings), 1 << 20).expect("settings and a slice");
         let schedule = Schedule { spans, last_known: 1_000 };
-        let mut both = Self { book: book.marking(Marks::Spread(None)), feed: Feed::new(settings), schedule };
+        let mut both = Self { book, feed: Feed::new(settings), schedule };
         both.offer(&genesis());
         both
     }

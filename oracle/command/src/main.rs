@@ -14,8 +14,6 @@ mod wrong;
 
 use std::process::ExitCode;
 
-use book::{MARKS, Marks};
-
 const USAGE: &str = "oracle COMMAND
   edges                  document 01's P1 to P10
   histogram SEED COUNT   run generated cases and print how often each answer appears
@@ -27,7 +25,7 @@ const USAGE: &str = "oracle COMMAND
   book-sharpness SEED COUNT  run feeds and damaged books with each mistake in the plain book
   mark-sharpness SEED COUNT  run feeds for certificates with each mistake in the plain book's rule for marks
   vectors FILE           run the cases of a file and compare with its answers
-  vectors-spread FILE    run its cases with a book where marks spread
+  vectors-prev FILE      run the cases with a book of a file in which marks cover the previous point alone
   lines FILE             run its verify and judge cases and print one line each
   store FILE             write the stored list
   stored FILE            replay it
@@ -39,8 +37,8 @@ fn main() -> ExitCode {
     let words: Vec<&str> = arguments.iter().map(String::as_str).collect();
     let result = match words[..] {
         ["edges"] => edges::run(),
-        ["vectors", file] => vectors::compare(file).and_then(|()| books::compare(MARKS, file)),
-        ["vectors-spread", file] => books::compare(Marks::Spread(None), file),
+        ["vectors", file] => vectors::compare(file).and_then(|()| books::compare(file)),
+        ["vectors-prev", file] => books::compare_prev(file),
         ["lines", file] => vectors::lines(file),
         ["histogram", seed, count] => {
             two_numbers(seed, count).and_then(|(seed, count)| run_cases::histogram(seed, count))

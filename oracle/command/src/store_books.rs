@@ -3,26 +3,31 @@
 use std::collections::{BTreeMap, BTreeSet};
 
 use book::file::{After, Case};
-use book::{BESIDE_RECORD, Book, Mistake, Offer, offer};
-use feeds::{Feed, damaged_books, opening};
+use book::spread::Mistake as OfMarks;
+use book::{BESIDE_RECORD, Book, Marks, Mistake, Offer, offer};
+use feeds::{Feed, Ordered, damaged_books, opening};
 use oracle::file::answer_bytes;
 use oracle::sha256::sha256;
 
 const SEED: u64 = 1;
 const OPENINGS: usize = 24;
 const FEEDS: u64 = 256;
+/// Feeds for certificates, whose places come after the others'.
+const ORDERED: u64 = 32;
 /// Of a feed only the first offers are looked at.
-const OFFERS: usize = 18;
+const OFFERS: usize = 36;
 /// No slice is longer.
 const ROOM: usize = 65_536;
 /// Of offers to given books, no larger one is stored for its answer alone.
 const SMALL: usize = 2_000;
 
-/// What an offer is stored for: its answer's number, kind and reason, or a mistake that it notices.
+/// What an offer is stored for: its answer's number, kind and reason, or a mistake that it notices, of the book or of its rule
+/// for marks.
 #[derive(Clone, Copy, PartialEq, Eq, PartialOrd, Ord)]
 enum Sight {
     Answer([u8; 3]),
     Mistake(usize),
+    Marks(usize),
 }
 
 /// The first offers of a feed: the bytes up to each, and where each sight is seen first.
@@ -65,7 +70,7 @@ pub fn write(path: &str) -> Result<(), String> {
 /// The feeds that can be stored, and why the others can't.
 fn all_seen() -> (Vec<Seen>, Vec<Dropped>) {
     let (mut feeds, mut dropped) = (Vec::new(), Vec::new());
-    for place in 0..FEEDS {
+    for place in 0..FEEDS + ORDERED {
         match seen(place) {
             Ok(feed) => feeds.push(feed),
             Err(why) => dropped.push(why),
@@ -77,15 +82,20 @@ fn all_seen() -> (Vec<Seen>, Vec<Dropped>) {
 fn report_dropped(dropped: &[Dropped]) {
     let count = |why: Dropped| dropped.iter().filter(|other| **other == why).count();
     let (given, panic) = (count(Dropped::Given), count(Dropped::Panic));
-    println!("of {FEEDS} feeds dropped: {given} that begin with a given book, {panic} with a panic for an answer");
+    println!(
+        "of {} feeds dropped: {given} that begin with a given book, {panic} with a panic for an answer",
+        FEEDS + ORDERED
+    );
 }
 
 fn report(sights: BTreeSet<&Sight>) {
     let answers = sights.iter().filter(|sight| matches!(sight, Sight::Answer(_))).count();
-    let unnoticed = (0..Mistake::ALL.len()).filter(|at| !sights.contains(&Sight::Mistake(*at)));
-    unnoticed.for_each(|at| println!("not noticed: {}", Mistake::ALL[at].text()));
-    let (noticed, all) = (sights.len() - answers, Mistake::ALL.len());
-    println!("{answers} answers; {noticed} of {all} mistakes of the book noticed");
+    let of_book = Mistake::ALL.iter().enumerate().map(|(at, mistake)| (Sight::Mistake(at), mistake.text()));
+    let of_marks = OfMarks::ALL.iter().enumerate().map(|(at, mistake)| (Sight::Marks(at), mistake.text()));
+    let unnoticed = of_book.chain(of_marks).filter(|(sight, _)| !sights.contains(sight));
+    unnoticed.for_each(|(_, text)| println!("not noticed: {text}"));
+    let (noticed, all) = (sights.len() - answers, Mistake::ALL.len() + OfMarks::ALL.len());
+    println!("{answers} answers; {noticed} of {all} mistakes of the book and of its rule for marks noticed");
 }
 
 fn openings() -> impl Iterator<Item = Case> {
@@ -96,35 +106,48 @@ fn openings() -> impl Iterator<Item = Case> {
     })
 }
 
-/// A feed and a book of its own, in a slice of at most `ROOM`; none where the feed begins with a given book.
-fn begin(place: u64) -> Option<(Feed, Book)> {
+/// The first offers of a feed and a book of its own, in a slice of at most `ROOM`; none where the feed begins with a given book.
+fn begin(place: u64) -> Option<(Vec<Offer>, Book)> {
+    let open = |book: &Book| Book::open(book.settings(), book.length().min(ROOM)).expect("the feed's own settings");
+    if let Some(place) = place.checked_sub(FEEDS) {
+        let feed = Ordered::new(SEED, place);
+        let book = open(feed.book());
+        return Some((feed.take(OFFERS).map(|step| step.offer).collect(), book));
+    }
     let feed = Feed::new(SEED, place);
-    let (settings, length) = (feed.book().settings(), feed.book().length().min(ROOM));
-    let book = Book::open(settings, length).expect("the feed's own settings");
-    feed.opened().then_some((feed, book))
+    let book = open(feed.book());
+    feed.opened().then(|| (feed.take(OFFERS).map(|step| step.offer).collect(), book))
 }
 
 fn seen(place: u64) -> Result<Seen, Dropped> {
-    let (feed, mut book) = begin(place).ok_or(Dropped::Given)?;
-    let places = (0..Mistake::ALL.len()).filter(|at| !Mistake::ALL[*at].is_in_reading());
-    let mut mistaken: Vec<(usize, Book)> = places.map(|at| (at, book.mistaken(Mistake::ALL[at]))).collect();
+    let (offers, mut book) = begin(place).ok_or(Dropped::Given)?;
+    let mut mistaken = mistaken(&book);
     let mut seen = Seen { place, sizes: Vec::new(), first: BTreeMap::new() };
     let mut size = 0;
-    for (at, step) in feed.take(OFFERS).enumerate() {
-        let answer = book.offer(&step.offer).answer;
+    for (at, offer) in offers.iter().enumerate() {
+        let answer = book.offer(offer).answer;
         let bytes = answer_bytes(&answer).ok_or(Dropped::Panic)?;
-        size += size_of(&step.offer) + bytes.len();
+        size += size_of(offer) + bytes.len();
         seen.sizes.push(size);
         seen.first.entry(shown(&bytes)).or_insert(at);
-        mistaken.retain_mut(|(mistake, other)| {
-            let same = other.offer(&step.offer).answer == answer && other.entries() == book.entries();
+        mistaken.retain_mut(|(sight, other)| {
+            let same = other.offer(offer).answer == answer && other.entries() == book.entries();
             if !same {
-                seen.first.insert(Sight::Mistake(*mistake), at);
+                seen.first.insert(*sight, at);
             }
             same
         });
     }
     Ok(seen)
+}
+
+/// The book with each mistake in it that offers can notice.
+fn mistaken(book: &Book) -> Vec<(Sight, Book)> {
+    let places = (0..Mistake::ALL.len()).filter(|at| !Mistake::ALL[*at].is_in_reading());
+    let of_book = places.map(|at| (Sight::Mistake(at), book.mistaken(Mistake::ALL[at])));
+    let marking = |mistake: &OfMarks| book.clone().marking(Marks::Spread(Some(*mistake)));
+    let of_marks = OfMarks::ALL.iter().enumerate().map(|(at, mistake)| (Sight::Marks(at), marking(mistake)));
+    of_book.chain(of_marks).collect()
 }
 
 fn size_of(offer: &Offer) -> usize {
@@ -157,15 +180,24 @@ fn cheapest(feeds: &[Seen], sight: &Sight) -> Option<(usize, usize, usize)> {
     places.min()
 }
 
-/// The beginning of a book, and offers to it.
+/// The beginning of a book, and offers to it, in a slice that has just the room for them.
 fn feed_cases(place: u64, offers: usize) -> Vec<Case> {
-    let (feed, mut book) = begin(place).expect("it was seen");
+    let (mut feed, book) = begin(place).expect("it was seen");
+    feed.truncate(offers);
+    let mut book = Book::open(book.settings(), room(book.clone(), &feed)).expect("a slice that is no longer");
     let begins = Case::Begin { settings: book.settings().to_vec(), length: book.length(), number: 0 };
-    let offers = feed.take(offers).map(|step| {
-        let answer = answer_bytes(&book.offer(&step.offer).answer).expect("no panic");
-        Case::Offer { offer: step.offer, after: After { sha256: sha256(&book.bytes()).to_vec(), answer } }
+    let offers = feed.into_iter().map(|offer| {
+        let answer = answer_bytes(&book.offer(&offer).answer).expect("no panic");
+        Case::Offer { offer, after: After { sha256: sha256(&book.bytes()).to_vec(), answer } }
     });
     [begins].into_iter().chain(offers).collect()
+}
+
+/// The room that offers need so that none is refused that wasn't.
+fn room(mut book: Book, offers: &[Offer]) -> usize {
+    offers.iter().for_each(|offer| drop(book.offer(offer)));
+    let longest = offers.iter().map(|offer| offer.record.len() + BESIDE_RECORD).max().unwrap_or(0);
+    book.length().min(book.used() + longest)
 }
 
 /// An offer to a given book: its size, where it was met, and the case.

@@ -1,10 +1,9 @@
 //! Answers that are wrong on purpose: whoever replays cases has to find each of these different.
 
 use book::file::{BEGIN, OFFER, OFFER_TO, OPEN};
+use book::replay::FILL;
 use oracle::Answer;
 use oracle::file::{Blobs, JUDGE, VERIFY, answer_bytes, blobs, write};
-
-use crate::books::FILL;
 
 /// The fields of an answer, by where each begins: number, kind, reason, id, map, role, first number, second number,
 /// root's reason, peer, zeros, count of unknown peers, the first of them; and where that one ends.

@@ -3,7 +3,7 @@
 
 use std::collections::{HashMap, HashSet, VecDeque};
 
-use book::{Book, Marks, Offer, Offered};
+use book::{Book, Offer, Offered};
 use cases::random::Random;
 use oracle::answer::INVALID;
 use oracle::numbers::{HORIZON, Read, before};
@@ -56,7 +56,7 @@ impl Ordered {
         let begin = if random.chance(1, 8) { settings.genesis_round + random.between(2, 6) } else { 0 };
         let first = if random.chance(1, 4) { vec![below_genesis(&mut random, &world)] } else { Vec::new() };
         Self {
-            book: book.marking(Marks::Spread(None)),
+            book,
             certificates: feed::Feed::new(settings),
             feeder: Feeder::of(random, world),
             first: first.into(),

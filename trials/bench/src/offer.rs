@@ -32,8 +32,9 @@ const WORDS: &str = "
 Offering. Books of valid points, round by round: each point includes all points of the round below it, and witnesses all
 but its author's of the one below that. The next point is offered. Nanoseconds a call, medians of the rounds; each round
 runs the ways over the same slice, which has room for one entry more.
-  offer    wutherdish_offer: the list is needed, all its entries are found, the point is valid, its previous point is
-           marked, and it is kept; what that changes is put back after each call, and the time of that taken off
+  offer    wutherdish_offer: the list is needed, the certificate of the previous point spreads over the book, where that
+           point alone is not marked yet, all entries of the list are found, the point is valid and is kept; what that
+           changes is put back after each call, and the time of that taken off
   refused  the same with a point that is kept already, so number 11: the book is read, and the point looked up
   pass     the slice summed as words of 64 bits, nothing else
 ";

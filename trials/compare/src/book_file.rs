@@ -2,6 +2,7 @@
 
 use book::Offer;
 use book::file::{After, Case, read};
+use book::replay::{Respread, respread};
 use oracle::file::blobs;
 use oracle::sha256::sha256;
 use wutherdish::lent::open as open_book;
@@ -9,8 +10,38 @@ use wutherdish::lent::open as open_book;
 use crate::file::expected;
 use crate::lent::{FILL, Lent};
 
-pub fn run(path: &str, bytes: &[u8]) -> Result<(), String> {
-    let cases = blobs(bytes).and_then(read).ok_or_else(|| format!("{path}: not a whole file of cases"))?;
+/// The rule for marks by which a file was answered.
+#[derive(Clone, Copy, PartialEq, Eq)]
+pub enum Rule {
+    /// Marks spread, as the library's.
+    Spread,
+    /// A mark covers the previous point alone.
+    Prev,
+}
+
+/// The cases of a file that have a book.
+pub fn load(path: &str, bytes: &[u8]) -> Result<Vec<Case>, String> {
+    blobs(bytes).and_then(read).ok_or_else(|| format!("{path}: not a whole file of cases"))
+}
+
+/// The same with the answers where marks spread. Where they don't in the file, the plain book has to answer as the file says by
+/// the file's rule, and then answers by the library's; how many cases that changes is said.
+pub fn spread(path: &str, cases: Vec<Case>, rule: Rule) -> Result<Vec<Case>, String> {
+    if rule == Rule::Spread {
+        return Ok(cases);
+    }
+    let Respread { cases, others, answers } = respread(cases).map_err(|fault| format!("{path}: {fault}"))?;
+    println!(
+        "{path}: {} cases with a book, {} the same where marks spread; {others} others, {answers} of them in the \
+         answer, are answered by the plain book",
+        cases.len(),
+        cases.len() - others
+    );
+    Ok(cases)
+}
+
+pub fn run(path: &str, bytes: &[u8], rule: Rule) -> Result<(), String> {
+    let cases = spread(path, load(path, bytes)?, rule)?;
     let (mut slice, mut lent, mut openings, mut offers) = (Vec::new(), Lent::default(), 0, 0);
     for (place, case) in cases.into_iter().enumerate() {
         let result = match case {
@@ -35,7 +66,7 @@ pub fn run(path: &str, bytes: &[u8]) -> Result<(), String> {
         };
         result.map_err(|difference| format!("{path}: case {place} of those with a book: {difference}"))?;
     }
-    println!("{path}: {openings} openings and {offers} offers answered as the file says, books by their sha256");
+    println!("{path}: {openings} openings and {offers} offers answered so, books by their sha256");
     Ok(())
 }
 

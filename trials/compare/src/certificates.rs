@@ -1,9 +1,9 @@
-//! Feeds for certificates: the marks of all kept points after each offer, by the source's own certificates, by the plain book
-//! whose marks spread, and by the library.
+//! Feeds for certificates: the marks of all kept points after each offer, by the source's own certificates, by the plain book,
+//! and by the library.
 
 use std::time::Instant;
 
-use book::{MARKS, Marks, Spread, State};
+use book::{Spread, State};
 use compare::run::{Counts, Range, run};
 use feeds::{Ordered, OrderedStep};
 use wutherdish::lent::open;
@@ -13,26 +13,6 @@ use crate::report::offer_report;
 
 /// Feeds that a thread takes at a time.
 const BLOCK: u64 = 2;
-
-/// What is compared beside the source's certificates and the plain book.
-#[derive(Clone, Copy, PartialEq, Eq)]
-pub enum Beside {
-    Nothing,
-    /// The library's answers and every byte of its book.
-    Library,
-}
-
-/// Whether the library's marks spread.
-pub fn spreads() -> bool {
-    matches!(MARKS, Marks::Spread(_))
-}
-
-impl Beside {
-    /// The library, if its marks spread.
-    pub fn now() -> Self {
-        if spreads() { Self::Library } else { Self::Nothing }
-    }
-}
 
 #[derive(Default)]
 struct Compared {
@@ -61,29 +41,25 @@ impl Counts for Compared {
     }
 }
 
-/// Every mark after every offer, and every answer.
-pub fn certificates(beside: Beside, range: &Range) -> Result<(), String> {
+/// Every mark after every offer, and every answer; of the library also every byte of its book.
+pub fn certificates(range: &Range) -> Result<(), String> {
     let start = Instant::now();
-    let Compared { counts, .. } =
-        run(range, BLOCK, |compared: &mut Compared, place| compared.feed(beside, range.seed, place))?;
+    let Compared { counts, .. } = run(range, BLOCK, |compared: &mut Compared, place| compared.feed(range.seed, place))?;
     for (count, name) in counts.iter().zip(NAMES) {
         println!("{count:12} {name}");
     }
     let seconds = start.elapsed().as_secs_f64();
     let Range { seed, count, threads } = range;
-    let sides = match beside {
-        Beside::Nothing => "the source's certificates and the plain book",
-        Beside::Library => "the source's certificates, the plain book and the library",
-    };
     let offers = counts[0];
     println!(
-        "seed {seed}, {count} feeds: {offers} offers in {seconds:.1} s, threads {threads}: {sides}: no difference"
+        "seed {seed}, {count} feeds: {offers} offers in {seconds:.1} s, threads {threads}: \
+         the source's certificates, the plain book and the library: no difference"
     );
     Ok(())
 }
 
 impl Compared {
-    fn feed(&mut self, beside: Beside, seed: u64, place: u64) -> Result<(), String> {
+    fn feed(&mut self, seed: u64, place: u64) -> Result<(), String> {
         let mut feed = Ordered::new(seed, place);
         let mut slice = vec![FILL; feed.book().length()];
         open(&mut slice, feed.book().settings());
@@ -92,9 +68,7 @@ impl Compared {
             offers += 1;
             let at = |difference: String| format!("offer {offers} of the feed: {difference}");
             agree(&feed, &step).map_err(at)?;
-            if beside == Beside::Library {
-                self.library(&feed, &step, &mut slice).map_err(at)?;
-            }
+            self.library(&feed, &step, &mut slice).map_err(at)?;
             self.count(&feed, &step);
         }
         self.count_kept(&feed);

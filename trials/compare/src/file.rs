@@ -3,13 +3,12 @@
 use oracle::file::{self, Case};
 use wutherdish::lent::ANSWER;
 
-use crate::book_file;
-use crate::certificates::spreads;
+use crate::book_file::{self, Rule};
 use crate::lent::{Expected, FILL, Lent};
 use crate::report::report;
 
-/// Whether the cases with a book are for marks that spread is said; they are run if the library's marks are like that.
-pub fn run(path: &str, spread: bool) -> Result<(), String> {
+/// By which rule for marks its cases with a book were answered is said.
+pub fn run(path: &str, rule: Rule) -> Result<(), String> {
     let bytes = std::fs::read(path).map_err(|e| format!("{path}: {e}"))?;
     let cases = file::read(&bytes).ok_or_else(|| format!("{path}: not a whole file of cases"))?;
     let mut lent = Lent::default();
@@ -26,15 +25,8 @@ pub fn run(path: &str, spread: bool) -> Result<(), String> {
     println!(
         "{path}: {verified} verify and {judged} judge cases answered as the file says, peer buffers byte for byte"
     );
-    if spread == spreads() {
-        return book_file::run(path, &bytes);
-    }
-    println!("{path}: {OTHER_MARKS}");
-    Ok(())
+    book_file::run(path, &bytes, rule)
 }
-
-/// Why cases with a book are not run.
-pub const OTHER_MARKS: &str = "its cases with a book are for marks that go another way than the library's: not run";
 
 /// Number, 113 bytes of the answer, 40 zeros, the count of unknown peers and the peers.
 pub fn expected(file_answer: &[u8]) -> Option<Expected> {

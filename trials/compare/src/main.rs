@@ -15,8 +15,9 @@ mod tally;
 
 use std::process::ExitCode;
 
+use book_file::Rule;
 use cases::case;
-use certificates::{Beside, certificates};
+use certificates::certificates;
 use compare::damage::{damaged, judge_damaged};
 use compare::kind::{as_judge, as_verify};
 use compare::run;
@@ -30,16 +31,14 @@ const USAGE: &str = "compare COMMAND
   permutations SEED COUNT [THREADS]    those of the judge cases with short lists, in every order of the entries
   feeds SEED COUNT [THREADS]           feeds of offers, through the plain book and the library
   books-damaged SEED COUNT [THREADS]   the same offers to damaged copies of their books
-  certificates SEED COUNT [THREADS]    feeds for certificates, through the source's own, the plain book whose marks spread,
-                                       and the library if its marks spread
-  certificates-library SEED COUNT [THREADS]   the same through the library in any case
-  file FILE                            the cases of a file, against the answers in it; those with a book are for marks that
-                                       cover the previous point alone, and are run if the library's do
-  file-spread FILE                     the same; those with a book are for marks that spread, and are run if the library's do
+  certificates SEED COUNT [THREADS]    feeds for certificates, through the source's own, the plain book and the library
+  file FILE                            the cases of a file, against the answers in it
+  file-prev FILE                       the same of a file in which marks cover the previous point alone: those with a book
+                                       against the plain book, which has to answer as the file says where its marks do so
   joins FILE                           the joins of a file, by the host's crate, against the records in it
   tally PROGRAM SEED COUNT             feeds to the program tally, through the plain book and the program
   tally-file PROGRAM FILE              the standard inputs of a file, against the outputs in it, likewise
-  tally-file-spread PROGRAM FILE       the same for marks that spread
+  tally-file-prev PROGRAM FILE         the same of a file in which marks cover the previous point alone
 THREADS is 1 or 2, by default 2";
 
 /// What a command compares: a name, and the cases of a seed at a place.
@@ -61,18 +60,15 @@ fn main() -> ExitCode {
         ["permutations", ref words @ ..] => range(words).and_then(|range| orders::permutations(&range)),
         ["feeds", ref words @ ..] => range(words).and_then(|range| feeds::feeds(&range)),
         ["books-damaged", ref words @ ..] => range(words).and_then(|range| feeds::books_damaged(&range)),
-        ["certificates", ref words @ ..] => range(words).and_then(|range| certificates(Beside::now(), &range)),
-        ["certificates-library", ref words @ ..] => {
-            range(words).and_then(|range| certificates(Beside::Library, &range))
-        }
-        ["file", path] => file::run(path, false),
-        ["file-spread", path] => file::run(path, true),
+        ["certificates", ref words @ ..] => range(words).and_then(|range| certificates(&range)),
+        ["file", path] => file::run(path, Rule::Spread),
+        ["file-prev", path] => file::run(path, Rule::Prev),
         ["joins", path] => joins::run(path),
         ["tally", program, ref words @ ..] => {
             range(words).and_then(|range| program::feeds(program, range.seed, range.count))
         }
-        ["tally-file", program, path] => program::file(program, path, false),
-        ["tally-file-spread", program, path] => program::file(program, path, true),
+        ["tally-file", program, path] => program::file(program, path, Rule::Spread),
+        ["tally-file-prev", program, path] => program::file(program, path, Rule::Prev),
         _ => Err(USAGE.to_string()),
     };
     match result {

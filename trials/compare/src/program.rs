@@ -6,14 +6,12 @@ use std::thread;
 use std::time::Duration;
 
 use book::Offer;
-use book::file::{Case, read as read_cases};
+use book::file::Case;
 use cases::random::Random;
 use feeds::Feed;
-use oracle::file::blobs;
 use oracle::read;
 
-use crate::certificates::spreads;
-use crate::file::OTHER_MARKS;
+use crate::book_file::{Rule, load, spread};
 
 /// More than the program's buffer holds.
 const LONG: usize = 150_000;
@@ -36,22 +34,18 @@ pub fn feeds(program: &str, seed: u64, count: u64) -> Result<(), String> {
     Ok(())
 }
 
-/// Compares what a program prints of the standard inputs in a file of cases, if its book's marks go the file's way.
-pub fn file(program: &str, path: &str, spread: bool) -> Result<(), String> {
-    if spread != spreads() {
-        println!("{path}: {OTHER_MARKS}");
-        return Ok(());
-    }
+/// Compares what a program prints of the standard inputs in a file of cases.
+pub fn file(program: &str, path: &str, rule: Rule) -> Result<(), String> {
     let bytes = std::fs::read(path).map_err(|e| format!("{path}: {e}"))?;
-    let cases = blobs(&bytes).and_then(read_cases).ok_or_else(|| format!("{path}: not a whole file of cases"))?;
+    let cases = load(path, &bytes)?.into_iter().filter(|case| matches!(case, Case::Tally { .. })).collect();
     let mut count = 0;
-    for case in cases {
+    for case in spread(path, cases, rule)? {
         let Case::Tally { input, output } = case else { continue };
         compare(program, &input, &output, &mut Random::new(0, count))
             .map_err(|difference| format!("{path}: tally case {count}: {difference}"))?;
         count += 1;
     }
-    println!("{path}: {count} tally cases answered as the file says");
+    println!("{path}: {count} tally cases answered so");
     Ok(())
 }
 

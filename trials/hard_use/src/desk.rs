@@ -12,7 +12,7 @@ use crate::model::Expected;
 use crate::{raw, watch};
 
 /// Room for what is lent: over the longest book and the longest list that the sources make.
-const ROOM: usize = 24 << 20;
+const ROOM: usize = 32 << 20;
 
 /// One worker's memory to lend from.
 pub struct Desk {

@@ -1,6 +1,6 @@
 //! What the library has to leave: the oracle's answer, and the plain book's.
 
-use book::{Book, Offer};
+use book::{Book, Marks, Offer, spread};
 use inputs::call::Call;
 use oracle::Answer;
 use oracle::file::Case;
@@ -12,6 +12,8 @@ use plain::{KNOWN_PANIC, Prepared};
 pub struct Model {
     pub judge_mistake: Option<plain::Mistake>,
     pub book_mistake: Option<book::Mistake>,
+    /// In the book's rule for marks.
+    pub marks_mistake: Option<spread::Mistake>,
 }
 
 /// What a call has to leave.
@@ -79,11 +81,18 @@ impl Model {
         }
     }
 
+    /// A book with the mistake that is made in books, if one is.
+    pub fn mistaken(&self, book: &Book) -> Option<Book> {
+        let of_marks = self.marks_mistake.map(|mistake| book.clone().marking(Marks::Spread(Some(mistake))));
+        of_marks.or(self.book_mistake.map(|mistake| book.mistaken(mistake)))
+    }
+
     fn offer(&self, slice: &[u8], offer: &Offer) -> Result<Expected, String> {
-        let Some(mut book) = Book::read_mistaken(slice, self.book_mistake) else {
+        let Some(book) = Book::read_mistaken(slice, self.book_mistake) else {
             let unchanged = Some(slice.to_vec());
             return Expected::new(&Answer::Number(oracle::numbers::BOOK), unchanged, false);
         };
+        let mut book = self.mistaken(&book).unwrap_or(book);
         let offered = book.offer(offer);
         let after = if matches!(offered.answer, Answer::Number(_)) { slice.to_vec() } else { book.bytes() };
         Expected::new(&offered.answer, Some(after), offered.stood_in)

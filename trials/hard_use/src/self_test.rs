@@ -3,6 +3,7 @@
 use std::process::{Command, Output};
 use std::time::Duration;
 
+use book::spread;
 use hard_use::fault::Fault;
 use hard_use::model::Model;
 use hard_use::sources::Source;
@@ -12,7 +13,7 @@ use hard_use::worker::{Plan, Worker};
 const SEED: u64 = 1;
 /// Places within which a fault has to be noticed.
 const FAULT_PLACES: u64 = 500;
-/// Places within which a mistake of the judge has to be noticed, and feeds for one of the book.
+/// Places within which a mistake of the judge has to be noticed, and feeds for one of the book or of its rule for marks.
 const MISTAKE_PLACES: u64 = 60_000;
 const MISTAKE_FEEDS: u64 = 128;
 /// Short, so that the call that sleeps is noticed soon.
@@ -34,6 +35,12 @@ pub fn run(every: usize) -> Result<(), String> {
         book_mistake(&mut worker, *mistake)?;
     }
     println!("{count} mistakes in the model's book, all noticed");
+    let marks = spread::Mistake::ALL.iter().step_by(every);
+    let count = marks.len();
+    for mistake in marks {
+        marks_mistake(&mut worker, *mistake)?;
+    }
+    println!("{count} mistakes in the model's rule for marks, all noticed");
     Ok(())
 }
 
@@ -82,12 +89,12 @@ fn first_difference(worker: &mut Worker, plan: Plan, places: u64) -> Option<Stri
 
 /// Places of the run without offers, which don't ask the judge that has the mistake, and without long lists.
 fn judge_mistake(worker: &mut Worker, mistake: plain::Mistake) -> Result<(), String> {
-    let model = Model { judge_mistake: Some(mistake), book_mistake: None };
+    let model = Model { judge_mistake: Some(mistake), ..Model::default() };
     let plan = Plan { seed: SEED, model, fault: None };
     let has_cases = |place: &u64| {
         let source = Source::of(SEED, *place);
-        let others = [Source::Feed, Source::DamagedBook, Source::SmallBook, Source::Opening, Source::Dear];
-        !others.contains(&source)
+        let others = [Source::Feed, Source::Certificates, Source::DamagedBook, Source::SmallBook, Source::Opening];
+        source != Source::Dear && !others.contains(&source)
     };
     let noticed = (0..MISTAKE_PLACES).filter(has_cases).any(|place| worker.run(plan, place).is_err());
     if noticed { Ok(()) } else { Err(format!("a mistake of the judge went unnoticed: {}", mistake.text())) }
@@ -95,9 +102,17 @@ fn judge_mistake(worker: &mut Worker, mistake: plain::Mistake) -> Result<(), Str
 
 /// Sources with offers alone. A mistake in reading shows in damaged books.
 fn book_mistake(worker: &mut Worker, mistake: book::Mistake) -> Result<(), String> {
-    let model = Model { judge_mistake: None, book_mistake: Some(mistake) };
+    let model = Model { book_mistake: Some(mistake), ..Model::default() };
     let plan = Plan { seed: SEED, model, fault: None };
     let source = if mistake.is_in_reading() { Source::DamagedBook } else { Source::Feed };
     let noticed = (0..MISTAKE_FEEDS).any(|place| worker.run_source(plan, source, place).is_err());
     if noticed { Ok(()) } else { Err(format!("a mistake of the book went unnoticed: {}", mistake.text())) }
+}
+
+/// Feeds for certificates alone.
+fn marks_mistake(worker: &mut Worker, mistake: spread::Mistake) -> Result<(), String> {
+    let model = Model { marks_mistake: Some(mistake), ..Model::default() };
+    let plan = Plan { seed: SEED, model, fault: None };
+    let noticed = (0..MISTAKE_FEEDS).any(|place| worker.run_source(plan, Source::Certificates, place).is_err());
+    if noticed { Ok(()) } else { Err(format!("a mistake of the rule for marks went unnoticed: {}", mistake.text())) }
 }

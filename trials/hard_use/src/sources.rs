@@ -20,6 +20,7 @@ pub enum Source {
     Damaged,
     Permuted,
     Feed,
+    Certificates,
     DamagedBook,
     SmallBook,
     SharedFronts,
@@ -29,12 +30,14 @@ pub enum Source {
     Dear,
 }
 
-/// Sources with their parts of the places. A feed's place has 200 offers, a permuted one up to 96 calls.
-const PARTS: [(Source, usize); 11] = [
+/// Sources with their parts of the places. A feed's place has 200 offers, one for certificates up to 1,400, a permuted one up to 96
+/// calls.
+const PARTS: [(Source, usize); 12] = [
     (Source::Generated, 450),
     (Source::Damaged, 500),
     (Source::Permuted, 250),
     (Source::Feed, 2),
+    (Source::Certificates, 1),
     (Source::DamagedBook, 2),
     (Source::SmallBook, 250),
     (Source::SharedFronts, 150),
@@ -43,10 +46,6 @@ const PARTS: [(Source, usize); 11] = [
     (Source::Wild, 150),
     (Source::Dear, 4),
 ];
-
-/// The longest of the dear inputs. Longer lists of versions are left out: they cost with their square, these up to 0.2 s, and
-/// a loaded machine makes seconds of that.
-const LONGEST: usize = 4_096;
 
 impl Source {
     pub fn of(seed: u64, place: u64) -> Self {
@@ -66,6 +65,7 @@ impl Source {
             Self::Damaged => "damaged cases",
             Self::Permuted => "permuted lists",
             Self::Feed => "feeds of offers",
+            Self::Certificates => "feeds for certificates",
             Self::DamagedBook => "damaged books",
             Self::SmallBook => "small books",
             Self::SharedFronts => "ids alike at their front",
@@ -90,7 +90,7 @@ pub fn calls(source: Source, seed: u64, place: u64) -> Vec<Call> {
         Source::SharedFronts => return alike(&mut random, seed, place),
         Source::Opening => return vec![opening::opening(&mut random, seed, place)],
         Source::Dear => return vec![dear(&mut random)],
-        Source::Feed | Source::DamagedBook => unreachable!("their calls depend on one another"),
+        Source::Feed | Source::Certificates | Source::DamagedBook => unreachable!("their calls depend on one another"),
     };
     cases.into_iter().map(Call::Case).collect()
 }
@@ -98,8 +98,7 @@ pub fn calls(source: Source, seed: u64, place: u64) -> Vec<Call> {
 /// A call of any shape; one in four is as long as may be.
 fn dear(random: &mut Random) -> Call {
     let shape = random.pick(&Shape::all());
-    let longest = shape.most.min(LONGEST);
-    let count = if random.chance(1, 4) { longest } else { random.below(longest + 1) };
+    let count = if random.chance(1, 4) { shape.most } else { random.below(shape.most + 1) };
     shape.make(random, count).call
 }
 

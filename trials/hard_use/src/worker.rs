@@ -1,7 +1,8 @@
 //! The calls of a place: made, compared and counted.
 
+use book::{Book, Offer, Offered};
 use cases::random::Random;
-use feeds::{Feed, Step, damaged_books};
+use feeds::{Feed, Ordered, OrderedStep, Step, damaged_books};
 use inputs::call::Call;
 
 use crate::counts::Counts;
@@ -63,6 +64,7 @@ impl Worker {
         let mut run = Place { plan, place, source, random, desk, counts: &mut self.counts, calls: 0 };
         let result = match source {
             Source::Feed => run.feed(),
+            Source::Certificates => run.certificates(),
             Source::DamagedBook => run.damaged_books(),
             _ => sources::calls(source, plan.seed, place).iter().try_for_each(|call| run.call(call)),
         };
@@ -91,26 +93,47 @@ impl Place<'_> {
         Ok(())
     }
 
-    /// The book stays where it was lent first.
     fn feed(&mut self) -> Result<(), String> {
         let mut feed = Feed::new(self.plan.seed, self.place);
-        let mut given = (!feed.opened()).then(|| feed.book().bytes());
-        if given.is_none() {
-            self.call(&Call::Open { settings: feed.book().settings().to_vec(), length: feed.book().length() })?;
+        let (book, given) = (feed.book().clone(), !feed.opened());
+        self.offers(&book, given, || {
+            let Step { offer, offered } = feed.next()?;
+            Some((offer, offered, feed.book().bytes()))
+        })
+    }
+
+    /// Windows of up to 255 rounds, of which a certificate covers all.
+    fn certificates(&mut self) -> Result<(), String> {
+        let mut feed = Ordered::new(self.plan.seed, self.place);
+        let book = feed.book().clone();
+        self.offers(&book, false, || {
+            let OrderedStep { offer, offered, .. } = feed.next()?;
+            Some((offer, offered, feed.book().bytes()))
+        })
+    }
+
+    /// Offers to a book, given or opened, which stays where it was lent first.
+    fn offers(
+        &mut self,
+        book: &Book,
+        is_given: bool,
+        mut next: impl FnMut() -> Option<(Offer, Offered, Vec<u8>)>,
+    ) -> Result<(), String> {
+        let mut given = is_given.then(|| book.bytes());
+        if !is_given {
+            self.call(&Call::Open { settings: book.settings().to_vec(), length: book.length() })?;
         }
-        let mut mistaken = self.plan.model.book_mistake.map(|mistake| feed.book().mistaken(mistake));
-        while let Some(Step { offer, offered }) = feed.next() {
-            let call = Call::Offer { book: given.take(), offer };
-            let Call::Offer { offer, .. } = &call else { unreachable!() };
+        let mut mistaken = self.plan.model.mistaken(book);
+        while let Some((offer, offered, after)) = next() {
             let expected = match &mut mistaken {
                 Some(book) => {
-                    let offered = book.offer(offer);
+                    let offered = book.offer(&offer);
                     Expected::new(&offered.answer, Some(book.bytes()), offered.stood_in)
                 }
-                None => Expected::new(&offered.answer, Some(feed.book().bytes()), offered.stood_in),
+                None => Expected::new(&offered.answer, Some(after), offered.stood_in),
             };
             let layout = self.random.number();
-            self.compare(&call, layout, |_, _| expected)?;
+            self.compare(&Call::Offer { book: given.take(), offer }, layout, |_, _| expected)?;
         }
         Ok(())
     }

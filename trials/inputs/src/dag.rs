@@ -1,6 +1,6 @@
 //! A DAG of valid points with full maps, and books of its first points.
 
-use book::{Entry, MARKS, Marks, SETTINGS, State};
+use book::{Entry, SETTINGS, State};
 use cases::random::Random;
 use oracle::value::{AnchorLink, Digest, Id, Peer, Point, PointRole, Schedule, Settings, Span, Through};
 use oracle::write;
@@ -99,9 +99,8 @@ impl Dag {
     pub fn book(&self, points: usize, room: usize) -> Vec<u8> {
         let mut bytes = self.settings.clone();
         for (place, entry) in self.entries[..points].iter().enumerate() {
-            // its author's next point marked it; the genesis author has none: where marks spread, the first one of a point above
-            let spreads = matches!(MARKS, Marks::Spread(_));
-            let certified = (place > 0 || spreads) && place.max(1) + self.set.len() < points;
+            // its author's next point marked it; the genesis author has none, and the first mark of a point above spreads to it
+            let certified = place.max(1) + self.set.len() < points;
             Entry { certified, ..entry.clone() }.write(&mut bytes);
         }
         bytes.resize(self.start(room), 0);

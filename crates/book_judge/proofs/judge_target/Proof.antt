@@ -5,7 +5,6 @@ use Rattle.judge_valid.specs.Code.{pointViewOf}
 use Rattle.point.specs.Code.{pointIdOf, throughOf, linkOf}
 use Rattle.schedule.specs.Code.{settingsOf}
 use Rattle.judge_step.specs.Code.{indirectFold, judgingOf}
-use Rattle.book_judge.specs.Code.{marked}
 use Rattle.book_judge.proofs.Looked.{target-judged}
 use borrow.Author.Needs.{needs}
 use Rattle.book_judge.proofs.judge_target.Statement.{statement}
@@ -47,7 +46,7 @@ returns-2 c = λ b q a e.
     let st = t .before .before .before .before in
     let x = t .link .given .0 .0 in
     let j = judgingOf (st .args .so-far) in
-    target-judged (now (st .args .book)) (l .lookup .result) (marked q b) q (pointIdOf (x .to)) (l .lookup .ensures .1 b q a)
+    target-judged (now (st .args .book)) (l .lookup .result) b q (pointIdOf (x .to)) (l .lookup .ensures .1 b q a)
     (settingsOf (st .args .conf)) (pointViewOf (st .args .p)) (a .view) j (judgingOf (c .with-indirect .result)) (st .args .role) (throughOf (x .through)) (linkOf (st .args .link)) (ap linkOf (t .link .given .1)) e
     (λ first. c .with-indirect .ensures ∙ g .indirect-gives .ensures first j)
 

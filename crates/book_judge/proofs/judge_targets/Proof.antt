@@ -3,7 +3,6 @@ use mathlib.Core.Path.{refl, sym, _∙_}
 use Rattle.point.specs.Code.{pointOf}
 use Rattle.schedule.specs.Code.{settingsOf}
 use Rattle.judge_step.specs.Code.{judgingOf}
-use Rattle.book_judge.specs.Code.{marked}
 use Rattle.book_judge.proofs.Laws.{trigger-first, proof-first}
 use borrow.Author.Needs.{needs}
 use Rattle.book_judge.proofs.judge_targets.Statement.{statement}
@@ -25,7 +24,7 @@ returns c =
     let t = f .before .before in
     let st = t .before .before .before in
     let q = pointOf s (st .args .info) in
-    trigger-first (settingsOf (st .args .conf)) q (marked q b) (judgingOf (st .args .so-far)) (judgingOf (f .judge-target .result)) (judgingOf (c .judge-target2 .result))
+    trigger-first (settingsOf (st .args .conf)) q b (judgingOf (st .args .so-far)) (judgingOf (f .judge-target .result)) (judgingOf (c .judge-target2 .result))
     (sym (t .is-trigger-first .ensures) ∙ f .before .if1 .taken) (f .judge-target .ensures b q a refl) (c .judge-target2 .ensures b q a refl)
 
 judge-target-requires-3 : tie.Need-judge-target-requires-3
@@ -41,7 +40,7 @@ returns-2 c =
     let t = f .before .before in
     let st = t .before .before .before in
     let q = pointOf s (st .args .info) in
-    proof-first (settingsOf (st .args .conf)) q (marked q b) (judgingOf (st .args .so-far)) (judgingOf (f .judge-target3 .result)) (judgingOf (c .judge-target4 .result))
+    proof-first (settingsOf (st .args .conf)) q b (judgingOf (st .args .so-far)) (judgingOf (f .judge-target3 .result)) (judgingOf (c .judge-target4 .result))
     (sym (t .is-trigger-first .ensures) ∙ f .before .if1 .left) (f .judge-target3 .ensures b q a refl) (c .judge-target4 .ensures b q a refl)
 
 pub judge-targets-spec : {M : Type 1} → statement M

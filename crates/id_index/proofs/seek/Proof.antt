@@ -1,13 +1,12 @@
 -- `seek` meets its contract: the id stands between those below `low` and those from `high` on (`Between`).
 use native.Mathlib.Omega.{arith}
 use Prim.Native.Nat.{ℕ, _+_, _-_, _/_, _≤_, _<_}
-use mathlib.Core.Path.{_≡_, ap, sym, subst, _∙_}
+use mathlib.Core.Path.{_≡_, subst}
 use lib.ListN.{getD}
 use denote.Ref.{now}
 use Rattle.parts.specs.declared.Order.{Order}
-use Rattle.point.specs.Point.{PointId}
 use Rattle.point.specs.Code.{pointIdOf}
-use Rattle.id_index.specs.Code.{fieldId, placeIn, nthIn, Between, Compared}
+use Rattle.id_index.specs.Code.{fieldId, nthIn, Between, Compared}
 use Rattle.id_index.proofs.Laws.{between-all, between-above, between-below, between-met}
 use borrow.Author.Needs.{needs}
 use Rattle.id_index.proofs.seek.Statement.{statement}
@@ -54,24 +53,24 @@ add-middle c =
     let i = inside c in
     omega (arith, i .1, i .2)
 
-add-place-at : tie.Need-add-place-at Inv-loop μ-loop
-add-place-at c =
+add-j : tie.Need-add-j Inv-loop μ-loop
+add-j c =
     let i = inside c in
     omega (arith, i .1, i .2, start (c .before) .pre .1 .0, start (c .before) .pre .0 .room)
 
-mul-place-at : tie.Need-mul-place-at Inv-loop μ-loop
-mul-place-at c =
+mul-j : tie.Need-mul-j Inv-loop μ-loop
+mul-j c =
     let i = inside c in
     omega (arith, i .1, i .2, start (c .before) .pre .1 .0, start (c .before) .pre .0 .room)
 
-shared-slice-read-place-at : tie.Need-shared-slice-read-place-at Inv-loop μ-loop
-shared-slice-read-place-at c =
+shared-slice-read-j : tie.Need-shared-slice-read-j Inv-loop μ-loop
+shared-slice-read-j c =
     let i = inside (c .before) in
     let st = start (c .before .before) in
     omega (arith, i .1, i .2, st .pre .1 .0, st .pre .0 .room, st .pre .0 .sized)
 
-cast-place-at : tie.Need-cast-place-at Inv-loop μ-loop
-cast-place-at c = omega (arith, c .shared-slice-known3 .given (8194 + middle (c .before .before)))
+cast-j : tie.Need-cast-j Inv-loop μ-loop
+cast-j c = omega (arith, c .shared-slice-known3 .given (8194 + middle (c .before .before)))
 
 place-at-requires : tie.Need-place-at-requires Inv-loop μ-loop
 place-at-requires c κs =
@@ -125,11 +124,8 @@ enum-told-3 c = search needs
 returns : tie.Need-returns Inv-loop μ-loop
 returns c =
     let k = c .before .before in
-    let t = k .before .before .before in
     record {
-      which = getD (now (start (t .before) .args .index)) (8194 + middle (t .before)) 0;
-      within = which t;
-      there = sym (k .before .place-at .ensures);
+      within = which (k .before .before .before);
       same = told k _ (c .enum-told3 .given .1);
     }
 
@@ -145,10 +141,10 @@ seek-spec =
     loop-holds
     sub-middle
     add-middle
-    add-place-at
-    mul-place-at
-    shared-slice-read-place-at
-    cast-place-at
+    add-j
+    mul-j
+    shared-slice-read-j
+    cast-j
     place-at-requires
     compare-requires
     enum-told

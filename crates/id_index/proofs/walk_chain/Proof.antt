@@ -5,7 +5,7 @@ use mathlib.Core.Path.{_≡_, ap, sym, _∙_}
 use denote.Ref.{now}
 use Rattle.point.specs.Point.{sameId}
 use Rattle.point.specs.Code.{pointIdOf}
-use Rattle.id_index.specs.Code.{fieldId, placeIn, idIn}
+use Rattle.id_index.specs.Code.{fieldId, idIn}
 use Rattle.id_index.proofs.Laws.{Search, search-start, search-next, next-below}
 use borrow.Author.Needs.{needs}
 use Rattle.id_index.proofs.walk_chain.Statement.{statement}
@@ -69,9 +69,7 @@ returns : tie.Need-returns Inv-loop μ-loop
 returns c =
     let l = c .before .before .before .before in
     record {
-      which = l .loop .k - 1;
       within = omega (arith, l .loop .inv .0 .within, c .before .before .before .loop-test .taken);
-      there = sym (c .before .before .place-at .ensures);
       same = sym (looked (c .before)) ∙ c .if1 .taken;
     }
 

@@ -48,6 +48,8 @@ pub fn class(way: Way) -> &'static str {
     match way {
         Way::Includes => "way includes",
         Way::Witness => "way witness",
+        Way::Certifies => "way mark",
+        Way::PassesOn => "way mark passed-on",
         Way::DirectProof => "way proof",
         Way::IndirectProof => "way proof indirect",
         Way::DirectTrigger => "way trigger",
@@ -60,6 +62,7 @@ pub fn class(way: Way) -> &'static str {
 pub fn head(way: Way) -> Option<&'static str> {
     match way {
         Way::Includes | Way::Witness | Way::RootThrough => None,
+        Way::Certifies | Way::PassesOn => Some("mark-head"),
         Way::DirectProof | Way::IndirectProof => Some("proof-head"),
         Way::DirectTrigger | Way::IndirectTrigger => Some("trigger-head"),
         Way::Root => Some("root-head"),
@@ -75,6 +78,8 @@ pub fn arrow_head(x: i32, y: i32) -> String {
 fn title(way: Way) -> Option<&'static str> {
     match way {
         Way::Includes | Way::Witness => None,
+        Way::Certifies => Some("certifies its previous"),
+        Way::PassesOn => Some("passes a certificate on to"),
         Way::DirectProof => Some("direct anchor proof link to"),
         Way::IndirectProof => Some("indirect anchor proof link to"),
         Way::DirectTrigger => Some("direct anchor trigger link to"),
@@ -89,6 +94,7 @@ fn port(way: Way) -> i32 {
     match way {
         Way::DirectProof => -13,
         Way::IndirectProof => -8,
+        Way::Certifies | Way::PassesOn => -4,
         Way::Includes | Way::Root | Way::RootThrough => 0,
         Way::Witness => 4,
         Way::DirectTrigger => 9,

@@ -2,7 +2,9 @@
 
 use std::collections::{BTreeMap, BTreeSet};
 
-use wutherdish::{AnchorLink, AnchorStageRole, Digest, Kept, Point, PointId, Status, Through};
+use wutherdish::{AnchorLink, AnchorStageRole, Digest, Kept, Point, PointId, Settings, Status, Through};
+
+use crate::marks::{Cause, causes};
 
 /// What leads from a point to another.
 #[derive(Clone, Copy, PartialEq, Eq, PartialOrd, Ord, Debug)]
@@ -11,6 +13,10 @@ pub enum Way {
     Includes,
     /// It witnesses it.
     Witness,
+    /// Its offer marked it certified, as its previous point.
+    Certifies,
+    /// A mark went on through it to the other.
+    PassesOn,
     /// Its anchor proof link is a direct one.
     DirectProof,
     /// Its anchor proof link is an indirect one.
@@ -31,6 +37,8 @@ pub struct Node<'a> {
     pub id: PointId,
     /// What the book keeps of it; none where it is only named.
     pub kept: Option<&'a Kept>,
+    /// Why it is marked; none where it is not, or where no offer marked it.
+    pub cause: Option<Cause>,
 }
 
 /// A way between two points, which are given by their places among the nodes.
@@ -54,13 +62,20 @@ pub struct Graph<'a> {
 
 impl<'a> Graph<'a> {
     /// What a book's entries say.
-    pub fn new(kept: &'a [Kept]) -> Self {
-        let ways: Vec<_> = kept.iter().flat_map(ways).collect();
+    pub fn new(settings: &Settings, kept: &'a [Kept]) -> Self {
+        let is_marked = |(entry, cause): (&Kept, Option<Cause>)| cause.filter(|_| entry.certified);
+        let causes: Vec<Option<Cause>> = kept.iter().zip(causes(settings, kept)).map(is_marked).collect();
+        let marks = causes.iter().flatten().map(mark);
+        let ways: Vec<_> = kept.iter().flat_map(ways).chain(marks).collect();
         let order: BTreeMap<PointId, usize> = kept.iter().enumerate().map(|(n, entry)| (entry.point.id, n)).collect();
         let named = ways.iter().flat_map(|&(_, from, to)| [from, to]);
         let ids: BTreeSet<PointId> = kept.iter().map(|entry| entry.point.id).chain(named).collect();
         let place = |id: &PointId| order.get(id).copied();
-        let mut nodes: Vec<Node> = ids.into_iter().map(|id| Node { id, kept: place(&id).map(|n| &kept[n]) }).collect();
+        let node = |id| {
+            let place = place(&id);
+            Node { id, kept: place.map(|n| &kept[n]), cause: place.and_then(|n| causes[n].clone()) }
+        };
+        let mut nodes: Vec<Node> = ids.into_iter().map(node).collect();
         nodes.sort_by_key(|node| (node.id.round, node.id.author, place(&node.id).unwrap_or(usize::MAX)));
         let places: BTreeMap<PointId, usize> = nodes.iter().enumerate().map(|(n, node)| (node.id, n)).collect();
         let edges =
@@ -90,6 +105,15 @@ fn link(point: &Point, role: AnchorStageRole) -> Way {
         (AnchorStageRole::Proof, AnchorLink::Indirect(_)) => Way::IndirectProof,
         (AnchorStageRole::Trigger, AnchorLink::Direct(_)) => Way::DirectTrigger,
         (AnchorStageRole::Trigger, AnchorLink::Indirect(_)) => Way::IndirectTrigger,
+    }
+}
+
+/// The last step that a mark came: from the offer itself to its previous point, or from an entry to its dependency.
+fn mark(Cause { by, chain }: &Cause) -> (Way, PointId, PointId) {
+    match chain[..] {
+        [.., from, to] => (Way::PassesOn, from, to),
+        [prev] => (Way::Certifies, *by, prev),
+        [] => unreachable!("a chain begins with the previous point"),
     }
 }
 

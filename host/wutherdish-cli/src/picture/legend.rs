@@ -41,7 +41,12 @@ const SIGNS: [&[(Sign, &str)]; 4] = [
         (Sign::Way(Way::DirectTrigger), "anchor trigger link, direct"),
         (Sign::Way(Way::IndirectTrigger), "anchor trigger link, indirect"),
     ],
-    &[(Sign::Way(Way::Root), "to the root cause"), (Sign::Break, "rounds are left out")],
+    &[
+        (Sign::Way(Way::Root), "to the root cause"),
+        (Sign::Way(Way::Certifies), "certificate"),
+        (Sign::Way(Way::PassesOn), "certificate that spreads"),
+        (Sign::Break, "rounds are left out"),
+    ],
 ];
 
 /// Draws the legend from a height on. Gives its lower end.

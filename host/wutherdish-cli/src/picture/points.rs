@@ -5,6 +5,7 @@ use wutherdish::{Kept, Point, PointRole, Status};
 use super::graph::{Graph, Node};
 use super::layout::{HIGH, Layout, Place};
 use super::svg::Svg;
+use crate::marks::Cause;
 use crate::names::Names;
 
 /// What a verdict looks like.
@@ -100,8 +101,45 @@ fn title(node: &Node<'_>, names: &Names) -> String {
         None => format!("{}: not kept", names.say(&node.id)),
         Some(kept) => {
             let Point { role, time, anchor_time, .. } = kept.point;
-            format!("{}\n{role}, time {time}, anchor time {anchor_time}", names.say(kept))
+            let mark = if kept.certified { mark(node.cause.as_ref(), names) } else { String::new() };
+            format!("{}\n{role}, time {time}, anchor time {anchor_time}{mark}", names.say(kept))
         }
     };
     format!("{said}\ndigest {:#}\nauthor {:#}", node.id.digest, node.id.author)
+}
+
+/// Why a point is marked: which point's offer did it first, and which kept dependencies lead to it from that point's previous one.
+fn mark(cause: Option<&Cause>, names: &Names) -> String {
+    let Some(Cause { by, chain }) = cause else { return "\ncertified by no point of this book".into() };
+    let by = names.say(by);
+    match chain[..] {
+        [] | [_] => format!("\ncertified by the {by}, whose previous point it is"),
+        [prev, ref between @ .., _] => {
+            let between: String = between.iter().map(|id| format!(", the {}", names.say(id))).collect();
+            format!("\ncertified by the {by}, through its previous {}{between}", names.say(&prev))
+        }
+    }
+}
+
+#[cfg(test)]
+mod tests {
+    use wutherdish::{Digest, PeerId, PointId};
+
+    use super::*;
+
+    #[test]
+    fn a_mark_that_came_far() {
+        let id = |round: u32| PointId { round, digest: Digest([1; 32]), author: PeerId([2; 32]) };
+        let said = |chain: &[u32]| {
+            let cause = Cause { by: id(9), chain: chain.iter().map(|round| id(*round)).collect() };
+            let said = mark(Some(&cause), &Names::default());
+            said.replace(&format!("{:#}", id(9).digest), "D").replace(&format!("{:#}", id(9).author), "A")
+        };
+        let by = "\ncertified by the point D of round 9 by A";
+        assert_eq!(said(&[8]), format!("{by}, whose previous point it is"));
+        assert_eq!(said(&[8, 7]), format!("{by}, through its previous point D of round 8 by A"));
+        let far =
+            ", through its previous point D of round 8 by A, the point D of round 6 by A, the point D of round 5 by A";
+        assert_eq!(said(&[8, 6, 5, 3]), by.to_owned() + far);
+    }
 }

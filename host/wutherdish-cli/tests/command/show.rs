@@ -96,6 +96,51 @@ fn roles_and_what_is_not_kept_are_shown() {
     }
 }
 
+/// The way that a marked point's mark came last, and what is said of it.
+#[test]
+fn every_mark_has_its_cause() {
+    let feed = drill("certificate-spreads");
+    let kept = book(&feed).kept().expect("it is a book");
+    let elements = elements(&done(&["show", "-"], &feed));
+    let title = |place: usize| {
+        let end = format!("\ndigest {:#}\nauthor {:#}", kept[place].id().digest, kept[place].id().author);
+        let title = elements.iter().find(|element| element.text.ends_with(&end)).expect("it has a title");
+        title.text.lines().nth(2).expect("a third line").to_owned()
+    };
+    let ids: Vec<PointId> = kept.iter().map(|entry| entry.id()).collect();
+    let (bad, heir, certifier) = (1, 5, ids[8]);
+    assert_eq!(title(heir), format!("certified by the {certifier}, whose previous point it is"));
+    assert_eq!(title(bad), format!("certified by the {certifier}, through its previous {}", ids[heir]));
+    assert_eq!(title(8), format!("digest {:#}", certifier.digest), "it is not marked");
+    assert_eq!(count(&elements, "title", "", Some(&format!("certifies its previous {}", ids[heir]))), 1);
+    assert_eq!(count(&elements, "title", "", Some(&format!("passes a certificate on to {}", ids[bad]))), 1);
+}
+
+/// Each mark has come along one way, and the legend has one of each kind.
+#[test]
+fn every_mark_is_drawn() {
+    for feed in [drill("demo"), drill("certificate-spreads"), feed(), names::network().feed(3)] {
+        let elements = elements(&done(&["show", "-"], &feed));
+        let marked = book(&feed).kept().expect("it is a book").iter().filter(|entry| entry.certified).count();
+        let [certifies, passed_on] =
+            ["way mark", "way mark passed-on"].map(|class| count(&elements, "path", class, None));
+        assert_eq!(certifies + passed_on, marked + 2);
+        assert!(certifies > 1 && passed_on > 1);
+    }
+}
+
+/// A book that was not filled by these calls: its last point is marked, and nothing above it is kept.
+#[test]
+fn a_mark_without_a_cause_is_said() {
+    let mut bytes = book(&drill("found-bad")).into_bytes();
+    let end = bytes.iter().rposition(|byte| *byte != 0).expect("a filled book") + 1;
+    let certified = (0..end).rev().find(|at| bytes[*at..].starts_with(&[33, 105, 0])).expect("an entry's verdict") + 4;
+    assert_eq!(std::mem::replace(&mut bytes[certified], 1), 0);
+    let titles = elements(&done(&["show", "-"], &bytes));
+    let said = titles.iter().filter(|title| title.text.contains("\ncertified by no point of this book\n"));
+    assert_eq!(said.count(), 1);
+}
+
 #[test]
 fn a_root_cause_is_drawn_through_the_peer_it_came_through() {
     let feed = drill("window-inside");

@@ -7,13 +7,14 @@ use wutherdish_drills::{Answer, Drill, Input, named};
 const BOOK: usize = 65_536;
 
 /// The feeds that are larger than their last answer needs.
-pub const STORIES: [&str; 11] = [
+pub const STORIES: [&str; 12] = [
     "never-found",
     "late-parent",
     "found-bad",
     "found-bad-certified",
     "certified-by-invalid",
     "successor-first",
+    "certificate-spreads",
     "window-inside",
     "window-outside",
     "equivocation",

@@ -1,6 +1,6 @@
 //! The stories, offer by offer.
 
-use wutherdish::{InvalidReason, PeerId, PointId, Through, Verdict};
+use wutherdish::{Book, InvalidReason, PeerId, PointId, Verdict};
 
 use crate::run::{Feed, letter};
 
@@ -14,10 +14,7 @@ fn told(feed: &Feed) -> Vec<String> {
 /// The root cause of the last answer, with the peer that it came through.
 fn root(feed: &Feed) -> (PointId, PeerId) {
     match feed.answers().last() {
-        Some(Ok(Verdict::TransInvalid(root))) => match root.link.through {
-            Through::Includes(peer) => (root.link.to, peer),
-            Through::Witness(_) => panic!("no story has a witness"),
-        },
+        Some(Ok(Verdict::TransInvalid(root))) => (root.link.to, root.link.through.peer()),
         other => panic!("{other:?}"),
     }
 }
@@ -32,7 +29,7 @@ fn without(feed: &Feed, place: usize) -> Feed {
 /// `successor-first`, which marks nothing.
 #[test]
 fn a_later_answer_hangs_on_every_offer() {
-    let names = ["never-found", "found-bad", "found-bad-certified", "certified-by-invalid"];
+    let names = ["never-found", "found-bad", "found-bad-certified", "certified-by-invalid", "certificate-spreads"];
     for name in names.into_iter().chain(["window-inside", "window-outside"]) {
         let feed = Feed::of(name);
         for place in 1..feed.offers.len() {
@@ -86,6 +83,28 @@ fn a_successor_that_comes_first() {
     let moved = [1, 5, 2, 3, 4, 6].map(|place| feed.offers[place - 1].clone());
     assert_eq!(moved[..], certified.offers[..]);
     assert_eq!(root(&feed).0, feed.id(5));
+}
+
+/// Without the point that certifies, the last one inherits from its witness, which is the root cause itself and comes first in the
+/// list.
+#[test]
+fn a_certificate_that_spreads() {
+    let feed = Feed::of("certificate-spreads");
+    assert_eq!(told(&feed), ["V", "I8", "V", "V", "V", "T", "V", "V", "V", "V"]);
+    let [bad, heir, certifier] = [2, 6, 9].map(|place| feed.id(place));
+    let points = feed.points();
+    assert_eq!((certifier.author, points[8].prev_digest()), (heir.author, Some(heir.digest)));
+    assert_eq!(points[9].witness.get(&bad.author), Some(&bad.digest));
+    assert_eq!(root(&without(&feed, 9)), (bad, bad.author));
+
+    let mut book = Book::open(vec![0; 65_536], &feed.settings).expect("settings");
+    for (leader, record) in &feed.offers {
+        let _ = book.offer(&feed.schedule, *leader, record);
+    }
+    let kept = book.kept().expect("a book");
+    let marked: Vec<usize> = (0..kept.len()).filter(|place| kept[*place].certified).map(|place| place + 1).collect();
+    // the genesis point, those of round 11 that the marked ones of round 12 include, and B's and C's of round 12
+    assert_eq!(marked, [1, 2, 3, 4, 5, 6, 7]);
 }
 
 #[test]

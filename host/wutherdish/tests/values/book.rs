@@ -41,7 +41,8 @@ fn entries_are_what_was_offered() {
     let offered = offers().into_iter().map(|(point, verdict)| {
         let status = Status::of(&verdict).expect("a verdict that is kept");
         assert_eq!((status.letter(), status.reason_number()), (verdict.letter(), verdict.reason_number()));
-        let certified = point == first(0);
+        // the last one's previous point, and what that one includes
+        let certified = point == first(0) || point == genesis();
         Kept { point, status, certified }
     });
     assert_eq!(book.kept(), Ok(offered.collect()));

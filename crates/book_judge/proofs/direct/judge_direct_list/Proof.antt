@@ -15,7 +15,7 @@ use Rattle.point.specs.declared.info.PointInfo as code-info
 use Rattle.schedule.specs.Code.{settingsOf}
 use Rattle.judge_step.specs.Code.{start, judgingOf}
 use Rattle.books.specs.Kept.{Book}
-use Rattle.book_judge.specs.Code.{marked, Asked}
+use Rattle.book_judge.specs.Code.{Asked}
 use Rattle.book_judge.proofs.Laws.{inMaps, maps-judged, direct-linked, versions-after, view-prev}
 use borrow.Author.Needs.{needs}
 use Rattle.book_judge.proofs.direct.judge_direct_list.Statement.{statement}
@@ -31,13 +31,13 @@ maps : (c : tie.After-judge-map2) (b : Book) (i : code-info.PointInfo) →
     let st = begin c in
     Asked (now (st .args .book)) b (now (st .args .index)) (st .args .p) (point c i) → inDomain (point c i) ≡ true →
     judgingOf (c .judge-map2 .result)
-    ≡ inMaps (settingsOf (st .args .conf)) (st .args .required) (pointViewOf (st .args .p)) (marked (point c i) b) (point c i) start
+    ≡ inMaps (settingsOf (st .args .conf)) (st .args .required) (pointViewOf (st .args .p)) b (point c i) start
 maps c b i a d =
     let st = begin c in
     let m = c .before in
     let n = m .before in
     let w = n .before in
-    maps-judged (settingsOf (st .args .conf)) (st .args .required) (pointViewOf (st .args .p)) (marked (point c i) b) (point c i) start
+    maps-judged (settingsOf (st .args .conf)) (st .args .required) (pointViewOf (st .args .p)) b (point c i) start
     (w .before .before .rounds-back .result) (w .before .rounds-back2 .result) (pairsOf (now (w .witness .result))) (pairsOf (now (n .includes .result)))
     (judgingOf (m .judge-map .result)) (judgingOf (c .judge-map2 .result))
     (a .view) d (w .before .before .rounds-back .ensures) (w .before .rounds-back2 .ensures) (ap pairsOf (w .witness .ensures)) (ap pairsOf (n .includes .ensures))
@@ -76,7 +76,7 @@ returns c =
     let m = c .before .before in
     let st = begin m in
     let q = point m i in
-    direct-linked (settingsOf (st .args .conf)) (st .args .required) (pointViewOf (st .args .p)) (marked q b) q start (judgingOf (m .judge-map2 .result))
+    direct-linked (settingsOf (st .args .conf)) (st .args .required) (pointViewOf (st .args .p)) b q start (judgingOf (m .judge-map2 .result))
     (ap (λ (o : Option ℕ). isSome o) (sym (view-prev (pointViewOf (st .args .p)) q (a .view)) ∙ ap foundOf (c .enum-told .given .1))) (maps m b i a d)
 
 returns-2 : tie.Need-returns-2

@@ -19,7 +19,7 @@ use Rattle.judge_mismatch.specs.Code.{noPair}
 use Rattle.rules.specs.Mismatch.{pairId}
 use Rattle.books.specs.Kept.{Book}
 use Rattle.books.specs.Lists.{lookups}
-use Rattle.book_judge.specs.Code.{marked, Asked, lookedOf, NoVersions}
+use Rattle.book_judge.specs.Code.{Asked, lookedOf, NoVersions}
 use Rattle.book_judge.proofs.Laws.{MapLeft, map-step, map-end, row-id, row-count}
 use Rattle.book_judge.proofs.Looked.{dependency-judged}
 use borrow.Author.Needs.{needs}
@@ -27,14 +27,14 @@ use Rattle.book_judge.proofs.direct.judge_map.Statement.{statement}
 use Rattle.book_judge.proofs.direct.judge_map.Tie as tie
 
 abbrev Inv-loop : tie.InvT-loop
-Inv-loop conf required p round rows book index quick count judging₀ i₀ judging i =
+Inv-loop by round rows book index quick count judging₀ i₀ judging i =
     (i ≤ length (pairsOf rows))
-    × ((b : Book) (q : point.PointInfo) → Asked book b index p q → NoVersions q round (pairsOf rows) →
-    MapLeft (settingsOf conf) required (pointViewOf p) (marked q b) q round (pairsOf rows)
-    (directFold (settingsOf conf) required (pointViewOf p) (judgingOf judging₀) (lookups (marked q b) q round (pairsOf rows))) i (judgingOf judging))
+    × ((b : Book) (q : point.PointInfo) → Asked book b index (by .view) q → NoVersions q round (pairsOf rows) →
+    MapLeft (settingsOf (by .conf)) (by .required) (pointViewOf (by .view)) b q round (pairsOf rows)
+    (directFold (settingsOf (by .conf)) (by .required) (pointViewOf (by .view)) (judgingOf judging₀) (lookups b q round (pairsOf rows))) i (judgingOf judging))
 
 abbrev μ-loop : tie.MeasureT-loop
-μ-loop conf required p round rows book index quick count judging₀ i₀ judging i = length (pairsOf rows) - i
+μ-loop by round rows book index quick count judging₀ i₀ judging i = length (pairsOf rows) - i
 
 abbrev start : tie.At-loop Inv-loop μ-loop → tie.Start Inv-loop μ-loop
 start l = l .before .before .before .before .before .before
@@ -84,18 +84,18 @@ row c =
 goes : (c : tie.After-lookup Inv-loop μ-loop) (j : Judging) →
     let l = c .before .before .before .before in
     let a = start l .args in
-    j ≡ directStep (settingsOf (a .conf)) (a .required) (pointViewOf (a .p)) (judgingOf (l .loop .judging)) (lookedOf (now (a .book)) (c .lookup .result) false) →
-    (b : Book) (q : point.PointInfo) → Asked (now (a .book)) b (now (a .index)) (a .p) q → NoVersions q (a .round) (pairsOf (rows l)) →
-    MapLeft (settingsOf (a .conf)) (a .required) (pointViewOf (a .p)) (marked q b) q (a .round) (pairsOf (rows l))
-    (directFold (settingsOf (a .conf)) (a .required) (pointViewOf (a .p)) (judgingOf (a .so-far)) (lookups (marked q b) q (a .round) (pairsOf (rows l)))) (l .loop .i + 1) j
+    j ≡ directStep (settingsOf (a .by .conf)) (a .by .required) (pointViewOf (a .by .view)) (judgingOf (l .loop .judging)) (lookedOf (now (a .book)) (c .lookup .result) false) →
+    (b : Book) (q : point.PointInfo) → Asked (now (a .book)) b (now (a .index)) (a .by .view) q → NoVersions q (a .round) (pairsOf (rows l)) →
+    MapLeft (settingsOf (a .by .conf)) (a .by .required) (pointViewOf (a .by .view)) b q (a .round) (pairsOf (rows l))
+    (directFold (settingsOf (a .by .conf)) (a .by .required) (pointViewOf (a .by .view)) (judgingOf (a .so-far)) (lookups b q (a .round) (pairsOf (rows l)))) (l .loop .i + 1) j
 goes c j h b q asked none =
     let r = c .before .before .before in
     let l = r .before in
     let a = start l .args in
     let old = judgingOf (l .loop .judging) in
-    map-step (settingsOf (a .conf)) (a .required) (pointViewOf (a .p)) (marked q b) q (a .round) (pairsOf (rows l)) _ (l .loop .i) old (l .loop .inv .1 b q asked none)
+    map-step (settingsOf (a .by .conf)) (a .by .required) (pointViewOf (a .by .view)) b q (a .round) (pairsOf (rows l)) _ (l .loop .i) old (l .loop .inv .1 b q asked none)
     (within r) none (pointIdOf (looked c)) (row c) j
-    (λ n. dependency-judged (now (a .book)) (c .lookup .result) (marked q b) q (pointIdOf (looked c)) (c .lookup .ensures .1 b q asked) (settingsOf (a .conf)) (pointViewOf (a .p)) (asked .view) old j (a .required) n h)
+    (λ n. dependency-judged (now (a .book)) (c .lookup .result) b q (pointIdOf (looked c)) (c .lookup .ensures .1 b q asked) (settingsOf (a .by .conf)) (pointViewOf (a .by .view)) (asked .view) old j (a .by .required) n h)
 
 add-i : tie.Need-add-i Inv-loop μ-loop
 add-i c = search needs
@@ -114,9 +114,9 @@ loop-again c =
     let a = start l .args in
     let x = k .lookup .result in
     let s = partOf (now (a .book)) (x .place) (x .end) in
-    let p = passed (settingsOf (a .conf)) (pointViewOf (a .p)) (l .before .before .quick-of .result) s (x .state) (l .before .before .quick-of .ensures) (k .lookup .ensures .0 .read) (c .before .is-quiet .ensures (c .if1 .taken)) in (
+    let p = passed (settingsOf (a .by .conf)) (pointViewOf (a .by .view)) (l .before .before .quick-of .result) s (x .state) (l .before .before .quick-of .ensures) (k .lookup .ensures .0 .read) (c .before .is-quiet .ensures (c .if1 .taken)) in (
       omega (arith, within r),
-      goes k (judgingOf (l .loop .judging)) (sym (passed-step (settingsOf (a .conf)) (a .required) (pointViewOf (a .p)) s (x .state) p (x .certified) false (judgingOf (l .loop .judging)))),
+      goes k (judgingOf (l .loop .judging)) (sym (passed-step (settingsOf (a .by .conf)) (a .by .required) (pointViewOf (a .by .view)) s (x .state) p (x .certified) false (judgingOf (l .loop .judging)))),
     )
 
 judge-looked-requires : tie.Need-judge-looked-requires Inv-loop μ-loop
@@ -135,7 +135,7 @@ returns c =
     λ b q a v.
     let l = c .before in
     let st = start l in
-    map-end (settingsOf (st .args .conf)) (st .args .required) (pointViewOf (st .args .p)) (marked q b) q (st .args .round) (pairsOf (rows l)) _ (l .loop .i) (judgingOf (l .loop .judging)) (l .loop .inv .1 b q a v)
+    map-end (settingsOf (st .args .by .conf)) (st .args .by .required) (pointViewOf (st .args .by .view)) b q (st .args .round) (pairsOf (rows l)) _ (l .loop .i) (judgingOf (l .loop .judging)) (l .loop .inv .1 b q a v)
     (omega (arith, c .loop-test .left, l .before .count .ensures, row-count (rows l)))
 
 pub judge-map-spec : {M : Type 1} → statement M

@@ -17,13 +17,13 @@ use Rattle.book_judge.proofs.direct.judge_version.Statement.{statement}
 use Rattle.book_judge.proofs.direct.judge_version.Tie as tie
 
 abbrev start : tie.After-is-own-before → tie.Start
-start c = c .before .before .before .before
+start c = c .before .before .before .before .before
 
 -- the test of the id
 tested : (c : tie.After-is-own-before) (k : Kept) →
     let st = start c in
     pointIdAt (now (st .args .book)) (st .args .place + 3) ≡ k .point .id →
-    isOf (st .args .p .id .round - 1) (number (st .args .p .id .author)) k ≡ c .is-own-before .result
+    isOf (st .args .by .view .id .round - 1) (number (st .args .by .view .id .author)) k ≡ c .is-own-before .result
 tested c k i = sym (c .is-own-before .ensures ∙ ap (isBy _ _) (c .before .point-id-at .ensures ∙ i))
 
 add-point-id-at : tie.Need-add-point-id-at
@@ -39,7 +39,7 @@ returns : tie.Need-returns
 returns c =
     λ x e i.
     let st = start (c .before) in
-    version-other (settingsOf (st .args .conf)) (st .args .required) (pointViewOf (st .args .p)) (versionsOf (st .args .so-far)) (x .kept) (tested (c .before) (x .kept) i ∙ not-true _ (c .if1 .taken))
+    version-other (settingsOf (st .args .by .conf)) (st .args .by .required) (pointViewOf (st .args .by .view)) (versionsOf (st .args .so-far)) (x .kept) (tested (c .before) (x .kept) i ∙ not-true _ (c .if1 .taken))
 
 kept-at-requires : tie.Need-kept-at-requires
 kept-at-requires c κs = search needs
@@ -62,7 +62,7 @@ returns-2 c =
     let t = k .before .before in
     let st = start t in
     let d = k .kept-at .ensures .1 x e (f .is-first .result) in
-    version-own (settingsOf (st .args .conf)) (st .args .required) (pointViewOf (st .args .p)) (versionsOf (st .args .so-far)) (x .kept) _ (f .is-first .result) (c .either .result) _
+    version-own (settingsOf (st .args .by .conf)) (st .args .by .required) (pointViewOf (st .args .by .view)) (versionsOf (st .args .so-far)) (x .kept) _ (f .is-first .result) (c .either .result) _
     (tested t (x .kept) i ∙ not-false _ (k .before .if1 .left)) d (f .is-first .ensures _) (g .judge-looked .ensures) (c .either .ensures)
 
 pub judge-version-spec : {M : Type 1} → statement M

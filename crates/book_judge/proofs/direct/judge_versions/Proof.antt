@@ -19,13 +19,13 @@ use Rattle.book_judge.proofs.direct.judge_versions.Statement.{statement
 use Rattle.book_judge.proofs.direct.judge_versions.Tie as tie
 
 abbrev Inv-loop : tie.InvT-loop
-Inv-loop conf required p book index so-far₀ n j₀ so-far j =
+Inv-loop by book index so-far₀ n j₀ so-far j =
     (j ≤ n)
     × ((b : Book) → Holds book b index →
-    VersionsLeft (settingsOf conf) required (pointViewOf p) b (versionsFold (settingsOf conf) required (pointViewOf p) (versionsOf so-far₀) b) j (versionsOf so-far))
+    VersionsLeft (settingsOf (by .conf)) (by .required) (pointViewOf (by .view)) b (versionsFold (settingsOf (by .conf)) (by .required) (pointViewOf (by .view)) (versionsOf so-far₀) b) j (versionsOf so-far))
 
 abbrev μ-loop : tie.MeasureT-loop
-μ-loop conf required p book index so-far₀ n j₀ so-far j = n - j
+μ-loop by book index so-far₀ n j₀ so-far j = n - j
 
 abbrev start : tie.At-loop Inv-loop μ-loop → tie.Start Inv-loop μ-loop
 start l = l .before .before .before .before
@@ -62,9 +62,9 @@ loop-again c =
       search needs,
       λ b h.
           let lt : j < countOf (now (st .args .index)) = omega (arith, c .before .before .loop-test .taken, l .before .count .ensures) in
-          let x = found-kept h (idIn (now (st .args .book)) (now (st .args .index)) j) _ (record { which = j; within = lt; there = refl; same = same-refl (idIn (now (st .args .book)) (now (st .args .index)) j) }) in
+          let x = found-kept h (idIn (now (st .args .book)) (now (st .args .index)) j) j (record { within = lt; same = same-refl (idIn (now (st .args .book)) (now (st .args .index)) j) }) in
           let e = c .before .place-at .ensures in
-          fold-step (settingsOf (st .args .conf)) (st .args .required) (pointViewOf (st .args .p)) b _ j (versionsOf (l .loop .so-far)) (l .loop .inv .1 b h)
+          fold-step (settingsOf (st .args .by .conf)) (st .args .by .required) (pointViewOf (st .args .by .view)) b _ j (versionsOf (l .loop .so-far)) (l .loop .inv .1 b h)
           (x .kept) (x .rest) (versionsOf (c .judge-version .result)) (x .there) (c .judge-version .ensures (record { kept = x .kept; size = length (x .kept .bytes) + 108 }) (rw e (h .placed .fronts j (x .kept) (x .rest) (x .there))) (rw e (h .placed .ids j (x .kept) (x .rest) (x .there)))),
     )
 
@@ -74,8 +74,8 @@ returns c =
     let l = c .before .before in
     let st = start l in
     ap (λ (w : Versions). w .judging)
-    (fold-end (settingsOf (st .args .conf)) (st .args .required) (pointViewOf (st .args .p)) b _ (l .loop .j) (versionsOf (l .loop .so-far)) (l .loop .inv .1 b h) (omega (arith, h .placed .count, l .before .count .ensures, c .before .loop-test .left)))
-    ∙ versions-folded (settingsOf (st .args .conf)) (st .args .required) (pointViewOf (st .args .p)) b (h .once) (judgingOf (st .args .judging))
+    (fold-end (settingsOf (st .args .by .conf)) (st .args .by .required) (pointViewOf (st .args .by .view)) b _ (l .loop .j) (versionsOf (l .loop .so-far)) (l .loop .inv .1 b h) (omega (arith, h .placed .count, l .before .count .ensures, c .before .loop-test .left)))
+    ∙ versions-folded (settingsOf (st .args .by .conf)) (st .args .by .required) (pointViewOf (st .args .by .view)) b (h .once) (judgingOf (st .args .judging))
 
 pub judge-versions-spec : {M : Type 1} → statement M
 judge-versions-spec =

@@ -43,29 +43,25 @@ enum-known-read c = search needs
 add-end : tie.Need-add-end
 add-end c =
     let r = read (c .before .before .before) in
-    omega (arith, kept-end (slice r) (place r) (part r) (rest (place r) (slice r)) (start r .pre) (start r .args .covered) (r .read-kept .result) (r .read-kept .ensures .0) _ (c .before .before .before .read .given .1) (r .read-kept .ensures .1), start r .good)
+    omega (arith, kept-end (slice r) (place r) (part r) (rest (place r) (slice r)) (start r .pre) (r .read-kept .result) (r .read-kept .ensures .0) _ (c .before .before .before .read .given .1) (r .read-kept .ensures .1), start r .good)
 
 dag-point-requires : tie.Need-dag-point-requires
 dag-point-requires c κs = search needs
-
-either-requires : tie.Need-either-requires
-either-requires c κs = search needs
 
 enum-told : tie.Need-enum-told
 enum-told c = search needs
 
 returns : tie.Need-returns
 returns c =
-    let d = c .before in
-    let g = d .before .before .before .before in
+    let g = c .before .before .before .before in
     let r = read g in
-    looked-some (slice r) (place r) (part r) (rest (place r) (slice r)) (start r .pre) (start r .args .covered) (r .read-kept .result) (r .read-kept .ensures .0) _ (g .read .given .1) (r .read-kept .ensures .1)
-    _ _ (d .dag-point .ensures .0) (d .dag-point .ensures .1) (c .either .ensures)
+    looked-some (slice r) (place r) (part r) (rest (place r) (slice r)) (start r .pre) (r .read-kept .result) (r .read-kept .ensures .0) _ (g .read .given .1) (r .read-kept .ensures .1)
+    _ (c .dag-point .ensures .0) (c .dag-point .ensures .1)
 
 returns-2 : tie.Need-returns-2
 returns-2 c =
     let r = c .before .before in
-    looked-none (slice r) (place r) (part r) (rest (place r) (slice r)) (start r .pre) (start r .args .covered) (r .read-kept .result) (r .read-kept .ensures .0) (c .enum-told .given .1)
+    looked-none (slice r) (place r) (part r) (rest (place r) (slice r)) (start r .pre) (r .read-kept .result) (r .read-kept .ensures .0) (c .enum-told .given .1)
 
 pub kept-at-spec : {M : Type 1} → statement M
 kept-at-spec =
@@ -78,7 +74,6 @@ kept-at-spec =
     enum-known-read
     add-end
     dag-point-requires
-    either-requires
     enum-told
     returns
     returns-2)

@@ -11,18 +11,15 @@ use Rattle.book_judge.proofs.look.lookup.Statement.{statement}
 use Rattle.book_judge.proofs.look.lookup.Tie as tie
 
 abbrev start : tie.After-find → tie.Start
-start c = c .before .before .before .before
+start c = c .before .before .before
 
-abbrev entry : tie.After-known-told → ℕ
-entry c = c .before .found .given .0 .0
+abbrev which : tie.After-known-told → ℕ
+which c = c .before .found .given .0 .0
 
 found : (c : tie.After-known-told) →
     let f = c .before .before .before in
-    FoundAt (now (start f .args .book)) (now (start f .args .index)) (pointIdOf (start f .args .id)) (At (entry c))
-found c = let f = c .before .before .before in found-there _ _ _ (f .find .result) (At (entry c)) (c .before .found .given .1) (f .find .ensures)
-
-is-prev-requires : tie.Need-is-prev-requires
-is-prev-requires c κs = search needs
+    FoundAt (now (start f .args .book)) (now (start f .args .index)) (pointIdOf (start f .args .id)) (At (which c))
+found c = let f = c .before .before .before in found-there _ _ _ (f .find .result) (At (which c)) (c .before .found .given .1) (f .find .ensures)
 
 find-requires : tie.Need-find-requires
 find-requires c κs = search needs
@@ -30,37 +27,45 @@ find-requires c κs = search needs
 enum-known-found : tie.Need-enum-known-found
 enum-known-found c = search needs
 
+place-at-requires : tie.Need-place-at-requires
+place-at-requires c κs =
+    let st = start (c .before .before .before) in
+    (st .pre .places .sized, omega (arith, found c .within, st .pre .places .room))
+
 kept-at-requires : tie.Need-kept-at-requires
 kept-at-requires c κs =
-    let st = start (c .before .before .before) in
-    let f = found c in
-    omega (arith, f .there, st .pre .places .inside (f .which) (f .within))
+    let k = c .before in
+    let st = start (k .before .before .before) in
+    omega (arith, c .place-at .ensures, st .pre .places .inside (which k) (found k .within))
 
 enum-told : tie.Need-enum-told
 enum-told c = search needs
 
+is-prev-requires : tie.Need-is-prev-requires
+is-prev-requires c κs = search needs
+
 returns : tie.Need-returns
 returns c =
-    let k = c .before in
-    let f = k .before .before .before in
-    (c .kept-at .ensures .0, λ b q a. looks-found a (f .before .is-prev .result) _ (f .before .is-prev .ensures) (entry k) (found k) (c .kept-at .result) (c .kept-at .ensures))
+    let k = c .before .before in
+    (c .kept-at .ensures .0, λ b q a. looks-found a _ (which k) (found k) _ (c .before .place-at .ensures) (c .kept-at .result) (c .kept-at .ensures))
 
 returns-2 : tie.Need-returns-2
 returns-2 c =
-    let f = c .before .before in
+    let f = c .before .before .before in
     let st = start f in (
       record { ordered = omega arith; inside = omega arith; read = tt },
-      λ b q a. looks-absent a (f .before .is-prev .result) (st .args .id) (f .before .is-prev .ensures) (found-there _ _ _ (f .find .result) Absent (c .enum-told .given .1) (f .find .ensures)),
+      λ b q a. looks-absent a (st .args .id) (c .is-prev .result) (c .is-prev .ensures) (found-there _ _ _ (f .find .result) Absent (c .before .enum-told .given .1) (f .find .ensures)),
     )
 
 pub lookup-spec : {M : Type 1} → statement M
 lookup-spec =
     tie.close
     (tie.spec
-    is-prev-requires
     find-requires
     enum-known-found
+    place-at-requires
     kept-at-requires
     enum-told
+    is-prev-requires
     returns
     returns-2)
