@@ -17,16 +17,17 @@ use Rattle.base.specs.Base.{pick, isSome, isEmpty}
 use Rattle.base.proofs.Bool.{and-left, and-right, never, clash, or-left, or-right, or-cases, or-swap, cases, first-false, last-false}
 use Rattle.base.proofs.Impossible.{impossible}
 use Rattle.map.specs.Rows.{Pair}
-use Rattle.point.specs.Point.{PointId, PointInfo, AnchorLink, Direct, Indirect, anchorLink, sameId}
+use Rattle.point.specs.Point.{PointId, PointInfo, AnchorLink, Direct, Indirect, anchorLink, prevDigest, sameId}
 use Rattle.point.specs.declared.data.AnchorStageRole.{AnchorStageRole}
 use Rattle.point.specs.declared.data.AnchorStageRole.the-variants.{Proof, Trigger}
 use Rattle.point.proofs.Ids.{same-sym, same-refl}
-use Rattle.rules.specs.DagPoint.{DagPoint, Entry, IndirectEntry, entryId, isDropped}
+use Rattle.rules.specs.DagPoint.{DagPoint, Entry, IndirectEntry, entryId, isDropped, isBy}
 use Rattle.rules.specs.List.{Listed, readList, directs, indirects}
-use Rattle.judge_mismatch.specs.Code.{Head, listed, roundIn, pairsIn, mapsIn, noPair, standsFor, isNewVersion, isTargetWith, AllPlaced, DirectsFound, Marked, zerosIn, zeros}
+use Rattle.judge_mismatch.specs.Code.{Head, listed, roundIn, pairsIn, mapsIn, noPair, ownIds, isTwiceIn, isVersionTwice, isNewVersion, isTargetWith, AllPlaced, DirectsFound, Marked, zerosIn, zeros}
 use Rattle.judge_mismatch.proofs.Heads.{Front, Reads, next-of, listed-is, directs-here, indirects-here, reads-start, reads-next, reads-end, directs-after, directs-next, directs-last, indirects-same, indirects-next, listed-next}
 use Rattle.rules.specs.Mismatch.{isTargetOf, sameRole, stoodBefore, allTargets, mismatch, hasId, pairId, isAmong, isVersion, hasPlace, allPlaced, idsOf, droppedIn, lackingIn, lacking}
 use Rattle.judge_mismatch.proofs.Rows.{amongTo, Maps, among-at, among-not, among-to-same, has-same, row-once, stood}
+use Rattle.judge_mismatch.proofs.Own.{own-here, own-passed, none-twice, twice-next, own-has, once-tail, version-once}
 use Rattle.rules.proofs.Mismatch.{has-first, has-next, has-none}
 
 -- ---- the marks while one entry's id goes through the maps
@@ -201,6 +202,24 @@ twice (e ∷ es) presence p before i b h =
     (twice es presence p (x ∷ before) i (has-next x i before ∙ rw b (or-true (sameId x i))) t))
     (or-cases (sameId x i) (hasId (idsOf es) i)
     (sym (has-next x i (idsOf es)) ∙ (ap (λ (l : List PointId). hasId l i) (sym (ids-here e es x d refl)) ∙ h))))
+    (cases (isDropped (e .state)))
+
+-- a version that stands twice
+own-twice : (es : List Entry) (presence : ℕ) (p : PointInfo) (before : List PointId) → isTwiceIn (ownIds (p .id) es) ≡ true → allPlaced presence p before es ≡ false
+own-twice [] presence p before h = clash (isTwiceIn (ownIds (p .id) [])) h (none-twice (p .id))
+own-twice (e ∷ es) presence p before h =
+    let x = entryId (e .state) in
+    ⊎-elim
+    (λ d. placed-dropped e es d presence p before ∙ own-twice es presence p before (ap isTwiceIn (sym (own-passed (p .id) e es (rw d))) ∙ h))
+    (λ d. placed-here e es x d refl presence p before
+    ∙ last-false (hasPlace presence p x && not (hasId before x)) (allPlaced presence p (x ∷ before) es)
+    (⊎-elim
+    (λ b. ⊎-elim
+    (λ t. twice es presence p (x ∷ before) x (has-first x before) (own-has (p .id) x b es ∙ t))
+    (λ t. own-twice es presence p (x ∷ before) t)
+    (or-cases (hasId (ownIds (p .id) es) x) (isTwiceIn (ownIds (p .id) es)) (sym (twice-next x (ownIds (p .id) es)) ∙ (ap isTwiceIn (sym (own-here (p .id) e es d b)) ∙ h))))
+    (λ b. own-twice es presence p (x ∷ before) (ap isTwiceIn (sym (own-passed (p .id) e es (last-false (not (isDropped (e .state))) _ b))) ∙ h))
+    (cases (isBy (p .id .round - 1) (p .id .author) x))))
     (cases (isDropped (e .state)))
 
 module _ {presence : ℕ} {p : PointInfo} {all rest : List Entry} {seen₀ : List ℕ} {dropped : ℕ} (w : Walking presence p all rest seen₀ dropped)
@@ -441,52 +460,9 @@ aim-cases : (o : Option AnchorStageRole) → (o ≡ none) ⊎ ((g : AnchorStageR
 aim-cases none = inl refl
 aim-cases (some g) = inr (g, refl)
 
-module _ (h : Head) (i : PointId) where
-  stands-not : (g : AnchorStageRole) → h .aim ≡ some g → standsFor h i ≡ false
-  unfolding standsFor
-  stands-not g e = rw e
-
-  stands-dropped : h .dropped ≡ true → standsFor h i ≡ false
-  unfolding standsFor
-  stands-dropped d = last-false (not (isSome (h .aim))) _ (rw d)
-
-  stands-here : h .aim ≡ none → h .dropped ≡ false → standsFor h i ≡ sameId (h .id) i
-  unfolding standsFor
-  stands-here e d = rw (e, d)
-
-stands-next : (s : List ℕ) (at : ℕ) (h : Head) (f : Front (drop at s) h) (i : PointId) →
-    hasId (idsOf (directs (listed (drop at s)))) i ≡ (standsFor h i || hasId (idsOf (directs (listed (drop (at + h .size) s)))) i)
-stands-next s at h f i =
-    let rest = listed (drop (at + h .size) s) in
-    let e = f .first .entry in
-    ⊎-elim
-    (λ a. ap (λ (l : List Entry). hasId (idsOf l) i) (directs-next s at h f a) ∙ ⊎-elim
-    (λ d. ap (λ (l : List PointId). hasId l i) (ids-dropped e (directs rest) (sym (f .dropped) ∙ d)) ∙ sym (ap (λ (b : Bool). b || hasId (idsOf (directs rest)) i) (stands-dropped h i d)))
-    (λ d. ap (λ (l : List PointId). hasId l i) (ids-here e (directs rest) (h .id) (sym (f .dropped) ∙ d) (f .id))
-    ∙ (has-next (h .id) i (idsOf (directs rest)) ∙ sym (ap (λ (b : Bool). b || hasId (idsOf (directs rest)) i) (stands-here h i a d))))
-    (cases (h .dropped)))
-    (λ a. ap (λ (l : List Listed). hasId (idsOf (directs l)) i) (listed-next s at h f)
-    ∙ (ap (λ (l : List Entry). hasId (idsOf l) i) (directs-after (f .first) rest (a .0) (sym (f .for) ∙ a .1))
-    ∙ sym (ap (λ (b : Bool). b || hasId (idsOf (directs rest)) i) (stands-not h i (a .0) (a .1)))))
-    (aim-cases (h .aim))
-
 no-entries : directs [] ≡ []
 unfolding directs
 no-entries = refl
-
-none-stands : (i : PointId) → hasId (idsOf (directs [])) i ≡ false
-none-stands i = ap (λ (l : List Entry). hasId (idsOf l) i) no-entries ∙ no-id i
-
-module _ (s : List ℕ) (at : ℕ) (i : PointId) where
-  pub stands-found : (h : Head) → Front (drop at s) h → standsFor h i ≡ true → hasId (idsOf (directs (listed (drop at s)))) i ≡ true
-  stands-found h f t = stands-next s at h f i ∙ ap (λ (b : Bool). b || hasId (idsOf (directs (listed (drop (at + h .size) s)))) i) t
-
-  pub stands-past : (h : Head) → Front (drop at s) h → standsFor h i ≡ false →
-      hasId (idsOf (directs (listed (drop at s)))) i ≡ hasId (idsOf (directs (listed (drop (at + h .size) s)))) i
-  stands-past h f t = stands-next s at h f i ∙ ap (λ (b : Bool). b || hasId (idsOf (directs (listed (drop (at + h .size) s)))) i) t
-
-  pub stands-end : length s ≤ at → hasId (idsOf (directs (listed (drop at s)))) i ≡ false
-  stands-end g = ap (λ (l : List Listed). hasId (idsOf (directs l)) i) (reads-end s at g) ∙ none-stands i
 
 -- ---- the indirect entries
 
@@ -580,14 +556,17 @@ pub record Going (presence : ℕ) (p : PointInfo) (s seen : List ℕ) (failed : 
   pub walk : Walking presence p (directs (listed s)) (directs (listed (drop at s))) seen dropped
   pub small : dropped ≤ at
   pub fits : failed ≡ false
+  pub once : isVersionTwice p (directs (listed (drop at s))) ≡ false
 
-pub going-start : (presence : ℕ) (p : PointInfo) (s seen : List ℕ) → seen ≡ replicate 510 0 → isSome (readList s) ≡ true → Going presence p s seen false 0 0
-going-start presence p s seen z r = record {
+pub going-start : (presence : ℕ) (p : PointInfo) (s seen : List ℕ) → seen ≡ replicate 510 0 → isSome (readList s) ≡ true →
+    isVersionTwice p (directs (listed s)) ≡ false → Going presence p s seen false 0 0
+going-start presence p s seen z r o = record {
   reads = reads-start s r;
   targets = refl;
   walk = rw z (walk-start presence p (directs (listed s)));
   small = omega arith;
   fits = refl;
+  once = o;
 }
 
 pub direct-told {ℓ} : {A : Type ℓ} (r : Bool) (o : Option A) → r ≡ not (isSome o) → not r ≡ false → o ≡ none
@@ -627,6 +606,9 @@ module _ {presence : ℕ} {p : PointInfo} {s seen : List ℕ} {failed : Bool} {d
     going-target e = found-placed presence p s seen failed dropped at (g .fits) (ended-with g (directs-last s at h f e .0))
 
     module _ (a : h .aim ≡ none) where
+      once-next : isVersionTwice p (f .first .entry ∷ directs (listed (drop (at + h .size) s))) ≡ false
+      once-next = ap (isVersionTwice p) (sym (directs-next s at h f a)) ∙ g .once
+
       pub going-dropped : h .dropped ≡ true → Going presence p s seen failed (dropped + 1) (at + h .size)
       going-dropped d = record {
         reads = reads-next s at h f (g .reads);
@@ -634,6 +616,7 @@ module _ {presence : ℕ} {p : PointInfo} {s seen : List ℕ} {failed : Bool} {d
         walk = walk-dropped (g .walk) (directs-next s at h f a) (sym (f .dropped) ∙ d);
         small = omega (arith, g .small, f .least);
         fits = g .fits;
+        once = once-tail p _ _ once-next;
       }
 
       module _ (d : h .dropped ≡ false) (w : Walking presence p (directs (listed s)) (directs (listed (drop at s))) seen dropped) where
@@ -644,17 +627,22 @@ module _ {presence : ℕ} {p : PointInfo} {s seen : List ℕ} {failed : Bool} {d
         going-twice = walk-twice w (directs-next s at h f a) (sym (f .dropped) ∙ d) (f .id)
 
         module _ {marks : List ℕ} {found : Bool} (k : Marking (mapsIn presence) p (h .id) (w .before) (mapsIn presence) found marks) where
-          pub going-fails : (found || isNewVersion p (directs (listed (drop (at + h .size) s))) (h .id)) ≡ false → allPlaced presence p [] (directs (listed s)) ≡ false
-          going-fails = walk-fails w (directs-next s at h f a) (sym (f .dropped) ∙ d) (f .id) k
+          -- no version stands again, so that each is a new one
+          new-version : isVersion p (h .id) ≡ isNewVersion p (directs (listed (drop (at + h .size) s))) (h .id)
+          new-version = version-once p (f .first .entry) _ (h .id) (sym (f .dropped) ∙ d) (f .id) once-next
 
-          pub going-placed : {still : Bool} → still ≡ false → (found || isNewVersion p (directs (listed (drop (at + h .size) s))) (h .id)) ≡ true →
+          pub going-fails : (found || isVersion p (h .id)) ≡ false → allPlaced presence p [] (directs (listed s)) ≡ false
+          going-fails e = walk-fails w (directs-next s at h f a) (sym (f .dropped) ∙ d) (f .id) k (ap (λ (b : Bool). found || b) (sym new-version) ∙ e)
+
+          pub going-placed : {still : Bool} → still ≡ false → (found || isVersion p (h .id)) ≡ true →
               Going presence p s marks still dropped (at + h .size)
           going-placed z e = record {
             reads = reads-next s at h f (g .reads);
             targets = sym (indirects-same s at h f a) ∙ g .targets;
-            walk = walk-placed w (directs-next s at h f a) (sym (f .dropped) ∙ d) (f .id) k e;
+            walk = walk-placed w (directs-next s at h f a) (sym (f .dropped) ∙ d) (f .id) k (ap (λ (b : Bool). found || b) (sym new-version) ∙ e);
             small = omega (arith, g .small);
             fits = z;
+            once = once-tail p _ _ once-next;
           }
 
 pub same-room : (entry : List ℕ) → entry ≡ replicate 510 0 → 510 ≡ length entry
@@ -708,6 +696,10 @@ module _ (presence : ℕ) (p : PointInfo) (s : List ℕ) (l : List Listed) (e : 
   mismatch-failed h =
       mismatch-is presence p (directs l) (indirects l)
       ∙ rw (ap (λ (k : List Listed). allPlaced presence p [] (directs k)) (sym are) ∙ h)
+
+  pub mismatch-twice : isVersionTwice p (directs (listed s)) ≡ true → mismatch presence p (directs l) (indirects l) ≡ true
+  unfolding isVersionTwice
+  mismatch-twice h = mismatch-failed (own-twice (directs (listed s)) presence p [] (and-right (not (isSome (prevDigest p))) _ h))
 
   module _ {seen : List ℕ} {dropped end : ℕ} (w : AllPlaced presence p s seen dropped end) where
     -- past the walk

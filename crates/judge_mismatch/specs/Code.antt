@@ -2,19 +2,23 @@
 use Prim.Native.Nat.{ℕ, _+_, zero, suc, _-_, _*_, _≤_, _<_}
 use mathlib.Core.Bool.{Bool, true, false, not, _&&_, _||_}
 use mathlib.Core.Option.{Option, none, some}
-use mathlib.Core.List.{List, []}
+use mathlib.Core.List.{List, [], _∷_, _++_}
 use lib.ListN.{getD, drop, length}
 use lib.Dec.{eqb}
 use Rattle.base.specs.Base.{pick, isSome}
+use Rattle.parts.specs.Limits.{mostKept}
 use Rattle.record.specs.Record.{recordEnd, contentOf}
-use Rattle.point.specs.Point.{PointId, noPoint, AnchorLink, Direct, Indirect, PointInfo, sameId}
+use Rattle.point.specs.Point.{PointId, noPoint, AnchorLink, Direct, Indirect, PointInfo, prevDigest, sameId}
 use Rattle.point.specs.Reading.{pointIdAt}
 use Rattle.point.specs.Code.{pointIdOf}
 use Rattle.point.specs.declared.data.AnchorStageRole.{AnchorStageRole}
-use Rattle.rules.specs.DagPoint.{entryId, isDropped, Entry}
-use Rattle.rules.specs.List.{Listed, roleOf, readList, directs, indirects}
+use Rattle.rules.specs.DagPoint.{entryId, isDropped, isBy, Entry}
+use Rattle.rules.specs.List.{Listed, roleOf, readEntry, readList, directs, indirects}
 use Rattle.judge_entries.specs.Code.{aimOf}
 use Rattle.judge_mismatch.specs.declared.head.Head as code-head
+use Rattle.judge_mismatch.specs.declared.versions.Version as code-version
+use Rattle.judge_mismatch.specs.declared.versions.Block as code-block
+use Rattle.id_index.specs.Code.{countOf, idIn, Noted}
 use mathlib.Core.Path.{_≡_}
 use Rattle.map.specs.Rows.{Pair}
 use Rattle.rules.specs.Mismatch.{hasId, pairId, isAmong, isVersion, allPlaced, idsOf, droppedIn}
@@ -104,13 +108,86 @@ abbrev pub IsRow : ℕ → List Pair → PointId → Option ℕ → Type 0
 IsRow round l i none = isAmong round l i ≡ false
 IsRow round l i (some k) = (k < length l) × (sameId (pairId round (getD l k noPair)) i ≡ true)
 
--- a direct entry, without its point, has this id
-unfoldable pub standsFor : Head → PointId → Bool
-standsFor h i = not (isSome (h .aim)) && (not (h .dropped) && sameId (h .id) i)
+-- ---- the versions of the author's point at the round before
 
--- what an entry that no map has needs: to be a version, and to stand once
+-- a direct entry that has an id, of the author at the round before
+unfoldable pub isOwn : PointId → Head → Bool
+isOwn own h = not (isSome (h .aim)) && (not (h .dropped) && isBy (own .round - 1) (own .author) (h .id))
+
+-- the ids of these, in order
+unfoldable pub ownIds : PointId → List Entry → List PointId
+ownIds own [] = []
+ownIds own (e ∷ l) =
+    pick (not (isDropped (e .state)) && isBy (own .round - 1) (own .author) (entryId (e .state)))
+    (entryId (e .state) ∷ ownIds own l) (ownIds own l)
+
+abbrev pub ownIn : PointId → List ℕ → List PointId
+ownIn own s = ownIds own (directs (listed s))
+
+unfoldable pub isTwiceIn : List PointId → Bool
+unfolding hasId
+isTwiceIn [] = false
+isTwiceIn (i ∷ l) = hasId l i || isTwiceIn l
+
+-- one of the second ids is among the first
+unfoldable pub anyIn : List PointId → List PointId → Bool
+unfolding hasId
+anyIn a [] = false
+anyIn a (i ∷ l) = hasId a i || anyIn a l
+
+-- a point with a previous digest has no versions
+unfoldable pub isVersionTwice : PointInfo → List Entry → Bool
+unfolding prevDigest isTwiceIn
+isVersionTwice p l = not (isSome (prevDigest p)) && isTwiceIn (ownIds (p .id) l)
+
+-- what an entry needs that no map has: to be a version, and not to stand again
 unfoldable pub isNewVersion : PointInfo → List Entry → PointId → Bool
 isNewVersion p es i = isVersion p i && not (hasId (idsOf es) i)
+
+-- where the field of an entry's id stands
+abbrev pub fieldAt : List ℕ → ℕ
+fieldAt s = pick (eqb (getD s (flagsAt s + 3) 0) 1) (flagsAt s + 79) (flagsAt s + 7)
+
+-- an entry: whether it is a version, where its id's field stands, and its size
+pub record IsVersionAt (own : PointId) (s : List ℕ) (h : Head) (v : code-version.Version) : Type 0 where
+  pub size : v .size ≡ h .size
+  pub told : v .«is_own» ≡ isOwn own h
+  pub near : v .place ≤ 83
+  pub inside : v .«is_own» ≡ true → v .place + 71 ≤ length s
+  pub id : v .«is_own» ≡ true → pointIdAt s (v .place + 3) ≡ h .id
+
+abbrev pub VersionAt : PointId → List ℕ → code-version.Version → Type 0
+VersionAt own s v = (h : Head) × (some h ≡ headFrom (readEntry s)) × IsVersionAt own s h v
+
+abbrev pub HasRoom : ℕ → ℕ → Bool → Type 0
+HasRoom n at true = (n < mostKept) × (at < 4000000000)
+HasRoom n at false = n < mostKept → at < 4000000000 → ⊥
+
+-- the index has these ids, in order
+pub record HasIds (s x : List ℕ) (l : List PointId) : Type 0 where
+  pub count : countOf x ≡ length l
+  pub ids : (j : ℕ) → j < length l → idIn s x j ≡ getD l j noPoint
+
+-- the versions up to a place are noted; what stands after it is left to test
+pub record NotedTo (own : PointId) (s x : List ℕ) (end : ℕ) : Type 0 where
+  pub block : List PointId
+  pub has : HasIds s x block
+  pub noted : Noted s x
+  pub left : ownIn own s ≡ block ++ ownIn own (drop end s)
+  pub within : end ≤ length s
+  pub reads : isSome (readList (drop end s)) ≡ true
+  pub more : 0 < length s → 0 < end
+
+-- whether a version that stands after a place is among the ids of an index
+abbrev pub Meets : PointId → List ℕ → ℕ → List ℕ → Bool → Type 0
+Meets own s from x r = (block : List PointId) → HasIds s x block → r ≡ anyIn block (ownIn own (drop from s))
+
+-- a block of versions was tested, among themselves and with all after it; what stands after it is left to test among itself
+pub record BlockRead (own : PointId) (s : List ℕ) (b : code-block.Block) : Type 0 where
+  pub within : b .end ≤ length s
+  pub more : 0 < length s → 0 < b .end
+  pub reads : isSome (readList (drop (b .end) s)) ≡ true
+  pub left : (b .«is_twice» || isTwiceIn (ownIn own (drop (b .end) s))) ≡ isTwiceIn (ownIn own s)
 
 -- ---- the room of marks
 

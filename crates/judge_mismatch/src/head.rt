@@ -22,7 +22,7 @@ pub struct Head {
 }
 
 // Where an entry's flags stand.
-fn flags_at(s: &[u8]) -> usize
+pub fn flags_at(s: &[u8]) -> usize
     requires { ⌜ 0 < length (now s) ⌝ }
     ensures { λ r. ⌜ r ≡ flagsAt (now (s .entry)) ⌝ }
 {

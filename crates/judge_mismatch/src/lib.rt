@@ -2,6 +2,7 @@
 mod head;
 mod maps;
 mod targets;
+mod versions;
 mod walk;
 
 pub use walk::is_mismatch;

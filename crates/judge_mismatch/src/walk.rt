@@ -1,14 +1,14 @@
 // The walk over the direct entries, and number 8.
-use crate::head::Head;
 use crate::head::head_of;
 use crate::head::is_direct;
 use crate::maps;
 use crate::targets;
+use crate::versions;
 use map::Position;
 use point::PointId;
 use point::PointInfo;
 ghost use mathlib.Core.Path.{_≡_};
-ghost use mathlib.Core.Bool.{true, not, _&&_, _||_};
+ghost use mathlib.Core.Bool.{true, false, not, _&&_, _||_};
 ghost use mathlib.Core.List.{List};
 ghost use mathlib.Core.Option.{some};
 ghost use lib.Dec.{ltb, eqb};
@@ -16,8 +16,8 @@ ghost use lib.ListN.{length, replicate};
 ghost use Rattle.base.specs.Base.{isSome};
 ghost use Rattle.point.specs.Code.{pointIdOf, pointOf, Reads};
 ghost use Rattle.rules.specs.List.{Listed, readList, directs, indirects};
-ghost use Rattle.judge_mismatch.specs.Code.{codeHeadOf, listed, standsFor, isNewVersion, DirectsFound};
-ghost use Rattle.rules.specs.Mismatch.{hasId, idsOf, mismatch};
+ghost use Rattle.judge_mismatch.specs.Code.{listed, isVersionTwice, DirectsFound};
+ghost use Rattle.rules.specs.Mismatch.{isVersion, mismatch};
 
 // What the walk over the direct entries finds: that one of them fails, or how many were dropped and where the walk ended.
 struct Walked {
@@ -26,66 +26,22 @@ struct Walked {
     end: usize,
 }
 
-// Whether a direct entry has this id.
-fn stands_for(head: Head, id: PointId) -> bool
-    ensures { λ r. ⌜ r ≡ standsFor (codeHeadOf head) (pointIdOf id) ⌝ }
-{
-    let aim = head.aim;
-    if !is_direct(aim) {
-        return false;
-    }
-    if head.is_dropped {
-        return false;
-    }
-    point::is_same_id(head.id, id)
-}
-
-// Whether an id stands among the direct entries of a list.
-fn stands_in(list: &[u8], id: PointId) -> bool
-    requires { ⌜ isSome (readList (now list)) ≡ true ⌝ }
-    ensures { λ r. ⌜ r ≡ hasId (idsOf (directs (listed (now (list .entry))))) (pointIdOf id) ⌝ }
-{
-    let mut at = 0;
-    while at < list.len() {
-        let head = head_of(&list[at..]);
-        if stands_for(head, id) {
-            return true;
-        }
-        at += head.size;
-    }
-    false
-}
-
-// Whether an id is a version of the author's that stands not again in the rest of the list. Versions have no row to
-// mark, so the rest is walked.
-fn is_new_version(rec: &[u8], info: PointInfo, rest: &[u8], id: PointId) -> bool
-    requires { ⌜ Reads (now rec) info ⌝ }
-    requires { ⌜ isSome (readList (now rest)) ≡ true ⌝ }
-    ensures { λ r. ⌜ r ≡ isNewVersion (pointOf (now (rec .entry)) info) (directs (listed (now (rest .entry)))) (pointIdOf id) ⌝ }
-{
-    if !maps::is_version(rec, info, id) {
-        return false;
-    }
-    !stands_in(rest, id)
-}
-
 // Whether an id has its place: a row of a map, or as a version.
-fn has_place(found: bool, rec: &[u8], info: PointInfo, rest: &[u8], id: PointId) -> bool
+fn has_place(found: bool, rec: &[u8], info: PointInfo, id: PointId) -> bool
     requires { ⌜ Reads (now rec) info ⌝ }
-    requires { ⌜ isSome (readList (now rest)) ≡ true ⌝ }
-    ensures { λ r. ⌜ r ≡ (found || isNewVersion (pointOf (now (rec .entry)) info) (directs (listed (now (rest .entry)))) (pointIdOf id)) ⌝ }
+    ensures { λ r. ⌜ r ≡ (found || isVersion (pointOf (now (rec .entry)) info) (pointIdOf id)) ⌝ }
 {
     if found {
         return true;
     }
-    is_new_version(rec, info, rest, id)
+    maps::is_version(rec, info, id)
 }
 
 // Walks the direct entries, and for each the point's maps, up to the first mismatch. A row that an entry stands for is
-// marked, so that a second entry for it is seen.
+// marked, so that a second entry for it is seen. No version stands twice.
 fn walk(presence: u8, rec: &[u8], info: PointInfo, list: &[u8], seen: &mut [u8]) -> Walked
     requires { ⌜ Reads (now rec) info ⌝ }
-    requires { ⌜ isSome (readList (now list)) ≡ true ⌝ }
+    requires { ⌜ (isSome (readList (now list)) ≡ true) × (isVersionTwice (pointOf (now rec) info) (directs (listed (now list))) ≡ false) ⌝ }
     requires { ⌜ now seen ≡ replicate 510 0 ⌝ }
     ensures { λ r. ⌜ DirectsFound presence (pointOf (now (rec .entry)) info) (now (list .entry)) (now (seen .exit)) (r .«is_mismatch») (r .dropped) (r .end) ⌝ }
 {
@@ -118,7 +74,7 @@ fn walk(presence: u8, rec: &[u8], info: PointInfo, list: &[u8], seen: &mut [u8])
             seen[mark] = 1;
             found = true;
         }
-        if !has_place(found, rec, info, &list[next..], head.id) {
+        if !has_place(found, rec, info, head.id) {
             is_mismatch = true;
             break 'entries;
         }
@@ -148,6 +104,9 @@ pub fn is_mismatch(presence: u8, rec: &[u8], info: PointInfo, list: &[u8]) -> bo
     ensures { λ r. ⌜ ((l : List Listed) → readList (now (list .entry)) ≡ some l →
         r ≡ mismatch presence (pointOf (now (rec .entry)) info) (directs l) (indirects l)) ⌝ }
 {
+    if versions::stand_twice(rec, info, list) {
+        return true;
+    }
     let mut seen = [0u8; 510];
     let walked = walk(presence, rec, info, list, &mut seen);
     if walked.is_mismatch {

@@ -17,8 +17,8 @@ use Rattle.point.specs.Code.{pointIdOf, pointOf}
 use Rattle.point.proofs.Laws.{readable}
 use Rattle.judge_entries.specs.Code.{aimOf}
 use Rattle.rules.specs.List.{readList, directs}
-use Rattle.judge_mismatch.specs.Code.{codeHeadOf, listed, roundIn, pairsIn, mapsIn, noPair, isNewVersion}
-use Rattle.rules.specs.Mismatch.{pairId}
+use Rattle.judge_mismatch.specs.Code.{codeHeadOf, listed, roundIn, pairsIn, mapsIn, noPair}
+use Rattle.rules.specs.Mismatch.{pairId, isVersion}
 use Rattle.judge_mismatch.proofs.Heads.{Front, Reads, reads-front, reads-head, reads-next}
 use Rattle.judge_mismatch.proofs.Laws.{Marking, marked-stood, marking-at, marking-absent, marking-whole, Walking, Going, direct-told, target-told, going-start, going-end, going-target, going-dropped, going-marking, going-twice, going-fails, going-placed, same-room}
 use Rattle.judge_mismatch.proofs.Rows.{Maps, maps-of, maps-few, row-some, row-none}
@@ -108,20 +108,15 @@ whole c =
     marking-whole k (omega (arith, k .within))
 
 placed : (c : tie.After-has-place Inv-loop μ-loop Inv-entries μ-entries) →
-    let l = c .before .before .before in
-    let h = head-in l in
-    let s = now (start (entry h) .args .list) in
-    (l .loop .found || isNewVersion (point l) (directs (listed (drop (entry h .entries .at + h .head-of .result .size) s))) (pointIdOf (h .head-of .result .id))) ≡ c .has-place .result
-placed c =
-    let l = c .before .before .before in
-    let h = head-in l in
-    sym (c .has-place .ensures ∙ ap (λ (t : List ℕ). l .loop .found || isNewVersion (point l) (directs (listed t)) (pointIdOf (h .head-of .result .id))) (rest (entry h .entries .at + h .head-of .result .size) (now (start (entry h) .args .list))))
+    let l = c .before .before in
+    (l .loop .found || isVersion (point l) (pointIdOf (head-in l .head-of .result .id))) ≡ c .has-place .result
+placed c = sym (c .has-place .ensures)
 
 maps-in-dag-requires : tie.Need-maps-in-dag-requires Inv-loop μ-loop Inv-entries μ-entries
 maps-in-dag-requires c κs = search needs
 
 entries-holds : tie.Need-entries-holds Inv-loop μ-loop Inv-entries μ-entries
-entries-holds c = let s = c .before .before .before .before in going-start _ _ _ _ (s .pre .1 .1) (s .pre .1 .0)
+entries-holds c = let s = c .before .before .before .before in going-start _ _ _ _ (s .pre .1 .1) (s .pre .1 .0 .0) (s .pre .1 .0 .1)
 
 sub-head-of : tie.Need-sub-head-of Inv-loop μ-loop Inv-entries μ-entries
 sub-head-of c = search needs
@@ -223,30 +218,18 @@ loop-again-2 c =
     let i = r .before .before .loop .inv in
     (i .0, marking-at (i .1) (maps r) (below (r .before) .1) (below (r .before) .2) _ (row k .0) (row k .1) (c .if3 .left), i .2)
 
-sub-has-place : tie.Need-sub-has-place Inv-loop μ-loop Inv-entries μ-entries
-sub-has-place c = let n = next (head-in (c .before)) in omega (arith, n .within)
-
-part-has-place-start : tie.Need-part-has-place-start Inv-loop μ-loop Inv-entries μ-entries
-part-has-place-start c = let n = next (head-in (c .before)) in omega (arith, n .within)
-
-part-has-place-end : tie.Need-part-has-place-end Inv-loop μ-loop Inv-entries μ-entries
-part-has-place-end c = search needs
-
 has-place-requires : tie.Need-has-place-requires Inv-loop μ-loop Inv-entries μ-entries
-has-place-requires c κs =
-    let h = head-in (c .before .before) in
-    let s = start (entry h) in
-    (s .pre .0, ap (λ (t : List ℕ). isSome (readList t)) (rest (entry h .entries .at + h .head-of .result .size) (now (s .args .list))) ∙ next h .left)
+has-place-requires c κs = search needs
 
 entries-less-2 : tie.Need-entries-less-2 Inv-loop μ-loop Inv-entries μ-entries
 entries-less-2 c =
-    let h = head-in (c .before .before .before .before) in
+    let h = head-in (c .before .before .before) in
     let f = front h in
     omega (arith, f .least, next h .within)
 
 entries-again-2 : tie.Need-entries-again-2 Inv-loop μ-loop Inv-entries μ-entries
 entries-again-2 c =
-    let a = c .before .before .before in
+    let a = c .before .before in
     let h = head-in (a .before) in
     let i = a .before .loop .inv in
     going-placed (entry h .entries .inv) (front h) (direct-in (a .before)) (a .before .before .if2 .left) (i .0) (whole a) (i .2) (placed (c .before) ∙ not-false _ (c .if4 .left))
@@ -278,11 +261,11 @@ returns-3 c =
     going-twice (entry h .entries .inv) (front h) (direct-in l) (l .before .if2 .left) (i .0) (marked-stood (i .1) (maps r) (below (r .before) .1) (below (r .before) .2) _ (row k .0) (row k .1) (c .if3 .taken))
 
 same-length-4 : tie.Need-same-length-4 Inv-loop μ-loop Inv-entries μ-entries
-same-length-4 c = let l = c .before .before .before .before in l .loop .inv .1 .room ∙ same-room _ (start (entry (head-in l)) .pre .1 .1)
+same-length-4 c = let l = c .before .before .before in l .loop .inv .1 .room ∙ same-room _ (start (entry (head-in l)) .pre .1 .1)
 
 returns-4 : tie.Need-returns-4 Inv-loop μ-loop Inv-entries μ-entries
 returns-4 c =
-    let a = c .before .before .before in
+    let a = c .before .before in
     let h = head-in (a .before) in
     let i = a .before .loop .inv in
     going-fails (entry h .entries .inv) (front h) (direct-in (a .before)) (a .before .before .if2 .left) (i .0) (whole a) (placed (c .before) ∙ not-true _ (c .if4 .taken))
@@ -321,9 +304,6 @@ walk-spec =
     add-m-2
     loop-less-2
     loop-again-2
-    sub-has-place
-    part-has-place-start
-    part-has-place-end
     has-place-requires
     entries-less-2
     entries-again-2
