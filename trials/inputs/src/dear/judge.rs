@@ -6,7 +6,7 @@ use oracle::file::Case;
 use oracle::value::{Digest, Entry, Id, Peer, State};
 use oracle::write;
 
-use super::{Made, Of, Shape, alike, shortest, without_prev};
+use super::{Made, Of, Shape, alike, ends_alike, shortest, without_prev};
 use crate::call::Call;
 use crate::points::{Bytes, ROUND, judged, list_of, set, with_records};
 
@@ -15,7 +15,7 @@ const LONGEST: usize = 65_535 - 9;
 /// Peers of the typical lists.
 const PEERS: usize = 100;
 
-pub const SHAPES: [Shape; 11] = [
+pub const SHAPES: [Shape; 12] = [
     Shape::typical("all valid, full maps of 100 peers", PEERS, |random, count| {
         let set = set(random, count.max(4));
         full_maps(random, set)
@@ -29,6 +29,9 @@ pub const SHAPES: [Shape; 11] = [
     }),
     Shape::dear("the same, their digests alike in 24 bytes", LONGEST, |random, count| {
         versions(random, count, fronts_alike, State::NotFound)
+    }),
+    Shape::dear("the same, their digests end alike", LONGEST, |random, count| {
+        versions(random, count, ends_alike, State::NotFound)
     }),
     Shape::dear("versions of the author, ill-formed", LONGEST, |random, count| {
         versions(random, count, Random::bytes, |id| State::IllFormed(id, 3))
