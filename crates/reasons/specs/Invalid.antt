@@ -1,4 +1,5 @@
--- What judging finds (verifier.rs, InvalidReason and InvalidDependency), and document 01's number and values of each reason.
+-- What judging finds (InvalidReason, verifier.rs 94-133, and InvalidDependency, verifier.rs 157-160), and document 01's number and
+-- values of each reason.
 use Prim.Native.Nat.{ℕ}
 use mathlib.Core.Bool.{Bool, true, false, _&&_, _||_}
 use mathlib.Core.Option.{Option, none, some}
@@ -65,7 +66,7 @@ invalidAnswer (DepNotFound i) = named 19 i 255 255 0 0
 abbrev pub invalidNumber : InvalidReason → ℕ
 invalidNumber r = invalidAnswer r .reason
 
--- InvalidReason::has_dag_round: "Reason numbers 2, 3 and 20 have no DAG round"; none of a number that counts no reason
+-- InvalidReason::has_dag_round, verifier.rs 147-153: "Reason numbers 2, 3 and 20 have no DAG round"; none of a number that counts no reason
 unfoldable pub dagRound : ℕ → Option Bool
 dagRound n =
     pick (eqb n 2 || (eqb n 3 || eqb n 20)) (some false)

@@ -1,4 +1,4 @@
--- Verifier::check_ill_formed (verifier.rs), of a verified point above genesis, and document 01's number 6.
+-- Verifier::check_ill_formed, verifier.rs 293-320, of a verified point above genesis, and document 01's number 6.
 use mathlib.Core.Bool.{Bool, true, false}
 use mathlib.Core.Option.{Option, none, some}
 use Rattle.base.specs.Base.{pick, isSome}
@@ -10,7 +10,7 @@ use Rattle.reasons.specs.declared.ill_formed.IllFormedReason.the-variants.{NotR
 use Rattle.reasons.specs.declared.ill_formed.WaveChecked.{WaveChecked}
 use Rattle.reasons.specs.declared.ill_formed.WaveChecked.the-variants.{Horizon, IllFormed, Sound}
 
--- PointInfo::is_regular
+-- PointInfo::is_regular, info.rs 192-194
 abbrev pub isRegular : PointRole → Bool
 isRegular Regular = true
 isRegular (AnchorProof n l) = false

@@ -9,7 +9,7 @@ use Rattle.point.specs.declared.data.AnchorStageRole.{AnchorStageRole}
 use Rattle.point.specs.declared.data.AnchorStageRole.the-variants.{Proof, Trigger}
 use Rattle.point.specs.declared.data.PointRole.{PointRole}
 
--- DagPoint, or that it was dropped with its round. A trans-invalid one has its root cause and that one's reason.
+-- DagPoint, dag_point.rs 21-40, or that it was dropped with its round. A trans-invalid one has its root cause and that one's reason.
 pub data DagPoint : Type 0 where
   Valid : PointInfo → DagPoint
   TransInvalid : (point : PointInfo) (root : PointId) (rootReason : ℕ) → DagPoint

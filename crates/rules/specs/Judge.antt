@@ -1,4 +1,4 @@
--- The public calls: document 01's numbers 1 to 5, then verification's verdict, or Verifier::validate whole (verifier.rs) with
+-- The public calls: document 01's numbers 1 to 5, then verification's verdict, or the whole of Verifier::validate, verifier.rs 176-291, with
 -- the numbers in its way: genesis, 6, check_ill_formed, presence, 7, 8, 9, and the verdict.
 use Prim.Native.Nat.{ℕ}
 use mathlib.Core.Bool.{Bool, not, _&&_, true, false}
@@ -88,7 +88,7 @@ pub data Before : Type 0 where
   answered : JudgeAnswer → Before
   needed : Bool → Before
 
--- "A verification that didn't pass ends the judgement there. Genesis is then Valid. Else `check_ill_formed`"
+-- "A verification that didn't pass ends the judgement there. Genesis is then Valid. Else `check_ill_formed`": validate, verifier.rs 192-197
 abbrev pub beforeWith : Option VerifyError → Bool → WaveChecked → Before
 beforeWith (some e) genesis wave = answered (Given (ofError e))
 beforeWith none true wave = answered (Given Valid)

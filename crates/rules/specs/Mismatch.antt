@@ -111,7 +111,7 @@ mismatch presence p es ts =
     || (not (allTargets p false false ts)
     || (not (eqb presence 3) && not (isEmpty ts))))
 
--- ---- number 9: "the previous point's entry, read anywhere in the list, is not certified"
+-- ---- number 9: "the previous point's entry, read anywhere in the list, is not certified": check_valid, verifier.rs 424-429
 
 abbrev pub isId : Option PointId → PointId → Bool
 isId none i = false

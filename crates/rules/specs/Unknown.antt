@@ -5,7 +5,7 @@ use Rattle.base.specs.Base.{pick, isSome}
 use Rattle.parts.specs.Bytes.{bigBytes}
 use Rattle.map.specs.Rows.{find}
 
--- check_peers: `keys().filter(|id| !scheduled.contains(id))`
+-- check_peers, verifier.rs 929-994: `keys().filter(|id| !scheduled.contains(id))`
 unfoldable pub unknownIn : List ℕ → List ℕ → List ℕ
 unfolding find
 unknownIn scheduled [] = []

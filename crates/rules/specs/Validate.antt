@@ -23,7 +23,7 @@ use Rattle.reasons.specs.Invalid.{AnchorLinkRole, AnchorLinkBadPath, BadStickyS
 use Rattle.reasons.specs.Invalid.{InvalidDependency}
 use Rattle.reasons.specs.Verdict as verdict
 
--- ---- is_proof_ok: of the previous point q, the first reason alone
+-- ---- is_proof_ok, verifier.rs 716-760: of the previous point q, the first reason alone
 
 -- "Some((_, false)) = proven.sticky_anchors()": a proof that is not its sequence's last
 abbrev pub isOpen : Option Sticky → Bool
@@ -36,7 +36,7 @@ firstOnly [] = []
 firstOnly (x ∷ l) = x ∷ []
 
 -- after a proof stands a trigger, and no terminal one before the sequence's last; neither is asked where regular points are
--- required
+-- required: is_proof_ok, verifier.rs 739-742, 743-746
 abbrev pub notTrigger : Bool → PointRole → PointRole → Bool
 notTrigger required own proven = not required && (isAnchorProof proven && not (isAnchorTrigger own))
 
@@ -53,7 +53,7 @@ proofRow required p q =
     ∷ when (isAnchorProof (p .role) && not (eqb (p .anchorTime) (q .time))) (AnchorProofDoesntInheritAnchorTime (q .id))
     ∷ []))
 
--- ---- check_trigger_proof
+-- ---- check_trigger_proof, verifier.rs 643-653
 
 unfoldable pub triggerProofRow : PointView → DepView → Bool → List InvalidReason
 unfolding sameId
@@ -61,13 +61,13 @@ triggerProofRow p q isTarget =
     when (leb (linksIn Proof p .target .round) (topIn Proof q .round) && not (sameId (linksIn Proof p .target) (topIn Proof q)))
     (TriggerProofMismatch (q .id) isTarget)
 
--- ---- check_valid, of a dependency q whose point is at hand
+-- ---- check_valid, verifier.rs 385-550, of a dependency q whose point is at hand
 
--- "max_allowed_dep_time"
+-- "max_allowed_dep_time": check_valid, verifier.rs 406-407, 478-481; check_indirect_links, verifier.rs 615-618
 unfoldable pub timeRow : Settings → PointView → DepView → List InvalidReason
 timeRow c p q = when (ltb (p .time + c .clockSkewMillis) (q .time)) (DependencyTimeTooFarInFuture (q .id))
 
--- the dependency's top has a greater round than the link's target
+-- the dependency's top has a greater round than the link's target: check_valid, verifier.rs 483-487
 unfoldable pub newerRow : AnchorStageRole → PointView → DepView → List InvalidReason
 newerRow g p q = when (ltb (linksIn g p .target .round) (topIn g q .round)) (NewerAnchorInDependency g (q .id))
 
@@ -80,20 +80,21 @@ abbrev pub follows : Option ℕ → ℕ → Bool
 follows none n = false
 follows (some m) n = eqb (m + 1) n
 
--- is_sticky_sequence_ok, of a proof with a sequence number above 0: it is within the limit and follows the target's
+-- is_sticky_sequence_ok, of a proof with a sequence number above 0: it is within the limit and follows the target's:
+-- check_valid, verifier.rs 498-514
 unfoldable pub stickyRow : Settings → DepView → Option Sticky → List InvalidReason
 stickyRow c q none = []
 stickyRow c q (some k) =
     when (ltb 0 (k .seqNo) && not (leb (k .seqNo) (c .stickyAnchors) && follows (seqNo (stickyAnchors (q .role))) (k .seqNo)))
     (BadStickySequence (q .id) (seqNo (stickyAnchors (q .role))) (k .seqNo))
 
--- of a link's target that has the role
+-- of a link's target that has the role: check_valid, verifier.rs 498-514, 515-519
 unfoldable pub reachedRow : Settings → AnchorStageRole → PointView → DepView → List InvalidReason
 unfolding stickyRow triggerProofRow
 reachedRow c Proof p q = stickyRow c q (stickyAnchors (p .role))
 reachedRow c Trigger p q = triggerProofRow p q true
 
--- of a link's target: it must have the link's role (is_anchor_stage)
+-- of a link's target: it must have the link's role (is_anchor_stage); check_valid, verifier.rs 489-496
 unfoldable pub targetRow : Settings → AnchorStageRole → PointView → DepView → List InvalidReason
 unfolding sameId reachedRow
 targetRow c g p q =
@@ -101,18 +102,19 @@ targetRow c g p q =
     (pick (isAnchorStage g (q .role)) (reachedRow c g p q) (AnchorLink g (q .id) ∷ []))
     []
 
--- "exclusion: anchor proof inherits time from candidate": any other point has the anchor time of what its proof link leads to
+-- "exclusion: anchor proof inherits time from candidate": any other point has the anchor time of what its proof link leads to:
+-- check_valid, verifier.rs 531-537; check_indirect_links, verifier.rs 625-631
 unfoldable pub anchorTimeRow : PointView → DepView → List InvalidReason
 anchorTimeRow p q =
     when (not (isAnchorProof (p .role)) && not (eqb (q .anchorTime) (p .anchorTime))) (AnchorTimeNotInheritedFromProof (q .id))
 
--- of a link's source: what the link carries on
+-- of a link's source, what the link carries on: check_valid, verifier.rs 531-537, 538-544
 unfoldable pub carriedRow : AnchorStageRole → PointView → DepView → List InvalidReason
 unfolding anchorTimeRow sameId triggerProofRow
 carriedRow Proof p q = anchorTimeRow p q
 carriedRow Trigger p q = pick (sameId (q .id) (linksIn Trigger p .target)) [] (triggerProofRow p q false)
 
--- of a link's source: its top is the link's target
+-- of a link's source, its top is the link's target: check_valid, verifier.rs 523-529
 unfoldable pub sourceRow : AnchorStageRole → PointView → DepView → List InvalidReason
 unfolding sameId carriedRow
 sourceRow g p q =
@@ -141,7 +143,7 @@ pointRows c required isPrevPoint p q =
     ∷ concat (anchorRows c p q)
     ∷ []
 
--- ---- dependency
+-- ---- dependency, verifier.rs 656-713
 
 -- what entries give: the reasons that they set, the last of which is `invalid_reason`, and `latest_invalid_dep`
 pub record Findings : Type 0 where
@@ -195,10 +197,10 @@ unfoldable pub dependency : Settings → ℕ → Through → (DepView → List (
 unfolding dependencyTrail recordOf
 dependency c round t rows e = record { trail = dependencyTrail rows (e .state); root = recordOf c round (e .certified) t (e .state) }
 
--- ---- check_valid, of one direct entry
+-- ---- check_valid, verifier.rs 385-550, of one direct entry
 
 -- how an entry is taken: a dependency, the previous point, a version of the author's point at r-1 where none is referenced,
--- or not at all
+-- or not at all: check_valid, verifier.rs 421-461
 pub data Taken : Type 0 where
   asDependency : Taken
   asPrevPoint : Taken
@@ -217,7 +219,7 @@ abbrev pub directThrough : ℕ → PointId → Through
 directThrough round i = pick (eqb (i .round) (round - 1)) (Includes (i .author)) (Witness (i .author))
 
 -- a version that is first valid, or not found but certified, had to be referenced; a trans-invalid, invalid or ill-formed one had
--- to be skipped; any other gives nothing. Versions give 9 or 10 and nothing else
+-- to be skipped; any other gives nothing. Versions give 9 or 10 and nothing else: check_valid, verifier.rs 432-442, 443-447, 448-453
 abbrev pub versionTrail : Entry → DagPoint → List InvalidReason
 versionTrail e (Valid q) = when (e .firstValid) (MustHaveReferencedPrevPoint (q .id))
 versionTrail e (TransInvalid q root n) = MustHaveSkippedRound (q .id) ∷ []
@@ -236,7 +238,7 @@ unfoldable pub entryFindings : Settings → Bool → PointView → Entry → Fin
 unfolding taken dependency pointRows
 entryFindings c required p e = findingsAs c required p (taken p (entryId (e .state))) e
 
--- the loop: "A dropped entry ends the direct list and sets its reason only if none is set"
+-- the loop: "A dropped entry ends the direct list and sets its reason only if none is set": check_valid, verifier.rs 413-418
 unfoldable pub checkValid : Settings → Bool → PointView → Findings → List Entry → Findings
 unfolding join entryFindings
 checkValid c required p old [] = old
@@ -245,13 +247,15 @@ checkValid c required p old (e ∷ l) =
     (record { trail = old .trail ++ when (isEmpty (old .trail)) DependencyRoundDropped; root = old .root })
     (checkValid c required p (joined old (entryFindings c required p e)) l)
 
--- ---- check_indirect_links
+-- ---- check_indirect_links, verifier.rs 552-641
 
--- of an indirect link's target that has the role: the anchor time of a proof, check_trigger_proof of a trigger
+-- of an indirect link's target that has the role: the anchor time of a proof, check_trigger_proof of a trigger:
+-- check_indirect_links, verifier.rs 625-631, 632-636
 abbrev pub indirectRow : AnchorStageRole → PointView → DepView → List InvalidReason
 indirectRow Proof p q = anchorTimeRow p q
 indirectRow Trigger p q = triggerProofRow p q true
 
+-- check_indirect_links, verifier.rs 615-618, 620-623
 unfoldable pub indirectPointRows : Settings → AnchorStageRole → PointView → DepView → List (List InvalidReason)
 unfolding timeRow anchorTimeRow triggerProofRow
 indirectPointRows c g p q =
@@ -271,14 +275,14 @@ unfolding join indirectFindings
 checkIndirectLinks c p old [] = old
 checkIndirectLinks c p old (a ∷ l) = checkIndirectLinks c p (joined old (indirectFindings c p a)) l
 
--- ---- validate
+-- ---- validate, verifier.rs 176-291
 
 abbrev pub resultWith : Option InvalidReason → Option InvalidDependency → verdict.Verdict
 resultWith (some reason) d = verdict.Invalid reason
 resultWith none (some d) = verdict.TransInvalid d
 resultWith none none = verdict.Valid
 
--- "Indirect entries are judged only if the direct ones gave no reason"; "Invalid wins over a record"
+-- "Indirect entries are judged only if the direct ones gave no reason"; "Invalid wins over a record": validate, verifier.rs 264-280, 282-288
 unfoldable pub overLists : Settings → Bool → PointInfo → List Entry → List IndirectEntry → verdict.Verdict
 unfolding lastOf checkValid checkIndirectLinks pointView
 overLists c required p es ts =
@@ -286,9 +290,9 @@ overLists c required p es ts =
     let all = pick (isEmpty (direct .trail)) (checkIndirectLinks c p direct ts) direct in
     resultWith (lastOf (all .trail)) (all .root)
 
--- Verifier::validate of a point above genesis, past check_ill_formed: regular points required or not, how many rounds are present, the
--- two lists. "Presence 0 and 1 give `NoRoundInDag` of evidence and of includes, the list unread. With presence 2, .. a non-empty witness
--- gives `NoRoundInDag(Witness)` before any other reason."
+-- validate, verifier.rs 208-211, 221-224, 237-239, of a point above genesis, past check_ill_formed: regular points required or not,
+-- how many rounds are present, the two lists. "Presence 0 and 1 give `NoRoundInDag` of evidence and of includes, the list unread. With
+-- presence 2, .. a non-empty witness gives `NoRoundInDag(Witness)` before any other reason."
 unfoldable pub validate : Settings → Bool → ℕ → PointInfo → List Entry → List IndirectEntry → verdict.Verdict
 unfolding overLists
 validate c required presence p es ts =

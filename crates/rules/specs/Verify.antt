@@ -30,15 +30,16 @@ use Rattle.reasons.specs.declared.ill_formed.VerifyError.the-variants.{Fail, Il
 use Rattle.parts.specs.Bytes.{putAt}
 use Rattle.reasons.specs.IllFormed.{errorAnswer}
 
--- ---- BasicVerifierInner::new
+-- ---- BasicVerifierInner::new, verifier.rs 795-888
 
--- peer_count_genesis and peer_count: one peer at genesis, three or more above it; below genesis no count is asked
+-- peer_count_genesis, verifier.rs 800-810, and peer_count, verifier.rs 812-819: one peer at genesis, three or more above it;
+-- below genesis no count is asked
 unfoldable pub badCount : Settings → ℕ → ℕ → Bool
 badCount c round len =
     pick (ltb round (c .genesisRound)) false
     (pick (eqb round (c .genesisRound)) (not (eqb len 1)) (ltb len 3))
 
--- "unknown peers in anchor {0:?} link target": of an indirect link alone
+-- "unknown peers in anchor {0:?} link target", of an indirect link alone: new, verifier.rs 878-885
 unfoldable pub unknownTarget : Schedule → AnchorLink → Bool
 unfolding find peersFor
 unknownTarget s (Direct t) = false
@@ -63,7 +64,7 @@ newRows c s p =
     ∷ when (unknownTarget s (p .anchorTrigger)) (IllFormed (UnknownPeerInAnchorLink Trigger))
     ∷ []
 
--- ---- check_well_formed
+-- ---- check_well_formed, verifier.rs 892-926
 
 -- AnchorLink::Direct(Through::Includes(author)): a genesis point's links, and the proof link of a trigger
 unfoldable pub linksOwn : ℕ → AnchorLink → Bool
@@ -81,7 +82,7 @@ abbrev pub isZero : Option ℕ → Bool
 isZero none = false
 isZero (some d) = eqb d 0
 
--- PointInfo::check_structure(true)
+-- PointInfo::check_structure(true), info.rs 168-190
 unfoldable pub genesisStructureRows : PointInfo → List (List StructureIssue)
 unfolding linksOwn prevDigest
 genesisStructureRows p =
@@ -110,7 +111,7 @@ abbrev pub equal : Bool → Bool → Bool
 equal true b = b
 equal false b = not b
 
--- PointData::check_non_genesis_structure: the author's own points
+-- PointData::check_non_genesis_structure, data.rs 172-174, 176-184: the author's own points
 unfoldable pub ownPointRows : PointInfo → List (List StructureIssue)
 unfolding prevDigest find
 ownPointRows p =
@@ -120,7 +121,7 @@ ownPointRows p =
     ∷ when (isSome (find (peers (p .witness)) (p .id .author))) (AuthorInMap map.Witness)
     ∷ []
 
--- the same: its anchor links and its times
+-- check_non_genesis_structure, data.rs 186-193, 195-220, 222-225: its anchor links and its times
 unfoldable pub linkRows : PointInfo → List (List StructureIssue)
 unfolding linksOwn badLink
 linkRows p =
@@ -130,7 +131,7 @@ linkRows p =
     ∷ when (leb (p .time) (p .anchorTime)) AnchorTime
     ∷ []
 
--- PointInfo::check_structure(false)
+-- PointInfo::check_structure(false), info.rs 168-190
 unfoldable pub structureRows : PointInfo → List (List StructureIssue)
 unfolding concat ownPointRows linkRows
 structureRows p =
@@ -144,6 +145,7 @@ abbrev pub structure : Option StructureIssue → List VerifyError
 structure none = []
 structure (some i) = IllFormed (Structure i) ∷ []
 
+-- at genesis: check_well_formed, verifier.rs 894-896, 897-899, 901-902
 unfoldable pub genesisRows : Settings → PointInfo → List (List VerifyError)
 unfolding firstOf concat genesisStructureRows
 genesisRows c p =
@@ -152,7 +154,8 @@ genesisRows c p =
     ∷ structure (firstOf (concat (genesisStructureRows p)))
     ∷ []
 
--- the sequence number is over the settings' limit, or else the last flag is not that of the limit
+-- the sequence number is over the settings' limit, or else the last flag is not that of the limit:
+-- check_well_formed, verifier.rs 911-913, 914-916
 unfoldable pub stickyFault : Settings → Option Sticky → List VerifyError
 stickyFault c none = []
 stickyFault c (some k) =
@@ -160,6 +163,7 @@ stickyFault c (some k) =
     (IllFormed (TooManyStickyAnchors (k .seqNo)) ∷ [])
     (when (not (equal (k .isLast) (eqb (k .seqNo) (c .stickyAnchors)))) (IllFormed BadLastStickyFlag))
 
+-- above genesis: check_well_formed, verifier.rs 905-907, 909, 919-923
 unfoldable pub aboveRows : Settings → PointInfo → List (List VerifyError)
 unfolding firstOf concat structureRows stickyFault
 aboveRows c p =
@@ -173,7 +177,7 @@ unfoldable pub wellFormedRows : Settings → PointInfo → List (List VerifyErro
 unfolding genesisRows aboveRows
 wellFormedRows c p = pick (eqb (p .id .round) (c .genesisRound)) (genesisRows c p) (aboveRows c p)
 
--- ---- check_peers
+-- ---- check_peers, verifier.rs 929-994
 
 abbrev pub unknownRow : List ℕ → PointMap → List VerifyError
 unknownRow l m = when (not (isEmpty l)) (IllFormed (UnknownPeers (length l) m))
@@ -201,7 +205,7 @@ scheduled c s p =
       witness = peersFor s (p .id .round - 2);
     }
 
--- "inside proving point @ r+0": evidence, where there is some
+-- "inside proving point @ r+0", evidence, where there is some: check_peers, verifier.rs 936-938, 939-946, 947-951
 unfoldable pub evidenceRows : Settings → Scheduled → PointInfo → List (List VerifyError)
 unfolding unknownIn
 evidenceRows c k p =
@@ -212,6 +216,7 @@ evidenceRows c k p =
     (lack (length (p .evidence)) (length (k .sameRound)) map.Evidence)
     ∷ [])
 
+-- check_peers, verifier.rs 958-965, 966-970
 unfoldable pub includesRows : Scheduled → PointInfo → List (List VerifyError)
 unfolding unknownIn
 includesRows k p =
@@ -220,7 +225,7 @@ includesRows k p =
     (lack (length (p .includes)) (length (k .includes)) map.Includes)
     ∷ []
 
--- no round of the DAG lies two below the point at genesis and just above it
+-- no round of the DAG lies two below the point at genesis and just above it: check_peers, verifier.rs 974-978, 979-990
 unfoldable pub witnessRows : Settings → Scheduled → PointInfo → List (List VerifyError)
 unfolding unknownIn
 witnessRows c k p =
@@ -233,7 +238,7 @@ unfoldable pub peerRows : Settings → Scheduled → PointInfo → List (List Ve
 unfolding concat evidenceRows includesRows witnessRows
 peerRows c k p = concat (evidenceRows c k p) ∷ concat (includesRows k p) ∷ concat (witnessRows c k p) ∷ []
 
--- ---- BasicVerifier::verify
+-- ---- BasicVerifier::verify, verifier.rs 775-783
 
 unfoldable pub faults : Settings → Schedule → PointInfo → List VerifyError
 unfolding concat newRows wellFormedRows peerRows scheduled
