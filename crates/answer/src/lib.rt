@@ -96,7 +96,7 @@ fn of_issue(issue: StructureIssue) -> Values
         StructureIssue::BadGenesisPrevPoint => carried(NONE, NONE, 2, 0, 0),
         StructureIssue::AuthorInMap(m) => carried(map_number(m), NONE, 3, 0, 0),
         StructureIssue::TriggerBadProofLink => carried(NONE, NONE, 4, 0, 0),
-        StructureIssue::Link(g, m) => carried(map_number(m), role_number(g), 5, 0, 0),
+        StructureIssue::Link { role, map } => carried(map_number(map), role_number(role), 5, 0, 0),
         StructureIssue::AnchorTime => carried(NONE, NONE, 6, 0, 0),
         StructureIssue::NoPrevPoint => carried(NONE, NONE, 7, 0, 0),
     }
@@ -115,10 +115,12 @@ fn of_ill_formed(reason: IllFormedReason) -> Values
         IllFormedReason::BadLastStickyFlag => carried(NONE, NONE, 0, 0, 0),
         IllFormedReason::LinksAcrossGenesis => carried(NONE, NONE, 0, 0, 0),
         IllFormedReason::MustBeEmpty(m) => carried(map_number(m), NONE, 0, 0, 0),
-        IllFormedReason::UnknownPeers(n, m) => carried(map_number(m), NONE, 0, 0, n),
+        IllFormedReason::UnknownPeers { unknown, map } => {
+            carried(map_number(map), NONE, 0, 0, unknown)
+        }
         IllFormedReason::UnknownPeerInAnchorLink(g) => carried(NONE, role_number(g), 0, 0, 0),
-        IllFormedReason::LackOfPeers(n, f, m) => {
-            carried(map_number(m), NONE, n as u32, f.0 as u32, 0)
+        IllFormedReason::LackOfPeers { len, total, map } => {
+            carried(map_number(map), NONE, len as u32, total.0 as u32, 0)
         }
         IllFormedReason::NotRegular => carried(NONE, NONE, 0, 0, 0),
         IllFormedReason::BadWaveLink(b) => carried(NONE, NONE, flag(b), 0, 0),
@@ -197,15 +199,21 @@ fn of_invalid(reason: InvalidReason) -> Values
         InvalidReason::MustHaveReferencedPrevPoint(_) => carried(NONE, NONE, 0, 0, 0),
         InvalidReason::MustHaveSkippedRound(_) => carried(NONE, NONE, 0, 0, 0),
         InvalidReason::DependencyTimeTooFarInFuture(_) => carried(NONE, NONE, 0, 0, 0),
-        InvalidReason::NewerAnchorInDependency(g, _) => carried(NONE, role_number(g), 0, 0, 0),
-        InvalidReason::AnchorLink(g, _) => carried(NONE, role_number(g), 0, 0, 0),
-        InvalidReason::AnchorLinkRole(g, _) => carried(NONE, role_number(g), 0, 0, 0),
-        InvalidReason::AnchorLinkBadPath(g, _) => carried(NONE, role_number(g), 0, 0, 0),
-        InvalidReason::BadStickySequence(_, prev, n) => {
-            carried(NONE, NONE, n as u32, prev_seq_no(prev), 0)
+        InvalidReason::NewerAnchorInDependency { role, .. } => {
+            carried(NONE, role_number(role), 0, 0, 0)
         }
-        InvalidReason::TriggerProofMismatch(_, b) => carried(NONE, NONE, flag(b), 0, 0),
-        InvalidReason::DepIllFormed(_, n) => carried(NONE, NONE, n as u32, 0, 0),
+        InvalidReason::AnchorLink { role, .. } => carried(NONE, role_number(role), 0, 0, 0),
+        InvalidReason::AnchorLinkRole { role, .. } => carried(NONE, role_number(role), 0, 0, 0),
+        InvalidReason::AnchorLinkBadPath { role, .. } => carried(NONE, role_number(role), 0, 0, 0),
+        InvalidReason::BadStickySequence {
+            prev_seq_no: prev,
+            seq_no,
+            ..
+        } => carried(NONE, NONE, seq_no as u32, prev_seq_no(prev), 0),
+        InvalidReason::TriggerProofMismatch { is_target, .. } => {
+            carried(NONE, NONE, flag(is_target), 0, 0)
+        }
+        InvalidReason::DepIllFormed { reason: n, .. } => carried(NONE, NONE, n as u32, 0, 0),
         InvalidReason::DepNotFound(_) => carried(NONE, NONE, 0, 0, 0),
     }
 }
@@ -225,13 +233,13 @@ fn id_of(reason: InvalidReason) -> PointId
         InvalidReason::MustHaveReferencedPrevPoint(id) => id,
         InvalidReason::MustHaveSkippedRound(id) => id,
         InvalidReason::DependencyTimeTooFarInFuture(id) => id,
-        InvalidReason::NewerAnchorInDependency(_, id) => id,
-        InvalidReason::AnchorLink(_, id) => id,
-        InvalidReason::AnchorLinkRole(_, id) => id,
-        InvalidReason::AnchorLinkBadPath(_, id) => id,
-        InvalidReason::BadStickySequence(id, _, _) => id,
-        InvalidReason::TriggerProofMismatch(id, _) => id,
-        InvalidReason::DepIllFormed(id, _) => id,
+        InvalidReason::NewerAnchorInDependency { dependency, .. } => dependency,
+        InvalidReason::AnchorLink { dependency, .. } => dependency,
+        InvalidReason::AnchorLinkRole { dependency, .. } => dependency,
+        InvalidReason::AnchorLinkBadPath { dependency, .. } => dependency,
+        InvalidReason::BadStickySequence { dependency, .. } => dependency,
+        InvalidReason::TriggerProofMismatch { dependency, .. } => dependency,
+        InvalidReason::DepIllFormed { dependency, .. } => dependency,
         InvalidReason::DepNotFound(id) => id,
     }
 }

@@ -16,6 +16,7 @@ use Rattle.base.proofs.Bool.{clash}
 use Rattle.base.proofs.Option.{picked, and-then, some-of, unfound}
 use Rattle.base.proofs.Impossible.{impossible}
 use Rattle.parts.specs.Bytes.{bytesAt, little, littleAt, bigAt, littleBytes, bigBytes, putAt}
+use Rattle.parts.specs.Limits.{tag33Length}
 use Rattle.write.proofs.Laws.{put-is, put-three}
 use Rattle.record.specs.Record.{fieldRow, fieldOk, recordEnd}
 use Rattle.record.specs.Code.{Shaped, ShapeOf}
@@ -300,15 +301,15 @@ unfolding keptFront
 front-endless s h = rw h
 
 -- tag 33 after a record, and its 105 bytes
-pub tag-inside : (n : ℕ) (s : List ℕ) → fieldOk (fieldRow 33 105 105) s n ≡ true → n + 108 ≤ length s
+pub tag-inside : (n : ℕ) (s : List ℕ) → fieldOk (fieldRow 33 105 105) s n ≡ true → n + tag33Length ≤ length s
 tag-inside n s f =
     let g = fitting (fieldRow 33 105 105) s n f in
     omega (arith, g .least, g .end)
 
-pub tag-part : (n : ℕ) (s : List ℕ) → take (n + 108 - (n + 3)) (drop (n + 3) s) ≡ take 105 (drop (n + 3) s)
-tag-part n s = let e : n + 108 - (n + 3) ≡ 105 = omega arith in rw e
+pub tag-part : (n : ℕ) (s : List ℕ) → take (n + tag33Length - (n + 3)) (drop (n + 3) s) ≡ take 105 (drop (n + 3) s)
+tag-part n s = let e : n + tag33Length - (n + 3) ≡ 105 = omega arith in rw e
 
-pub tag-length : (n : ℕ) (s : List ℕ) → n + 108 ≤ length s → length (take (n + 108 - (n + 3)) (drop (n + 3) s)) ≡ 105
+pub tag-length : (n : ℕ) (s : List ℕ) → n + tag33Length ≤ length s → length (take (n + tag33Length - (n + 3)) (drop (n + 3) s)) ≡ 105
 tag-length n s h = simp (length-take, length-drop) (omega arith)
 
 -- the part of a slice up to where its record ends
@@ -322,13 +323,13 @@ module _ (s part : List ℕ) (n : ℕ) (e : recordEnd s ≡ some n) (p : part �
     unfolding keptFront
     front-tagless f = rw (e, ← p, h, f)
 
-    front-tagged : fieldOk (fieldRow 33 105 105) s n ≡ true → keptFront s ≡ sized (n + 108) (readKept part q (take 105 (drop (n + 3) s)))
+    front-tagged : fieldOk (fieldRow 33 105 105) s n ≡ true → keptFront s ≡ sized (n + tag33Length) (readKept part q (take 105 (drop (n + 3) s)))
     unfolding keptFront
     front-tagged f = rw (e, ← p, h, f)
 
     -- what is read of tag 33 decides
     module _ (f : fieldOk (fieldRow 33 105 105) s n ≡ true) (tag : List ℕ) (g : tag ≡ take 105 (drop (n + 3) s)) where
-      front-read : keptFront s ≡ sized (n + 108) (readKept part q tag)
+      front-read : keptFront s ≡ sized (n + tag33Length) (readKept part q tag)
       front-read = front-tagged f ∙ rw g
 
       pub front-no-entry : isSome (readKept part q tag) ≡ false → keptFront s ≡ none
@@ -347,7 +348,7 @@ module _ (s part : List ℕ) (n : ℕ) (e : recordEnd s ≡ some n) (p : part �
   part-length = rw p (length-take-le n s (end-within s n e))
 
   module _ (i : code-info.PointInfo) (h : Reads part i) (f : fieldOk (fieldRow 33 105 105) s n ≡ true) where
-    kept-sized : (r : code-read-kept.ReadKept) → EntryFrom part i r → readKeptOf s r ≡ sized (n + 108) (keptEntryOf part r)
+    kept-sized : (r : code-read-kept.ReadKept) → EntryFrom part i r → readKeptOf s r ≡ sized (n + tag33Length) (keptEntryOf part r)
     kept-sized (case-read-kept.Kept k) w = let l : k .len ≡ n = w .len ∙ part-length in rw (l, ← p)
     kept-sized case-read-kept.Unreadable w = refl
 
@@ -360,7 +361,7 @@ module _ (s part : List ℕ) (n : ℕ) (e : recordEnd s ≡ some n) (p : part �
     pub front-entry : (tag : List ℕ) (r : code-read-kept.ReadKept) → tag ≡ take 105 (drop (n + 3) s) →
         (keptEntryOf part r ≡ readKept part (pointOf part i) tag) × EntryFrom part i r → (readKeptOf s r ≡ keptFront s) × KeptPlaced s r
     front-entry tag r g w = (
-      kept-sized r (w .1) ∙ (ap (sized (n + 108)) (w .0 ∙ ap (readKept part (pointOf part i)) g) ∙ sym (front-tagged (pointOf part i) (h .read) f)),
+      kept-sized r (w .1) ∙ (ap (sized (n + tag33Length)) (w .0 ∙ ap (readKept part (pointOf part i)) g) ∙ sym (front-tagged (pointOf part i) (h .read) f)),
       kept-placed r (w .1),
     )
 

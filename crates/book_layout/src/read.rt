@@ -166,10 +166,10 @@ fn is_keepable(rec: &[u8], info: PointInfo, status: Status) -> bool
 
 // The entry of a record and the 105 bytes of tag 33.
 fn entry_of(rec: &[u8], info: PointInfo, t: &[u8]) -> ReadKept
-    requires { ⌜ Reads (now rec) info ⌝ }
-    requires { ⌜ length (now t) ≡ 105 ⌝ }
-    ensures { λ r. ⌜ keptEntryOf (now (rec .entry)) r ≡ readKept (now (rec .entry)) (pointOf (now (rec .entry)) info) (now (t .entry)) ⌝ }
-    ensures { λ r. ⌜ EntryFrom (now (rec .entry)) info r ⌝ }
+    requires reads { ⌜ Reads (now rec) info ⌝ }
+    requires long { ⌜ length (now t) ≡ 105 ⌝ }
+    ensures same { λ r. ⌜ keptEntryOf (now (rec .entry)) r ≡ readKept (now (rec .entry)) (pointOf (now (rec .entry)) info) (now (t .entry)) ⌝ }
+    ensures from { λ r. ⌜ EntryFrom (now (rec .entry)) info r ⌝ }
 {
     let certified = t[1];
     if 1 < certified {
@@ -198,8 +198,8 @@ fn peer_position(
     evidence: usize,
     link: &[u8],
 ) -> Position
-    requires { ⌜ (isSome (readPoint (now rec)) ≡ true) × ((34 ≤ length (now link)) × (getD (now link) 0 0 ≡ 1 → ⊥)) ⌝ }
-    requires { ⌜ (includes ≡ startOf (now rec) 2) × ((witness ≡ startOf (now rec) 3) × (evidence ≡ startOf (now rec) 4)) ⌝ }
+    requires reads { ⌜ (isSome (readPoint (now rec)) ≡ true) × ((34 ≤ length (now link)) × (getD (now link) 0 0 ≡ 1 → ⊥)) ⌝ }
+    requires places { ⌜ (includes ≡ startOf (now rec) 2) × ((witness ≡ startOf (now rec) 3) × (evidence ≡ startOf (now rec) 4)) ⌝ }
     ensures { λ r. ⌜ ((q : point.PointInfo) (l : point.AnchorLink) → readPoint (now (rec .entry)) ≡ some q →
         readLink (now (link .entry)) ≡ some l → isSome (positionOf r) ≡ isNamed q l) ⌝ }
 {
@@ -212,8 +212,8 @@ fn peer_position(
 
 // Whether a link, if it is direct, names a peer of its map.
 fn is_named(rec: &[u8], includes: usize, witness: usize, evidence: usize, link: &[u8]) -> bool
-    requires { ⌜ (isSome (readPoint (now rec)) ≡ true) × (34 ≤ length (now link)) ⌝ }
-    requires { ⌜ (includes ≡ startOf (now rec) 2) × ((witness ≡ startOf (now rec) 3) × (evidence ≡ startOf (now rec) 4)) ⌝ }
+    requires reads { ⌜ (isSome (readPoint (now rec)) ≡ true) × (34 ≤ length (now link)) ⌝ }
+    requires places { ⌜ (includes ≡ startOf (now rec) 2) × ((witness ≡ startOf (now rec) 3) × (evidence ≡ startOf (now rec) 4)) ⌝ }
     ensures { λ r. ⌜ ((q : point.PointInfo) (l : point.AnchorLink) → readPoint (now (rec .entry)) ≡ some q →
         readLink (now (link .entry)) ≡ some l → r ≡ isNamed q l) ⌝ }
 {
@@ -246,8 +246,8 @@ fn are_named(rec: &[u8], at: Places) -> bool
 
 // Whether a record and the 105 bytes of tag 33 are an entry.
 fn is_entry(rec: &[u8], at: Places, t: &[u8]) -> bool
-    requires { ⌜ (isSome (readPoint (now rec)) ≡ true) × PlacesOf (now rec) at ⌝ }
-    requires { ⌜ length (now t) ≡ 105 ⌝ }
+    requires reads { ⌜ (isSome (readPoint (now rec)) ≡ true) × PlacesOf (now rec) at ⌝ }
+    requires long { ⌜ length (now t) ≡ 105 ⌝ }
     ensures { λ r. ⌜ ((q : point.PointInfo) → readPoint (now (rec .entry)) ≡ some q →
         r ≡ isSome (readKept (now (rec .entry)) q (now (t .entry)))) ⌝ }
 {
@@ -291,8 +291,8 @@ pub fn kept_end(s: &[u8]) -> End
 
 // The entry at the front of a slice.
 pub fn read_kept(s: &[u8]) -> ReadKept
-    ensures { λ r. ⌜ readKeptOf (now (s .entry)) r ≡ keptFront (now (s .entry)) ⌝ }
-    ensures { λ r. ⌜ KeptPlaced (now (s .entry)) r ⌝ }
+    ensures same { λ r. ⌜ readKeptOf (now (s .entry)) r ≡ keptFront (now (s .entry)) ⌝ }
+    ensures placed { λ r. ⌜ KeptPlaced (now (s .entry)) r ⌝ }
 {
     let End::At(n) = record::record_end(s) else {
         return ReadKept::Unreadable;

@@ -42,8 +42,8 @@ pub fn of_verdict(verdict: Verdict) -> Left
 
 // What the judge is told of a kept point.
 pub fn dag_point(info: PointInfo, status: Status) -> DagPoint
-    ensures { λ r. ⌜ ((s : List ℕ) → dagPointOf s r ≡ dagPoint (pointOf s info) (statusOf status)) ⌝ }
-    ensures { λ r. ⌜ ((s : List ℕ) → Reads s info → ReadFrom s r) ⌝ }
+    ensures same { λ r. ⌜ ((s : List ℕ) → dagPointOf s r ≡ dagPoint (pointOf s info) (statusOf status)) ⌝ }
+    ensures from { λ r. ⌜ ((s : List ℕ) → Reads s info → ReadFrom s r) ⌝ }
 {
     match status {
         Status::Valid => DagPoint::Valid(info),

@@ -94,8 +94,8 @@ pub fn before_list(
     requires { ⌜ readSchedule (now schedule) ≡ some (scheduleOf (now schedule) spans) ⌝ }
     requires { ⌜ Reads (now rec) info ⌝ }
     requires { ⌜ peersRoom ≤ length (now peers) ⌝ }
-    ensures { λ r. ⌜ beforeOf r ≡ before (settingsOf conf) (scheduleOf (now (schedule .entry)) spans) «is_leader» (pointOf (now (rec .entry)) info) ⌝ }
-    ensures { λ r. ⌜ BufferAfter conf (now (schedule .entry)) spans (now (rec .entry)) info
+    ensures same { λ r. ⌜ beforeOf r ≡ before (settingsOf conf) (scheduleOf (now (schedule .entry)) spans) «is_leader» (pointOf (now (rec .entry)) info) ⌝ }
+    ensures buffer { λ r. ⌜ BufferAfter conf (now (schedule .entry)) spans (now (rec .entry)) info
         (verify (settingsOf conf) (scheduleOf (now (schedule .entry)) spans) (pointOf (now (rec .entry)) info)) (now (peers .entry)) (now (peers .exit)) ⌝ }
 {
     let verified = verify::verify_point(conf, schedule, spans, rec, info, peers);

@@ -57,7 +57,7 @@ fn judge_over_list(
     requires { ⌜ 2 ≤ presence ⌝ }
     ensures { λ r. ⌜ judgeAnswerOf r ≡ overList (settingsOf conf) required presence (pointOf (now (rec .entry)) info) (readList (now (list .entry))) ⌝ }
 {
-    let JudgedList::Judged(verdict, uncovered) = judge_list::judge_list(
+    let JudgedList::Judged { verdict, uncovered } = judge_list::judge_list(
         conf,
         required,
         rec,
@@ -107,9 +107,9 @@ pub fn judge(
     list: &[u8],
     peers: &mut [u8],
 ) -> JudgeAnswer
-    ensures { λ r. ⌜ judgeAnswerOf r ≡ judgeWith leader presence (now (list .entry))
+    ensures same { λ r. ⌜ judgeAnswerOf r ≡ judgeWith leader presence (now (list .entry))
         (tested (now (settings .entry)) (now (schedule .entry)) (now (rec .entry)) (flagsOk leader presence) (length (now (peers .entry)))) ⌝ }
-    ensures { λ r. ⌜ now (peers .exit) ≡ verifyBuffer
+    ensures buffer { λ r. ⌜ now (peers .exit) ≡ verifyBuffer
         (tested (now (settings .entry)) (now (schedule .entry)) (now (rec .entry)) (flagsOk leader presence) (length (now (peers .entry))))
         (now (peers .entry)) ⌝ }
 {

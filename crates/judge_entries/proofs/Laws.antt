@@ -10,13 +10,11 @@ use lib.Seq.{drop-drop}
 use lib.Dec.{eqb}
 use borrow.Author.Tests.{le-leb, lt-leb, eq-eqb, ne-eqb}
 use Rattle.base.specs.Base.{pick, isSome}
-use Rattle.base.proofs.Bool.{and-left}
 use Rattle.base.proofs.Option.{picked, and-then}
 use Rattle.parts.specs.Bytes.{littleAt}
 use Rattle.map.specs.declared.Found.{Found}
 use Rattle.map.specs.Code.{foundOf}
 use Rattle.record.specs.Record.{fieldRow, fieldOk, recordEnd}
-use Rattle.record.proofs.Laws.{fitting}
 use Rattle.point.specs.Point.{PointId, PointInfo, digestSafe, inDomain}
 use Rattle.point.specs.Reading.{pointIdAt, readPoint}
 use Rattle.point.specs.Code.{throughOf, linkOf, pointOf, Reads}
@@ -38,19 +36,13 @@ use Rattle.judge_entries.specs.declared.ReadRecord.the-variants as case-
 
 -- ---- parts of a list
 
-part-is : (s : List ℕ) (front n size : ℕ) → size ≡ front + n → partOf s front size ≡ take n (drop front s)
-part-is s front n size e = let h : size - front ≡ n = omega arith in rw h
+part-is : (s : List ℕ) (front n end : ℕ) → end ≡ front + n → partOf s front end ≡ take n (drop front s)
+part-is s front n end e = let h : end - front ≡ n = omega arith in rw h
 
-part-after : (s : List ℕ) (front place size : ℕ) → partOf s (front + place) (front + size) ≡ partOf (drop front s) place size
-part-after s front place size =
-    let h : front + size - (front + place) ≡ size - place = omega arith in
+part-after : (s : List ℕ) (front place end : ℕ) → partOf s (front + place) (front + end) ≡ partOf (drop front s) place end
+part-after s front place end =
+    let h : front + end - (front + place) ≡ end - place = omega arith in
     rw (h, drop-drop place front s)
-
--- how many bytes a field of a fixed length takes
-pub fixed : (t n : ℕ) (s : List ℕ) → fieldOk (fieldRow t n n) s 0 ≡ true → 3 + n ≤ length s
-fixed t n s h =
-    let f = fitting (fieldRow t n n) s 0 h in
-    omega (arith, f .least, f .greatest, f .end)
 
 -- ---- the record of a listed point
 
@@ -125,10 +117,6 @@ module _ (s : List ℕ) where
     pub root-last : 4 ≤ r → r ≤ 2147483647 → isRoot s ≡ isSome (dagRound (getD s 71 0))
     unfolding isRoot
     root-last l h = rw (f, ← e, le-leb 4 r l, le-leb r 2147483647 h)
-
-pub root-within : (s : List ℕ) → isRoot s ≡ true → 72 ≤ length s
-unfolding isRoot
-root-within s h = fixed 18 69 s (and-left (fieldOk (fieldRow 18 69 69) s 0) _ h)
 
 -- ---- what stands after the flags, by the state
 
@@ -206,11 +194,11 @@ module _ (s : List ℕ) (state : PointId → DagPoint) where
   id-read i e h = rw (h, e)
 
 -- an entry's record, read from a place on
-pub record Back (s : List ℕ) (front size : ℕ) (i : code-info.PointInfo) : Type 0 where
-  pub ordered : front ≤ size
-  pub inside : size ≤ length s
-  pub from : Reads (partOf s front size) i
-  pub states : (state : PointInfo → DagPoint) → recordAt state front s ≡ some (record { point = state (pointOf (partOf s front size) i); size = size })
+pub record Back (s : List ℕ) (front end : ℕ) (i : code-info.PointInfo) : Type 0 where
+  pub ordered : front ≤ end
+  pub inside : end ≤ length s
+  pub from : Reads (partOf s front end) i
+  pub states : (state : PointInfo → DagPoint) → recordAt state front s ≡ some (record { point = state (pointOf (partOf s front end) i); size = end })
 
 module _ (s part : List ℕ) (front : ℕ) (r : code-read-record.ReadRecord) (p : part ≡ drop front s) (h : readRecordOf part r ≡ recordFront part) where
   pub back-none : r ≡ case-read-record.Unreadable → (state : PointInfo → DagPoint) → recordAt state front s ≡ none
@@ -222,12 +210,12 @@ module _ (s part : List ℕ) (front : ℕ) (r : code-read-record.ReadRecord) (p 
       recordFront (drop front s) ≡ some (record { point = pointOf (take n part) i; size = n })
   back-at n i g = ap recordFront (sym p) ∙ (sym h ∙ ap (readRecordOf part) g)
 
-  pub back : (n size : ℕ) (i : code-info.PointInfo) → r ≡ case-read-record.Record i n → RecordPlaced part r → front ≤ length s → size ≡ front + n →
-      Back s front size i
-  back n size i g q b e =
-      let a = part-is s front n size e in
+  pub back : (n end : ℕ) (i : code-info.PointInfo) → r ≡ case-read-record.Record i n → RecordPlaced part r → front ≤ length s → end ≡ front + n →
+      Back s front end i
+  back n end i g q b e =
+      let a = part-is s front n end e in
       let w : RecordPlaced part (case-read-record.Record i n) = rw g at q in
-      let t : take n part ≡ partOf s front size = ap (take n) p ∙ sym a in
+      let t : take n part ≡ partOf s front end = ap (take n) p ∙ sym a in
       let l : n ≤ length (drop front s) = rw p at (w .0) in
       record {
         ordered = omega arith;
@@ -269,31 +257,31 @@ module _ (aim : Option AnchorStageRole) (front : ℕ) (s : List ℕ) where
   listed-none o h = rw h
 
 pub placed-stated : (s : List ℕ) (x : code-stated.Stated) (r : code-read-stated.ReadStated) → r ≡ case-read-stated.Stated x → StatedPlaced s r →
-    EntryPlaced s (x .point) (x .place) (x .size)
+    EntryPlaced s (x .point) (x .place) (x .end)
 placed-stated s x r g q = rw g at q
 
 -- an entry of what was read after its flags
 module _ (front : ℕ) (t s part : List ℕ) (d : drop front t ≡ s) (p : part ≡ drop 7 s) (x : code-stated.Stated) where
-  part-same : partOf t (front + 7 + x .place) (front + 7 + x .size) ≡ partOf part (x .place) (x .size)
+  part-same : partOf t (front + 7 + x .place) (front + 7 + x .end) ≡ partOf part (x .place) (x .end)
   part-same =
       let e : drop (front + 7) t ≡ part = sym (drop-drop 7 front t) ∙ (ap (drop 7) d ∙ sym p) in
-      part-after t (front + 7) (x .place) (x .size) ∙ ap (λ (l : List ℕ). partOf l (x .place) (x .size)) e
+      part-after t (front + 7) (x .place) (x .end) ∙ ap (λ (l : List ℕ). partOf l (x .place) (x .end)) e
 
   pub listed-some : (aim : Option AnchorStageRole) (o : Option Stated) → o ≡ readStatedOf part (case-read-stated.Stated x) →
       Option·map (listedAs aim front s) o
       ≡ some (record {
         aim = aim;
         entry = record {
-          state = dagPointOf (partOf t (front + 7 + x .place) (front + 7 + x .size)) (x .point);
+          state = dagPointOf (partOf t (front + 7 + x .place) (front + 7 + x .end)) (x .point);
           certified = eqb (getD s 4 0) 1;
           firstValid = eqb (getD s 5 0) 1;
         };
-        size = front + 7 + x .size;
+        size = front + 7 + x .end;
       })
   listed-some aim o h = rw (h, part-same)
 
   pub listed-placed : (r : code-read-stated.ReadStated) → r ≡ case-read-stated.Stated x → StatedPlaced part r → 7 ≤ length s →
-      (0 < front + 7 + x .size) × EntryPlaced t (x .point) (front + 7 + x .place) (front + 7 + x .size)
+      (0 < front + 7 + x .end) × EntryPlaced t (x .point) (front + 7 + x .place) (front + 7 + x .end)
   listed-placed r g q h =
       let w = placed-stated part x r g q in
       let l : length part ≡ length s - 7 = rw p (length-drop 7 s) in

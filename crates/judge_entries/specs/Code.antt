@@ -62,28 +62,28 @@ RecordPlaced s (case-read-record.Record i n) = (n ≤ length s) × Reads (take n
 RecordPlaced s case-read-record.Unreadable = Unit
 
 abbrev pub statedOf : List ℕ → code-stated.Stated → Stated
-statedOf s x = record { point = dagPointOf (partOf s (x .place) (x .size)) (x .point); size = x .size }
+statedOf s x = record { point = dagPointOf (partOf s (x .place) (x .end)) (x .point); size = x .end }
 
 -- where an entry's parts stand in the slice that it was read from
-pub record EntryPlaced (s : List ℕ) (d : code-point.DagPoint) (place size : ℕ) : Type 0 where
-  pub ordered : place ≤ size
-  pub inside : size ≤ length s
-  pub read : ReadFrom (partOf s place size) d
+pub record EntryPlaced (s : List ℕ) (d : code-point.DagPoint) (place end : ℕ) : Type 0 where
+  pub ordered : place ≤ end
+  pub inside : end ≤ length s
+  pub read : ReadFrom (partOf s place end) d
 
 abbrev pub readStatedOf : List ℕ → code-read-stated.ReadStated → Option Stated
 readStatedOf s (case-read-stated.Stated x) = some (statedOf s x)
 readStatedOf s case-read-stated.Unreadable = none
 
 abbrev pub StatedPlaced : List ℕ → code-read-stated.ReadStated → Type 0
-StatedPlaced s (case-read-stated.Stated x) = EntryPlaced s (x .point) (x .place) (x .size)
+StatedPlaced s (case-read-stated.Stated x) = EntryPlaced s (x .point) (x .place) (x .end)
 StatedPlaced s case-read-stated.Unreadable = Unit
 
 abbrev pub listedOf : List ℕ → code-listed.Listed → Listed
 listedOf s x =
     record {
       aim = aimOf (x .aim);
-      entry = entryOf (partOf s (x .place) (x .size)) (x .state) (x .certified) (x .«first_valid»);
-      size = x .size;
+      entry = entryOf (partOf s (x .place) (x .end)) (x .state) (x .certified) (x .«first_valid»);
+      size = x .end;
     }
 
 abbrev pub readListedOf : List ℕ → code-read-listed.ReadListed → Option Listed
@@ -91,5 +91,5 @@ readListedOf s (case-read-listed.Listed x) = some (listedOf s x)
 readListedOf s case-read-listed.Unreadable = none
 
 abbrev pub ListedPlaced : List ℕ → code-read-listed.ReadListed → Type 0
-ListedPlaced s (case-read-listed.Listed x) = (0 < x .size) × EntryPlaced s (x .state) (x .place) (x .size)
+ListedPlaced s (case-read-listed.Listed x) = (0 < x .end) × EntryPlaced s (x .state) (x .place) (x .end)
 ListedPlaced s case-read-listed.Unreadable = Unit

@@ -41,7 +41,7 @@ pub enum Aim {
 pub struct Stated {
     pub point: DagPoint,
     pub place: usize,
-    pub size: usize,
+    pub end: usize,
 }
 
 pub enum ReadStated {
@@ -49,14 +49,14 @@ pub enum ReadStated {
     Unreadable,
 }
 
-// An entry at the front of a slice: its record stands from `place` to `size`, where the entry ends.
+// An entry at the front of a slice: its record stands from `place` to `end`, where the entry ends.
 pub struct Listed {
     pub aim: Aim,
     pub state: DagPoint,
     pub certified: bool,
     pub first_valid: bool,
     pub place: usize,
-    pub size: usize,
+    pub end: usize,
 }
 
 pub enum ReadListed {
@@ -167,8 +167,8 @@ pub fn is_listable(rec: &[u8], info: PointInfo) -> bool
 
 // The record of a listed point at the front of a slice.
 fn read_record(s: &[u8]) -> ReadRecord
-    ensures { λ r. ⌜ readRecordOf (now (s .entry)) r ≡ recordFront (now (s .entry)) ⌝ }
-    ensures { λ r. ⌜ RecordPlaced (now (s .entry)) r ⌝ }
+    ensures same { λ r. ⌜ readRecordOf (now (s .entry)) r ≡ recordFront (now (s .entry)) ⌝ }
+    ensures placed { λ r. ⌜ RecordPlaced (now (s .entry)) r ⌝ }
 {
     let End::At(n) = record::record_end(s) else {
         return ReadRecord::Unreadable;
@@ -213,8 +213,8 @@ fn is_root(s: &[u8]) -> bool
 }
 
 fn read_trans_invalid(s: &[u8]) -> ReadStated
-    ensures { λ r. ⌜ readStatedOf (now (s .entry)) r ≡ readState 1 0 (now (s .entry)) ⌝ }
-    ensures { λ r. ⌜ StatedPlaced (now (s .entry)) r ⌝ }
+    ensures same { λ r. ⌜ readStatedOf (now (s .entry)) r ≡ readState 1 0 (now (s .entry)) ⌝ }
+    ensures placed { λ r. ⌜ StatedPlaced (now (s .entry)) r ⌝ }
 {
     if !is_root(s) {
         return ReadStated::Unreadable;
@@ -227,13 +227,13 @@ fn read_trans_invalid(s: &[u8]) -> ReadStated
     ReadStated::Stated(Stated {
         point: DagPoint::TransInvalid(info, root, reason),
         place: 72,
-        size: 72 + n,
+        end: 72 + n,
     })
 }
 
 fn read_valid(s: &[u8]) -> ReadStated
-    ensures { λ r. ⌜ readStatedOf (now (s .entry)) r ≡ readState 0 0 (now (s .entry)) ⌝ }
-    ensures { λ r. ⌜ StatedPlaced (now (s .entry)) r ⌝ }
+    ensures same { λ r. ⌜ readStatedOf (now (s .entry)) r ≡ readState 0 0 (now (s .entry)) ⌝ }
+    ensures placed { λ r. ⌜ StatedPlaced (now (s .entry)) r ⌝ }
 {
     let ReadRecord::Record(info, n) = read_record(s) else {
         return ReadStated::Unreadable;
@@ -241,13 +241,13 @@ fn read_valid(s: &[u8]) -> ReadStated
     ReadStated::Stated(Stated {
         point: DagPoint::Valid(info),
         place: 0,
-        size: n,
+        end: n,
     })
 }
 
 fn read_invalid(reason: u8, s: &[u8]) -> ReadStated
-    ensures { λ r. ⌜ readStatedOf (now (s .entry)) r ≡ readState 2 reason (now (s .entry)) ⌝ }
-    ensures { λ r. ⌜ StatedPlaced (now (s .entry)) r ⌝ }
+    ensures same { λ r. ⌜ readStatedOf (now (s .entry)) r ≡ readState 2 reason (now (s .entry)) ⌝ }
+    ensures placed { λ r. ⌜ StatedPlaced (now (s .entry)) r ⌝ }
 {
     if !is_reason(reason) {
         return ReadStated::Unreadable;
@@ -258,13 +258,13 @@ fn read_invalid(reason: u8, s: &[u8]) -> ReadStated
     ReadStated::Stated(Stated {
         point: DagPoint::Invalid(info, reason),
         place: 0,
-        size: n,
+        end: n,
     })
 }
 
 fn read_ill_formed(reason: u8, s: &[u8]) -> ReadStated
-    ensures { λ r. ⌜ readStatedOf (now (s .entry)) r ≡ readState 3 reason (now (s .entry)) ⌝ }
-    ensures { λ r. ⌜ StatedPlaced (now (s .entry)) r ⌝ }
+    ensures same { λ r. ⌜ readStatedOf (now (s .entry)) r ≡ readState 3 reason (now (s .entry)) ⌝ }
+    ensures placed { λ r. ⌜ StatedPlaced (now (s .entry)) r ⌝ }
 {
     if reason < 1 {
         return ReadStated::Unreadable;
@@ -278,13 +278,13 @@ fn read_ill_formed(reason: u8, s: &[u8]) -> ReadStated
     ReadStated::Stated(Stated {
         point: DagPoint::IllFormed(point::point_id_at(s, 3), reason),
         place: 71,
-        size: 71,
+        end: 71,
     })
 }
 
 fn read_not_found(s: &[u8]) -> ReadStated
-    ensures { λ r. ⌜ readStatedOf (now (s .entry)) r ≡ readState 4 0 (now (s .entry)) ⌝ }
-    ensures { λ r. ⌜ StatedPlaced (now (s .entry)) r ⌝ }
+    ensures same { λ r. ⌜ readStatedOf (now (s .entry)) r ≡ readState 4 0 (now (s .entry)) ⌝ }
+    ensures placed { λ r. ⌜ StatedPlaced (now (s .entry)) r ⌝ }
 {
     if !record::field_ok(s, 0, ID) {
         return ReadStated::Unreadable;
@@ -292,14 +292,14 @@ fn read_not_found(s: &[u8]) -> ReadStated
     ReadStated::Stated(Stated {
         point: DagPoint::NotFound(point::point_id_at(s, 3)),
         place: 71,
-        size: 71,
+        end: 71,
     })
 }
 
 // What stands after the flags of an entry, by its state and reason number.
 fn read_state(state: u8, reason: u8, s: &[u8]) -> ReadStated
-    ensures { λ r. ⌜ readStatedOf (now (s .entry)) r ≡ readState state reason (now (s .entry)) ⌝ }
-    ensures { λ r. ⌜ StatedPlaced (now (s .entry)) r ⌝ }
+    ensures same { λ r. ⌜ readStatedOf (now (s .entry)) r ≡ readState state reason (now (s .entry)) ⌝ }
+    ensures placed { λ r. ⌜ StatedPlaced (now (s .entry)) r ⌝ }
 {
     if state == 2 {
         return read_invalid(reason, s);
@@ -317,7 +317,7 @@ fn read_state(state: u8, reason: u8, s: &[u8]) -> ReadStated
         5 => ReadStated::Stated(Stated {
             point: DagPoint::Dropped,
             place: 0,
-            size: 0,
+            end: 0,
         }),
         _ => ReadStated::Unreadable,
     }
@@ -349,14 +349,14 @@ fn entry_at(aim: Aim, front: usize, s: &[u8]) -> ReadListed
         certified: certified == 1,
         first_valid: first_valid == 1,
         place: front + 7 + x.place,
-        size: front + 7 + x.size,
+        end: front + 7 + x.end,
     })
 }
 
 // The entry at the front of a list.
 pub fn read_entry(s: &[u8]) -> ReadListed
-    ensures { λ r. ⌜ readListedOf (now (s .entry)) r ≡ readEntry (now (s .entry)) ⌝ }
-    ensures { λ r. ⌜ ListedPlaced (now (s .entry)) r ⌝ }
+    ensures same { λ r. ⌜ readListedOf (now (s .entry)) r ≡ readEntry (now (s .entry)) ⌝ }
+    ensures placed { λ r. ⌜ ListedPlaced (now (s .entry)) r ⌝ }
 {
     if s.len() == 0 {
         return ReadListed::Unreadable;

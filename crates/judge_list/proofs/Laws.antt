@@ -125,7 +125,7 @@ viewed-by v i s e = rw e
 
 -- where an entry that was read stands
 pub placed-listed : (s : List ℕ) (x : code-listed.Listed) (r : code-read.ReadListed) → r ≡ case-read.Listed x → ListedPlaced s r →
-    (0 < x .size) × EntryPlaced s (x .state) (x .place) (x .size)
+    (0 < x .end) × EntryPlaced s (x .state) (x .place) (x .end)
 placed-listed s x r g q = rw g at q
 
 -- what an entry gives that is for a dependency or for an indirect link's target, after a dropped one or not

@@ -46,7 +46,7 @@ enum WalkedList {
 
 // The verdict over a list that can be read, and whether the previous point stood there without a certificate.
 pub enum JudgedList {
-    Judged(Verdict, bool),
+    Judged { verdict: Verdict, uncovered: bool },
     Unreadable,
 }
 
@@ -200,10 +200,10 @@ fn walk_list(conf: Settings, required: bool, rec: &[u8], info: PointInfo, list: 
             return WalkedList::Unreadable;
         }
         let place = x.place;
-        let size = x.size;
-        let entry = &rest[place..size];
+        let end = x.end;
+        let entry = &rest[place..end];
         indirect_seen = is_target(aim);
-        at += size;
+        at += end;
         left -= 1;
         if is_quiet(quick, entry, x) {
             continue;
@@ -259,7 +259,10 @@ pub fn judge_list(
     match walked {
         WalkedList::Walked(walk) => {
             let judging = walk.judging;
-            JudgedList::Judged(verdict(judging), walk.uncovered)
+            JudgedList::Judged {
+                verdict: verdict(judging),
+                uncovered: walk.uncovered,
+            }
         }
         WalkedList::Unreadable => JudgedList::Unreadable,
     }

@@ -645,8 +645,9 @@ module _ {presence : ℕ} {p : PointInfo} {s seen : List ℕ} {failed : Bool} {d
             once = once-tail p _ _ once-next;
           }
 
-pub same-room : (entry : List ℕ) → entry ≡ replicate 510 0 → 510 ≡ length entry
-same-room entry z = sym (ap length z ∙ length-replicate {A = ℕ} 510 0)
+-- n zeros are n long
+pub same-room : (n : ℕ) (entry : List ℕ) → entry ≡ replicate n 0 → n ≡ length entry
+same-room n entry z = sym (ap length z ∙ length-replicate {A = ℕ} n 0)
 
 -- ---- number 8
 

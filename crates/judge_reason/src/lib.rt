@@ -77,7 +77,10 @@ fn absent_reason(point: DagPoint) -> Reason
         DagPoint::Valid(_) => Reason::NoReason,
         DagPoint::TransInvalid(_, _, _) => Reason::NoReason,
         DagPoint::Invalid(_, _) => Reason::NoReason,
-        DagPoint::IllFormed(id, n) => Reason::Reason(InvalidReason::DepIllFormed(id, n)),
+        DagPoint::IllFormed(id, n) => Reason::Reason(InvalidReason::DepIllFormed {
+            dependency: id,
+            reason: n,
+        }),
         DagPoint::NotFound(id) => Reason::Reason(InvalidReason::DepNotFound(id)),
         DagPoint::Dropped => Reason::NoReason,
     }

@@ -103,7 +103,10 @@ fn check_trigger_proof(p: PointView, q: DepView, is_target: bool) -> Reason
     if point::is_same_id(target, bound) {
         return Reason::NoReason;
     }
-    Reason::Reason(InvalidReason::TriggerProofMismatch(id, is_target))
+    Reason::Reason(InvalidReason::TriggerProofMismatch {
+        dependency: id,
+        is_target,
+    })
 }
 
 // The dependency's time may exceed the point's by the clock skew only.
@@ -131,7 +134,10 @@ fn check_newer(role: AnchorStageRole, p: PointView, q: DepView) -> Reason
     if top.round <= target.round {
         return Reason::NoReason;
     }
-    Reason::Reason(InvalidReason::NewerAnchorInDependency(role, id))
+    Reason::Reason(InvalidReason::NewerAnchorInDependency {
+        role,
+        dependency: id,
+    })
 }
 
 fn prev_seq_no(role: PointRole) -> PrevSeqNo
@@ -169,7 +175,11 @@ fn check_seq_no(conf: Settings, seq_no: u8, q: DepView) -> Reason
             return Reason::NoReason;
         }
     }
-    Reason::Reason(InvalidReason::BadStickySequence(id, prev, seq_no))
+    Reason::Reason(InvalidReason::BadStickySequence {
+        dependency: id,
+        prev_seq_no: prev,
+        seq_no,
+    })
 }
 
 fn check_sticky(conf: Settings, role: PointRole, q: DepView) -> Reason
@@ -206,7 +216,10 @@ fn check_target(conf: Settings, role: AnchorStageRole, p: PointView, q: DepView)
     }
     let dep_role = q.role;
     if !dep_role.is_anchor_stage(role) {
-        return Reason::Reason(InvalidReason::AnchorLink(role, id));
+        return Reason::Reason(InvalidReason::AnchorLink {
+            role,
+            dependency: id,
+        });
     }
     check_reached(conf, role, p, q)
 }
@@ -256,7 +269,10 @@ fn check_source(role: AnchorStageRole, p: PointView, q: DepView) -> Reason
     if point::is_same_id(q.top(role), links.target) {
         return Reason::NoReason;
     }
-    Reason::Reason(InvalidReason::AnchorLinkBadPath(role, id))
+    Reason::Reason(InvalidReason::AnchorLinkBadPath {
+        role,
+        dependency: id,
+    })
 }
 
 // The rules on both links of a point.
@@ -328,7 +344,10 @@ pub fn check_indirect(conf: Settings, role: AnchorStageRole, p: PointView, q: De
     let id = q.id;
     let dep_role = q.role;
     if !dep_role.is_anchor_stage(role) {
-        return Reason::Reason(InvalidReason::AnchorLinkRole(role, id));
+        return Reason::Reason(InvalidReason::AnchorLinkRole {
+            role,
+            dependency: id,
+        });
     }
     let carried = check_inherited(role, p, q);
     let Reason::NoReason = carried else {

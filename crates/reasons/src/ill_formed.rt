@@ -10,7 +10,10 @@ pub enum StructureIssue {
     BadGenesisPrevPoint,
     AuthorInMap(PointMap),
     TriggerBadProofLink,
-    Link(AnchorStageRole, PointMap),
+    Link {
+        role: AnchorStageRole,
+        map: PointMap,
+    },
     AnchorTime,
     NoPrevPoint,
 }
@@ -28,9 +31,16 @@ pub enum IllFormedReason {
     BadLastStickyFlag,
     LinksAcrossGenesis,
     MustBeEmpty(PointMap),
-    UnknownPeers(u8, PointMap),
+    UnknownPeers {
+        unknown: u8,
+        map: PointMap,
+    },
     UnknownPeerInAnchorLink(AnchorStageRole),
-    LackOfPeers(u8, PeerCount, PointMap),
+    LackOfPeers {
+        len: u8,
+        total: PeerCount,
+        map: PointMap,
+    },
     NotRegular,
     BadWaveLink(bool),
 }
@@ -86,9 +96,9 @@ impl IllFormedReason {
             IllFormedReason::BadLastStickyFlag => 9,
             IllFormedReason::LinksAcrossGenesis => 10,
             IllFormedReason::MustBeEmpty(_) => 11,
-            IllFormedReason::UnknownPeers(_, _) => 12,
+            IllFormedReason::UnknownPeers { .. } => 12,
             IllFormedReason::UnknownPeerInAnchorLink(_) => 13,
-            IllFormedReason::LackOfPeers(_, _, _) => 14,
+            IllFormedReason::LackOfPeers { .. } => 14,
             IllFormedReason::NotRegular => 15,
             IllFormedReason::BadWaveLink(_) => 16,
         }

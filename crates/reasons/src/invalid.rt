@@ -26,13 +26,35 @@ pub enum InvalidReason {
     MustHaveReferencedPrevPoint(PointId),
     MustHaveSkippedRound(PointId),
     DependencyTimeTooFarInFuture(PointId),
-    NewerAnchorInDependency(AnchorStageRole, PointId),
-    AnchorLink(AnchorStageRole, PointId),
-    AnchorLinkRole(AnchorStageRole, PointId),
-    AnchorLinkBadPath(AnchorStageRole, PointId),
-    BadStickySequence(PointId, PrevSeqNo, u8),
-    TriggerProofMismatch(PointId, bool),
-    DepIllFormed(PointId, u8),
+    NewerAnchorInDependency {
+        role: AnchorStageRole,
+        dependency: PointId,
+    },
+    AnchorLink {
+        role: AnchorStageRole,
+        dependency: PointId,
+    },
+    AnchorLinkRole {
+        role: AnchorStageRole,
+        dependency: PointId,
+    },
+    AnchorLinkBadPath {
+        role: AnchorStageRole,
+        dependency: PointId,
+    },
+    BadStickySequence {
+        dependency: PointId,
+        prev_seq_no: PrevSeqNo,
+        seq_no: u8,
+    },
+    TriggerProofMismatch {
+        dependency: PointId,
+        is_target: bool,
+    },
+    DepIllFormed {
+        dependency: PointId,
+        reason: u8,
+    },
     DepNotFound(PointId),
 }
 
@@ -65,13 +87,13 @@ impl InvalidReason {
             InvalidReason::MustHaveReferencedPrevPoint(_) => 9,
             InvalidReason::MustHaveSkippedRound(_) => 10,
             InvalidReason::DependencyTimeTooFarInFuture(_) => 11,
-            InvalidReason::NewerAnchorInDependency(_, _) => 12,
-            InvalidReason::AnchorLink(_, _) => 13,
-            InvalidReason::AnchorLinkRole(_, _) => 14,
-            InvalidReason::AnchorLinkBadPath(_, _) => 15,
-            InvalidReason::BadStickySequence(_, _, _) => 16,
-            InvalidReason::TriggerProofMismatch(_, _) => 17,
-            InvalidReason::DepIllFormed(_, _) => 18,
+            InvalidReason::NewerAnchorInDependency { .. } => 12,
+            InvalidReason::AnchorLink { .. } => 13,
+            InvalidReason::AnchorLinkRole { .. } => 14,
+            InvalidReason::AnchorLinkBadPath { .. } => 15,
+            InvalidReason::BadStickySequence { .. } => 16,
+            InvalidReason::TriggerProofMismatch { .. } => 17,
+            InvalidReason::DepIllFormed { .. } => 18,
             InvalidReason::DepNotFound(_) => 19,
         }
     }

@@ -75,6 +75,10 @@ module _ (row : Row) (s : List ℕ) (at : ℕ) where
   unfolding fieldOk
   field-last h t l g = simp (le-leb _ _ h, eq-eqb _ _ t, le-leb _ _ l, le-leb _ _ g)
 
+-- how many bytes a field of a fixed length takes, at the front
+pub field-length : (tag n : ℕ) (s : List ℕ) → fieldOk (fieldRow tag n n) s 0 ≡ true → 3 + n ≤ length s
+field-length tag n s h = let f = fitting (fieldRow tag n n) s 0 h in omega (arith, f .least, f .end)
+
 -- a number is at most what a length leaves a place exactly if it ends within the length
 pub room : (n l at : ℕ) → at ≤ l → leb n (l - at) ≡ leb (at + n) l
 room n l at h = elim (decLt l (at + n)) [

@@ -19,8 +19,8 @@ use Rattle.rules.specs.DagPoint.{DagPoint, Valid, TransInvalid, Invalid,
 use Rattle.rules.specs.List.{Listed}
 use Rattle.rules.specs.Validate.{asDependency, asPrevPoint, asVersion, aside, takenOwn, taken, recordOf, dependency, indirectFindings}
 use Rattle.rules.specs.AnyOrder.{IsOwn, IsGiven, IsCause, cameThrough, Brings}
-use Rattle.rules.proofs.Records.{takenAs, IsTaken, taken-record, record-taken}
-use Rattle.rules.proofs.Orders.{rootOf, targetRoot}
+use Rattle.rules.proofs.Records.{takenAs, IsTaken, targetRecord, taken-record, record-taken}
+use Rattle.rules.proofs.Orders.{rootOf}
 
 -- ---- a record is of an uncertified cause
 
@@ -95,7 +95,7 @@ module _ (p : PointInfo) (i : PointId) where
 module _ (c : Settings) (required : Bool) (p : PointInfo) where
   abbrev recordBy : Option AnchorStageRole → Entry → Option InvalidDependency
   recordBy none e = rootOf c required (pointView p) e
-  recordBy (some g) e = targetRoot c p (record { role = g; entry = e })
+  recordBy (some g) e = targetRecord c p (record { role = g; entry = e })
 
   abbrev pub recordFor : Listed → Option InvalidDependency
   recordFor x = recordBy (x .aim) (x .entry)

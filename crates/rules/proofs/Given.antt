@@ -43,7 +43,8 @@ use Rattle.rules.proofs.Pieces.{Step, list-zero, list-suc, after-indire
 use Rattle.rules.proofs.Halves.{recorded-apart}
 use Rattle.rules.proofs.Joined.{judging-records}
 use Rattle.rules.proofs.Greatest.{joinAll}
-use Rattle.rules.proofs.Orders.{rootOf, targetRoot, direct-row, indirect-row}
+use Rattle.rules.proofs.Records.{targetRecord}
+use Rattle.rules.proofs.Orders.{rootOf, direct-row, indirect-row}
 use Rattle.rules.proofs.Brought.{recordFor}
 
 -- ---- the verdict is that over the list
@@ -176,21 +177,21 @@ read-ordered s l h = list-ordered 65535 false s l h
 
 module _ (c : Settings) (required : Bool) (p : PointInfo) where
   one-row : (l : List Listed) (old : Option InvalidDependency) → Ordered l →
-      joinAll (targetRoot c p) (joinAll (rootOf c required (pointView p)) old (directs l)) (indirects l) ≡ joinAll (recordFor c required p) old l
+      joinAll (targetRecord c p) (joinAll (rootOf c required (pointView p)) old (directs l)) (indirects l) ≡ joinAll (recordFor c required p) old l
   unfolding joinAll directs indirects
   one-row [] old h = refl
   one-row (x ∷ l) old h = go (x .aim) refl (λ o. one-row l o (h .1))
     where
       go : (a : Option AnchorStageRole) → x .aim ≡ a →
-          ((o : Option InvalidDependency) → joinAll (targetRoot c p) (joinAll (rootOf c required (pointView p)) o (directs l)) (indirects l) ≡ joinAll (recordFor c required p) o l) →
-          joinAll (targetRoot c p)
+          ((o : Option InvalidDependency) → joinAll (targetRecord c p) (joinAll (rootOf c required (pointView p)) o (directs l)) (indirects l) ≡ joinAll (recordFor c required p) o l) →
+          joinAll (targetRecord c p)
           (joinAll (rootOf c required (pointView p)) old (pick (isSome (x .aim)) (directs l) (x .entry ∷ directs l)))
           (Option·getD (Option·map (λ g. record { role = g; entry = x .entry } ∷ indirects l) (x .aim)) (indirects l))
           ≡ joinAll (recordFor c required p) (join old (recordFor c required p x)) l
       go none e f = rw e (f (join old (rootOf c required (pointView p) (x .entry))))
       go (some g) e f =
           let n : directs l ≡ [] = h .0 (ap isSome e) in
-          let r = f (join old (targetRoot c p (record { role = g; entry = x .entry }))) in
+          let r = f (join old (targetRecord c p (record { role = g; entry = x .entry }))) in
           rw (e, n) (rw n at r)
 
   recorded-row : (l : List Listed) → directTrail c required (pointView p) false (directs l) ≡ [] → Ordered l →
@@ -200,7 +201,7 @@ module _ (c : Settings) (required : Bool) (p : PointInfo) where
       recorded-apart c required p l
       ∙ ap (λ (t : List InvalidReason). pick (isEmpty t) (indirectRecord c p root (indirects l)) root) n
       ∙ indirect-row c p (indirects l) root
-      ∙ ap (λ (q : Option InvalidDependency). joinAll (targetRoot c p) q (indirects l)) (direct-row c required (pointView p) (directs l) none n)
+      ∙ ap (λ (q : Option InvalidDependency). joinAll (targetRecord c p) q (indirects l)) (direct-row c required (pointView p) (directs l) none n)
       ∙ one-row l none h
 
 -- the verdict of a given order is that of the row's record

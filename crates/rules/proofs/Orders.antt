@@ -14,12 +14,13 @@ use Rattle.schedule.specs.Settings.{Settings}
 use Rattle.reasons.specs.Invalid.{InvalidReason, NoRoundInDag, DependencyRoundDropped, InvalidDependency}
 use Rattle.reasons.specs.Verdict as verdict
 use Rattle.rules.specs.DagPoint.{Entry, IndirectEntry, isDropped, PointView, pointView}
-use Rattle.rules.specs.Validate.{join, entryFindings, indirectFindings, resultWith, overLists, validate}
+use Rattle.rules.specs.Validate.{join, dependency, entryFindings, indirectFindings, resultWith, overLists, validate}
 use Rattle.rules.specs.Mismatch.{mismatch, uncovered}
 use Rattle.rules.specs.Judge.{JudgeAnswer, Number, Given, overEntries}
 use Rattle.rules.specs.AnyOrder.{Alike}
 use Rattle.rules.proofs.Joins.{rankOf}
 use Rattle.rules.proofs.Folds.{directTrail, directRecord, indirectTrail, indirectRecord, lists-apart}
+use Rattle.rules.proofs.Records.{targetRecord}
 use Rattle.rules.proofs.Perms.{all, all-perm}
 use Rattle.rules.proofs.Places.{mismatch-perm, uncovered-perm}
 use Rattle.rules.proofs.Greatest.{joinAll, greatest, all-rank, greatest-perm, same-rank, rank-some}
@@ -28,9 +29,6 @@ use Rattle.rules.proofs.Greatest.{joinAll, greatest, all-rank, greatest
 
 abbrev pub rootOf : Settings → Bool → PointView → Entry → Option InvalidDependency
 rootOf c required v e = entryFindings c required v e .root
-
-abbrev pub targetRoot : Settings → PointInfo → IndirectEntry → Option InvalidDependency
-targetRoot c p a = indirectFindings c p a .root
 
 module _ (c : Settings) (required : Bool) (v : PointView) where
   abbrev quiet : Entry → Bool
@@ -76,10 +74,10 @@ module _ (c : Settings) (p : PointInfo) where
       go [] h = h
       go (r ∷ t) h = refl
 
-  pub indirect-row : (ts : List IndirectEntry) (old : Option InvalidDependency) → indirectRecord c p old ts ≡ joinAll (targetRoot c p) old ts
-  unfolding indirectRecord joinAll
+  pub indirect-row : (ts : List IndirectEntry) (old : Option InvalidDependency) → indirectRecord c p old ts ≡ joinAll (targetRecord c p) old ts
+  unfolding indirectRecord indirectFindings dependency joinAll
   indirect-row [] old = refl
-  indirect-row (a ∷ l) old = indirect-row l (join old (targetRoot c p a))
+  indirect-row (a ∷ l) old = indirect-row l (join old (targetRecord c p a))
 
 -- ---- verdicts that are alike
 
@@ -136,11 +134,11 @@ module _ (c : Settings) (required : Bool) (p : PointInfo) where
   silent es ts = both-empty (directTrail c required (pointView p) false es) (indirectTrail c p ts) ∙ rw (direct-quiet c required (pointView p) es, indirect-quiet c p ts)
 
   lists-rank : (es : List Entry) (ts : List IndirectEntry) → isEmpty (reasons es ts) ≡ true →
-      rankOf (recordedOver es ts) ≡ max (max (rankOf none) (greatest (rootOf c required (pointView p)) es)) (greatest (targetRoot c p) ts)
+      rankOf (recordedOver es ts) ≡ max (max (rankOf none) (greatest (rootOf c required (pointView p)) es)) (greatest (targetRecord c p) ts)
   lists-rank es ts h =
       ap rankOf (indirect-row c p ts (directRecord c required (pointView p) none es))
-      ∙ all-rank (targetRoot c p) (directRecord c required (pointView p) none es) ts
-      ∙ ap (λ (n : ℕ). max n (greatest (targetRoot c p) ts))
+      ∙ all-rank (targetRecord c p) (directRecord c required (pointView p) none es) ts
+      ∙ ap (λ (n : ℕ). max n (greatest (targetRecord c p) ts))
       (ap rankOf (direct-row c required (pointView p) es none (first-empty _ _ h)) ∙ all-rank (rootOf c required (pointView p)) none es)
 
   module _ {es es′ : List Entry} {ts ts′ : List IndirectEntry} (d : List·Permᴰ es es′) (g : List·Permᴰ ts ts′) where
@@ -152,7 +150,7 @@ module _ (c : Settings) (required : Bool) (p : PointInfo) where
         rw (lists-apart c p ts required es, lists-apart c p ts′ required es′)
         (result-alike (reasons es ts) (reasons es′ ts′) (recordedOver es ts) (recordedOver es′ ts′) silent-perm (λ h.
         lists-rank es ts h
-        ∙ rw (greatest-perm (rootOf c required (pointView p)) d, greatest-perm (targetRoot c p) g) (sym (lists-rank es′ ts′ (sym silent-perm ∙ h)))))
+        ∙ rw (greatest-perm (rootOf c required (pointView p)) d, greatest-perm (targetRecord c p) g) (sym (lists-rank es′ ts′ (sym silent-perm ∙ h)))))
 
     validate-alike : (presence : ℕ) → Alike (Given (validate c required presence p es ts)) (Given (validate c required presence p es′ ts′))
     unfolding validate

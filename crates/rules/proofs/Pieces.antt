@@ -17,7 +17,7 @@ use Rattle.base.proofs.Option.{none-some, picked, and-then}
 use Rattle.parts.specs.Bytes.{bytesAt, littleAt, bigAt}
 use Rattle.record.specs.Record.{fieldRow, fieldOk, recordEnd}
 use Rattle.parts.proofs.Laws.{part-front}
-use Rattle.record.proofs.Laws.{Agree, fitting, field-same, end-same, end-within, front-agrees, append-agrees}
+use Rattle.record.proofs.Laws.{Agree, fitting, field-length, field-same, end-same, end-within, front-agrees, append-agrees}
 use Rattle.point.specs.Point.{PointId, PointInfo}
 use Rattle.point.specs.Reading.{pointIdAt, readPoint}
 use Rattle.point.specs.declared.data.AnchorStageRole.{AnchorStageRole}
@@ -51,9 +51,6 @@ module _ (e : ℕ) (s t : List ℕ) (a : Agree e s t) where
 
   field-alike : (tag n : ℕ) → fieldOk (fieldRow tag n n) s 0 ≡ true → 3 + n ≤ e → fieldOk (fieldRow tag n n) t 0 ≡ true
   field-alike tag n h k = let f = fitting (fieldRow tag n n) s 0 h in field-same e s t a 0 (omega (arith, f .greatest)) (fieldRow tag n n) f
-
-field-length : (tag n : ℕ) (s : List ℕ) → fieldOk (fieldRow tag n n) s 0 ≡ true → 3 + n ≤ length s
-field-length tag n s h = let f = fitting (fieldRow tag n n) s 0 h in omega (arith, f .least, f .end)
 
 -- ---- what stands after tag 16
 
@@ -105,7 +102,7 @@ id-at state s x h =
     let e : 71 ≡ x .size = ap (λ (z : Stated). z .size) (Option·some-injective _ _ (k .1)) in
     (omega arith, λ t a. rw (field-alike (x .size) s t a 17 68 (k .0) (omega arith), id-alike (x .size) s t a (omega arith)) (k .1))
 
-root-length : (s : List ℕ) → isRoot s ≡ true → 72 ≤ length s
+pub root-length : (s : List ℕ) → isRoot s ≡ true → 72 ≤ length s
 unfolding isRoot
 root-length s h = field-length 18 69 s (and-left (fieldOk (fieldRow 18 69 69) s 0) _ h)
 

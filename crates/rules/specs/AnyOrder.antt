@@ -20,6 +20,7 @@ use Rattle.rules.specs.Validate.{directThrough}
 use Rattle.rules.specs.Judge.{JudgeAnswer, Number, Given}
 use Rattle.rules.specs.Passed.{hasReason}
 use Rattle.rules.specs.Told.{Call, judged}
+use Rattle.rules.specs.Joined.{Newer}
 
 -- ---- "the same direct and indirect entries, each kind in any order"
 
@@ -108,9 +109,7 @@ NoneBrings c p l = (x : Listed) (d : InvalidDependency) → List·Memᴰ x l →
 
 -- "by root round, then by having a DAG round"
 abbrev pub Greater : InvalidDependency → InvalidDependency → Type 0
-Greater d e =
-    (e .to .round < d .to .round)
-    ⊎ ((e .to .round ≡ d .to .round) × (hasDagRound (e .reason) ≡ false) × (hasDagRound (d .reason) ≡ true))
+Greater d e = Newer e d
 
 -- "the earliest of the greatest": an entry brings it, what the entries before bring is less, and none after brings a greater one
 pub record Earliest (c : Settings) (p : PointInfo) (l : List Listed) (d : InvalidDependency) : Type 0 where

@@ -170,8 +170,8 @@ fn unreadable() -> ReadSchedule
 
 // The schedule of a slice that holds one and nothing after it.
 pub fn read_schedule(s: &[u8]) -> ReadSchedule
-    ensures { λ r. ⌜ readScheduleOf (now (s .entry)) r ≡ readSchedule (now (s .entry)) ⌝ }
-    ensures { λ r. ⌜ Handed (now (s .entry)) r ⌝ }
+    ensures same { λ r. ⌜ readScheduleOf (now (s .entry)) r ≡ readSchedule (now (s .entry)) ⌝ }
+    ensures handed { λ r. ⌜ Handed (now (s .entry)) r ⌝ }
 {
     let read = read_spans(s);
     let spans = read.spans;
@@ -227,8 +227,8 @@ fn part(s: &[u8], at: usize, n: usize) -> &[u8]
 
 // The peers of a round, as a part of the schedule's bytes.
 pub fn peers_for(s: &[u8], c: Schedule, round: u32) -> &[u8]
-    ensures { λ r. ⌜ peersOf 32 (now r) ≡ peersFor (scheduleOf (now (s .entry)) c) round ⌝ }
-    ensures { λ r. ⌜ now r ≡ peerBytes (now (s .entry)) c round ⌝ }
+    ensures same { λ r. ⌜ peersOf 32 (now r) ≡ peersFor (scheduleOf (now (s .entry)) c) round ⌝ }
+    ensures bytes { λ r. ⌜ now r ≡ peerBytes (now (s .entry)) c round ⌝ }
 {
     let index = span_for(c, round);
     match index {

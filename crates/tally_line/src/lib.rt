@@ -30,8 +30,8 @@ fn put_byte(out: &mut [u8], at: usize, x: u8) -> usize
 // Writes a number at a place, and says where it ends.
 fn put_decimal(out: &mut [u8], at: usize, n: u64) -> usize
     requires { ⌜ at + 20 ≤ length (now out) ⌝ }
-    ensures { λ r. ⌜ Put (now (out .entry)) at (decimal n) (now (out .exit)) r ⌝ }
-    ensures { λ r. ⌜ r ≤ at + 20 ⌝ }
+    ensures put { λ r. ⌜ Put (now (out .entry)) at (decimal n) (now (out .exit)) r ⌝ }
+    ensures within { λ r. ⌜ r ≤ at + 20 ⌝ }
 {
     let mut digits = [0u8; 20];
     let k = io::decimal(n, &mut digits);
@@ -42,8 +42,8 @@ fn put_decimal(out: &mut [u8], at: usize, n: u64) -> usize
 // The same, with a byte after it.
 fn put_number(out: &mut [u8], at: usize, n: u64, after: u8) -> usize
     requires { ⌜ at + 21 ≤ length (now out) ⌝ }
-    ensures { λ r. ⌜ Put (now (out .entry)) at (decimal n ++ (after ∷ [])) (now (out .exit)) r ⌝ }
-    ensures { λ r. ⌜ r ≤ at + 21 ⌝ }
+    ensures put { λ r. ⌜ Put (now (out .entry)) at (decimal n ++ (after ∷ [])) (now (out .exit)) r ⌝ }
+    ensures within { λ r. ⌜ r ≤ at + 21 ⌝ }
 {
     let end = put_decimal(out, at, n);
     put_byte(out, end, after)
@@ -60,8 +60,8 @@ fn put_letter(out: &mut [u8], at: usize, letter: u8) -> usize
 
 // Writes a line's bytes at the front, and says how many they are.
 pub fn line_bytes(line: Line, out: &mut [u8; LONGEST]) -> usize
-    ensures { λ r. ⌜ Put (now (out .entry)) 0 (lineBytes line) (now (out .exit)) r ⌝ }
-    ensures { λ r. ⌜ Counts r (now (out .exit)) ⌝ }
+    ensures put { λ r. ⌜ Put (now (out .entry)) 0 (lineBytes line) (now (out .exit)) r ⌝ }
+    ensures counts { λ r. ⌜ Counts r (now (out .exit)) ⌝ }
 {
     let place_end = put_number(out, 0, line.place, b' ');
     let round_end = put_number(out, place_end, line.round as u64, b' ');
@@ -72,8 +72,8 @@ pub fn line_bytes(line: Line, out: &mut [u8; LONGEST]) -> usize
 
 // The same of the last line, `end` and the kept count.
 pub fn end_bytes(kept: u64, out: &mut [u8; LONGEST]) -> usize
-    ensures { λ r. ⌜ Put (now (out .entry)) 0 (endBytes kept) (now (out .exit)) r ⌝ }
-    ensures { λ r. ⌜ Counts r (now (out .exit)) ⌝ }
+    ensures put { λ r. ⌜ Put (now (out .entry)) 0 (endBytes kept) (now (out .exit)) r ⌝ }
+    ensures counts { λ r. ⌜ Counts r (now (out .exit)) ⌝ }
 {
     write::put_slice(out, 0, b"end ");
     put_number(out, 4, kept, b'\n')

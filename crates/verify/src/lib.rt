@@ -32,8 +32,8 @@ pub fn verify_point(
     requires { ⌜ readSchedule (now schedule) ≡ some (scheduleOf (now schedule) spans) ⌝ }
     requires { ⌜ Reads (now rec) info ⌝ }
     requires { ⌜ peersRoom ≤ length (now peers) ⌝ }
-    ensures { λ r. ⌜ verifiedOf r ≡ verify (settingsOf conf) (scheduleOf (now (schedule .entry)) spans) (pointOf (now (rec .entry)) info) ⌝ }
-    ensures { λ r. ⌜ BufferAfter conf (now (schedule .entry)) spans (now (rec .entry)) info (verifiedOf r) (now (peers .entry)) (now (peers .exit)) ⌝ }
+    ensures same { λ r. ⌜ verifiedOf r ≡ verify (settingsOf conf) (scheduleOf (now (schedule .entry)) spans) (pointOf (now (rec .entry)) info) ⌝ }
+    ensures buffer { λ r. ⌜ BufferAfter conf (now (schedule .entry)) spans (now (rec .entry)) info (verifiedOf r) (now (peers .entry)) (now (peers .exit)) ⌝ }
 {
     let new = verify_new::check_new(conf, schedule, spans, rec, info);
     let Verified::Passed = new else {
@@ -48,8 +48,8 @@ pub fn verify_point(
 
 // Numbers 1 to 5 in number order, then the verdict.
 pub fn verify(settings: &[u8], schedule: &[u8], rec: &[u8], peers: &mut [u8]) -> VerifyAnswer
-    ensures { λ r. ⌜ r ≡ verifyWith (tested (now (settings .entry)) (now (schedule .entry)) (now (rec .entry)) true (length (now (peers .entry)))) ⌝ }
-    ensures { λ r. ⌜ now (peers .exit) ≡ verifyBuffer
+    ensures same { λ r. ⌜ r ≡ verifyWith (tested (now (settings .entry)) (now (schedule .entry)) (now (rec .entry)) true (length (now (peers .entry)))) ⌝ }
+    ensures buffer { λ r. ⌜ now (peers .exit) ≡ verifyBuffer
         (tested (now (settings .entry)) (now (schedule .entry)) (now (rec .entry)) true (length (now (peers .entry)))) (now (peers .entry)) ⌝ }
 {
     let ReadSettings::Settings(conf) = schedule::read_settings(settings) else {

@@ -59,12 +59,19 @@ fn check_evidence_peers(
     }
     let unknown = verify_unknown::unknown_peers(evidence, 32, known, peers);
     if 0 < unknown {
-        let reason = IllFormedReason::UnknownPeers(unknown as u8, PointMap::Evidence);
+        let reason = IllFormedReason::UnknownPeers {
+            unknown: unknown as u8,
+            map: PointMap::Evidence,
+        };
         return Verified::Failed(VerifyError::IllFormed(reason));
     }
     let total = one_f(map::count(known, 32));
     if len < total.majority_of_others() {
-        let reason = IllFormedReason::LackOfPeers(len as u8, total, PointMap::Evidence);
+        let reason = IllFormedReason::LackOfPeers {
+            len: len as u8,
+            total,
+            map: PointMap::Evidence,
+        };
         return Verified::Failed(VerifyError::IllFormed(reason));
     }
     Verified::Passed
@@ -83,13 +90,20 @@ fn check_includes_peers(rec: &[u8], info: PointInfo, known: &[u8], peers: &mut [
     let includes = point::includes(rec, info);
     let unknown = verify_unknown::unknown_peers(includes, 64, known, peers);
     if 0 < unknown {
-        let reason = IllFormedReason::UnknownPeers(unknown as u8, PointMap::Includes);
+        let reason = IllFormedReason::UnknownPeers {
+            unknown: unknown as u8,
+            map: PointMap::Includes,
+        };
         return Verified::Failed(VerifyError::IllFormed(reason));
     }
     let len = map::count(includes, 64);
     let total = one_f(map::count(known, 32));
     if len < total.majority() {
-        let reason = IllFormedReason::LackOfPeers(len as u8, total, PointMap::Includes);
+        let reason = IllFormedReason::LackOfPeers {
+            len: len as u8,
+            total,
+            map: PointMap::Includes,
+        };
         return Verified::Failed(VerifyError::IllFormed(reason));
     }
     Verified::Passed
@@ -121,7 +135,10 @@ fn check_witness_peers(
     }
     let unknown = verify_unknown::unknown_peers(witness, 64, known, peers);
     if 0 < unknown {
-        let reason = IllFormedReason::UnknownPeers(unknown as u8, PointMap::Witness);
+        let reason = IllFormedReason::UnknownPeers {
+            unknown: unknown as u8,
+            map: PointMap::Witness,
+        };
         return Verified::Failed(VerifyError::IllFormed(reason));
     }
     Verified::Passed
@@ -148,8 +165,8 @@ pub fn check_peers(
     requires { ⌜ readSchedule (now schedule) ≡ some (scheduleOf (now schedule) spans) ⌝ }
     requires { ⌜ Reads (now rec) info ⌝ }
     requires { ⌜ peersRoom ≤ length (now peers) ⌝ }
-    ensures { λ r. ⌜ PeersChecked conf (now (schedule .entry)) spans (now (rec .entry)) info (verifiedOf r) ⌝ }
-    ensures { λ r. ⌜ BufferAfter conf (now (schedule .entry)) spans (now (rec .entry)) info (verifiedOf r) (now (peers .entry)) (now (peers .exit)) ⌝ }
+    ensures checked { λ r. ⌜ PeersChecked conf (now (schedule .entry)) spans (now (rec .entry)) info (verifiedOf r) ⌝ }
+    ensures buffer { λ r. ⌜ BufferAfter conf (now (schedule .entry)) spans (now (rec .entry)) info (verifiedOf r) (now (peers .entry)) (now (peers .exit)) ⌝ }
 {
     let id = info.id;
     let round = id.round;

@@ -28,8 +28,8 @@ pub fn unknown_peers(rows: &[u8], width: usize, scheduled: &[u8], out: &mut [u8]
     requires { ⌜ rising (peersOf width (now rows)) ≡ true ⌝ }
     requires { ⌜ rising (peersOf 32 (now scheduled)) ≡ true ⌝ }
     requires { ⌜ 32 * length (peersOf width (now rows)) ≤ length (now out) ⌝ }
-    ensures { λ r. ⌜ r ≡ length (unknownIn (peersOf 32 (now (scheduled .entry))) (peersOf width (now (rows .entry)))) ⌝ }
-    ensures { λ r. ⌜ now (out .exit) ≡ putAt (now (out .entry)) 0
+    ensures count { λ r. ⌜ r ≡ length (unknownIn (peersOf 32 (now (scheduled .entry))) (peersOf width (now (rows .entry)))) ⌝ }
+    ensures written { λ r. ⌜ now (out .exit) ≡ putAt (now (out .entry)) 0
         (peerBytes (unknownIn (peersOf 32 (now (scheduled .entry))) (peersOf width (now (rows .entry))))) ⌝ }
 {
     let n = map::count(rows, width);

@@ -198,12 +198,18 @@ fn check_links(rec: &[u8], info: PointInfo) -> Checked
     let proof = info.anchor_proof;
     if is_bad_link(rec, info, proof) {
         let map = point_map(proof.through());
-        return Checked::Issue(StructureIssue::Link(AnchorStageRole::Proof, map));
+        return Checked::Issue(StructureIssue::Link {
+            role: AnchorStageRole::Proof,
+            map,
+        });
     }
     let trigger = info.anchor_trigger;
     if is_bad_link(rec, info, trigger) {
         let map = point_map(trigger.through());
-        return Checked::Issue(StructureIssue::Link(AnchorStageRole::Trigger, map));
+        return Checked::Issue(StructureIssue::Link {
+            role: AnchorStageRole::Trigger,
+            map,
+        });
     }
     if info.time <= info.anchor_time {
         return Checked::Issue(StructureIssue::AnchorTime);

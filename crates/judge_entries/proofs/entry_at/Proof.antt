@@ -11,9 +11,10 @@ use borrow.Author.Needs.{needs}
 use borrow.Author.Tests.{not-true, not-false}
 use Rattle.base.proofs.Lists.{rest}
 use Rattle.record.specs.Record.{fieldRow, fieldOk}
+use Rattle.record.proofs.Laws.{field-length}
 use Rattle.rules.specs.List.{readState, entryAt}
 use Rattle.judge_entries.specs.Code.{aimOf, readStatedOf}
-use Rattle.judge_entries.proofs.Laws.{fixed, entry-unfit, entry-certified, entry-first, entry-flagged, listedAs, listed-none, listed-some, listed-placed, placed-stated}
+use Rattle.judge_entries.proofs.Laws.{entry-unfit, entry-certified, entry-first, entry-flagged, listedAs, listed-none, listed-some, listed-placed, placed-stated}
 use Rattle.judge_entries.proofs.entry_at.Statement.{statement}
 use Rattle.judge_entries.proofs.entry_at.Tie as tie
 
@@ -24,7 +25,7 @@ fits : (c : tie.Else1) → fieldOk (fieldRow 16 4 4) (slice c) 0 ≡ true
 fits c = sym (c .before .field-ok .ensures) ∙ not-false _ (c .if1 .left)
 
 long : (c : tie.Else1) → 7 ≤ length (slice c)
-long c = fixed 16 4 (slice c) (fits c)
+long c = field-length 16 4 (slice c) (fits c)
 
 -- past the flags
 abbrev flags : tie.Else3 → tie.Else1
@@ -53,7 +54,7 @@ past c = c .before .before .before .before .before .before .before
 
 inside : (c : tie.After-known-told) →
     let x = c .before .x .given .0 .0 in
-    (x .place ≤ x .size) × (7 + x .size ≤ length (slice (flags (past c))))
+    (x .place ≤ x .end) × (7 + x .end ≤ length (slice (flags (past c))))
 inside c =
     let r = c .before .before .before in
     let x = c .before .x .given in

@@ -6,7 +6,8 @@ use denote.Ref.{now}
 use borrow.Author.Needs.{needs}
 use borrow.Author.Tests.{not-true, not-false}
 use Rattle.record.specs.Record.{fieldRow, fieldOk}
-use Rattle.judge_entries.proofs.Laws.{fixed, root-unfit, root-low, root-high, root-last}
+use Rattle.record.proofs.Laws.{field-length}
+use Rattle.judge_entries.proofs.Laws.{root-unfit, root-low, root-high, root-last}
 use Rattle.judge_entries.proofs.is_root.Statement.{statement}
 use Rattle.judge_entries.proofs.is_root.Tie as tie
 
@@ -20,7 +21,7 @@ returns : tie.Need-returns
 returns c = sym (root-unfit _ (sym (c .before .field-ok .ensures) ∙ not-true _ (c .if1 .taken)))
 
 u32-at-requires : tie.Need-u32-at-requires
-u32-at-requires c κs = omega (arith, fixed 18 69 (now (c .before .before .before .args .s)) (fits c))
+u32-at-requires c κs = omega (arith, field-length 18 69 (now (c .before .before .before .args .s)) (fits c))
 
 returns-2 : tie.Need-returns-2
 returns-2 c = sym (root-low _ (fits (c .before .before)) (c .before .u32-at .result) (c .before .u32-at .ensures) (omega (arith, c .if2 .taken)))
@@ -33,7 +34,7 @@ returns-3 c =
 shared-slice-read-is-reason : tie.Need-shared-slice-read-is-reason
 shared-slice-read-is-reason c =
     let e = c .before .before .before .before in
-    omega (arith, fixed 18 69 (now (e .before .before .before .args .s)) (fits e))
+    omega (arith, field-length 18 69 (now (e .before .before .before .args .s)) (fits e))
 
 is-reason-requires : tie.Need-is-reason-requires
 is-reason-requires c κs = search needs

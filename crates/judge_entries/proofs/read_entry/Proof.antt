@@ -10,7 +10,8 @@ use borrow.Author.Needs.{needs}
 use borrow.Author.Tests.{not-true, not-false}
 use Rattle.base.proofs.Lists.{rest}
 use Rattle.record.specs.Record.{fieldRow, fieldOk}
-use Rattle.judge_entries.proofs.Laws.{fixed, read-empty, read-direct, read-unfit, read-proof, read-trigger, read-roleless}
+use Rattle.record.proofs.Laws.{field-length}
+use Rattle.judge_entries.proofs.Laws.{read-empty, read-direct, read-unfit, read-proof, read-trigger, read-roleless}
 use Rattle.judge_entries.proofs.read_entry.Statement.{statement}
 use Rattle.judge_entries.proofs.read_entry.Tie as tie
 
@@ -21,7 +22,7 @@ fits : (c : tie.Else3) → fieldOk (fieldRow 19 1 1) (slice c) 0 ≡ true
 fits c = sym (c .before .field-ok .ensures) ∙ not-false _ (c .if3 .left)
 
 long : (c : tie.Else3) → 4 ≤ length (slice c)
-long c = fixed 19 1 (slice c) (fits c)
+long c = field-length 19 1 (slice c) (fits c)
 
 returns : tie.Need-returns
 returns c = (sym (read-empty _ (c .if1 .taken)), tt)

@@ -6,9 +6,10 @@ use denote.Ref.{now}
 use borrow.Author.Needs.{needs}
 use borrow.Author.Tests.{not-true, not-false}
 use Rattle.record.specs.Record.{fieldRow, fieldOk}
+use Rattle.record.proofs.Laws.{field-length}
 use Rattle.point.specs.Code.{pointIdOf}
 use Rattle.rules.specs.DagPoint.{IllFormed}
-use Rattle.judge_entries.proofs.Laws.{fixed, state-low, state-high, state-ill-formed, id-unfit, id-read}
+use Rattle.judge_entries.proofs.Laws.{state-low, state-high, state-ill-formed, id-unfit, id-read}
 use Rattle.judge_entries.proofs.read_ill_formed.Statement.{statement}
 use Rattle.judge_entries.proofs.read_ill_formed.Tie as tie
 
@@ -34,7 +35,7 @@ returns-3 c =
     )
 
 point-id-at-requires : tie.Need-point-id-at-requires
-point-id-at-requires c κs = fixed 17 68 (now (c .before .before .before .before .before .args .s)) (fits c)
+point-id-at-requires c κs = field-length 17 68 (now (c .before .before .before .before .before .args .s)) (fits c)
 
 returns-4 : tie.Need-returns-4
 returns-4 c =
@@ -42,7 +43,7 @@ returns-4 c =
     let a = e .before .before .before .args in (
       sym (state-ill-formed (now (a .s)) (a .reason) (e .before .if1 .left) (e .if2 .left)
           ∙ id-read (now (a .s)) (λ i. IllFormed i (a .reason)) (pointIdOf (c .point-id-at .result)) (c .point-id-at .ensures) (fits (c .before))),
-      record { ordered = omega arith; inside = fixed 17 68 (now (a .s)) (fits (c .before)); read = tt },
+      record { ordered = omega arith; inside = field-length 17 68 (now (a .s)) (fits (c .before)); read = tt },
     )
 
 pub read-ill-formed-spec : {M : Type 1} → statement M

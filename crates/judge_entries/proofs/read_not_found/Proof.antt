@@ -6,9 +6,10 @@ use denote.Ref.{now}
 use borrow.Author.Needs.{needs}
 use borrow.Author.Tests.{not-true, not-false}
 use Rattle.record.specs.Record.{fieldRow, fieldOk}
+use Rattle.record.proofs.Laws.{field-length}
 use Rattle.point.specs.Code.{pointIdOf}
 use Rattle.rules.specs.DagPoint.{NotFound}
-use Rattle.judge_entries.proofs.Laws.{fixed, state-not-found, id-unfit, id-read}
+use Rattle.judge_entries.proofs.Laws.{state-not-found, id-unfit, id-read}
 use Rattle.judge_entries.proofs.read_not_found.Statement.{statement}
 use Rattle.judge_entries.proofs.read_not_found.Tie as tie
 
@@ -24,13 +25,13 @@ returns c =
     (sym (state-not-found s ∙ id-unfit s NotFound (sym (c .before .field-ok .ensures) ∙ not-true _ (c .if1 .taken))), tt)
 
 point-id-at-requires : tie.Need-point-id-at-requires
-point-id-at-requires c κs = fixed 17 68 (now (c .before .before .before .args .s)) (fits c)
+point-id-at-requires c κs = field-length 17 68 (now (c .before .before .before .args .s)) (fits c)
 
 returns-2 : tie.Need-returns-2
 returns-2 c =
     let s = now (c .before .before .before .before .args .s) in (
       sym (state-not-found s ∙ id-read s NotFound (pointIdOf (c .point-id-at .result)) (c .point-id-at .ensures) (fits (c .before))),
-      record { ordered = omega arith; inside = fixed 17 68 s (fits (c .before)); read = tt },
+      record { ordered = omega arith; inside = field-length 17 68 s (fits (c .before)); read = tt },
     )
 
 pub read-not-found-spec : {M : Type 1} → statement M

@@ -12,7 +12,8 @@ use Rattle.base.proofs.Lists.{rest}
 use Rattle.point.specs.Code.{pointIdOf}
 use Rattle.rules.specs.DagPoint.{TransInvalid}
 use Rattle.rules.specs.List.{isRoot}
-use Rattle.judge_entries.proofs.Laws.{Back, root-within, state-rootless, state-trans, back-none, back}
+use Rattle.rules.proofs.Pieces.{root-length}
+use Rattle.judge_entries.proofs.Laws.{Back, state-rootless, state-trans, back-none, back}
 use Rattle.judge_entries.proofs.read_trans_invalid.Statement.{statement}
 use Rattle.judge_entries.proofs.read_trans_invalid.Tie as tie
 
@@ -23,7 +24,7 @@ rooted : (c : tie.Else1) → isRoot (slice c) ≡ true
 rooted c = sym (c .before .is-root .ensures) ∙ not-false _ (c .if1 .left)
 
 long : (c : tie.Else1) → 72 ≤ length (slice c)
-long c = root-within (slice c) (rooted c)
+long c = root-length (slice c) (rooted c)
 
 -- the record after the root cause
 read : (c : tie.After-known-told) →

@@ -81,14 +81,14 @@ read c =
     let l = loop-of r in
     ap readEntry (sym (rest (l .loop .at) (list l))) ∙ (sym (r .read-entry .ensures .0) ∙ ap (readListedOf (slice r)) (c .x .given .1))
 
-placed : (c : tie.After-x Inv-loop μ-loop) → (0 < entry c .size) × EntryPlaced (slice (read-of c)) (entry c .state) (entry c .place) (entry c .size)
+placed : (c : tie.After-x Inv-loop μ-loop) → (0 < entry c .end) × EntryPlaced (slice (read-of c)) (entry c .state) (entry c .place) (entry c .end)
 placed c =
     let r = read-of c in
     placed-listed (slice r) (entry c) (r .read-entry .result) (c .x .given .1) (r .read-entry .ensures .1)
 
 within : (c : tie.After-x Inv-loop μ-loop) →
     let l = loop-of (read-of c) in
-    (0 < entry c .size) × (l .loop .at + entry c .size ≤ length (list l))
+    (0 < entry c .end) × (l .loop .at + entry c .end ≤ length (list l))
 within c =
     let l = loop-of (read-of c) in
     let h = placed c in
@@ -105,15 +105,15 @@ goes : (t : tie.After-is-target Inv-loop μ-loop) (v : Walk) →
     let l = loop-of (read-of (x-of t)) in
     let x = entry (x-of t) in
     v ≡ walkStep (conf l) (start l .args .required) (point l) (walk l) (listed (x-of t)) →
-    (l .loop .at + x .size ≤ length (list l))
-    × (walkWith (conf l) (start l .args .required) (point l) v (listFrom (l .loop .left - 1) (t .is-target .result) (drop (l .loop .at + x .size) (list l)))
+    (l .loop .at + x .end ≤ length (list l))
+    × (walkWith (conf l) (start l .args .required) (point l) v (listFrom (l .loop .left - 1) (t .is-target .result) (drop (l .loop .at + x .end) (list l)))
     ≡ walkWith (conf l) (start l .args .required) (point l) walkStart (readList (list l)))
 goes t v e =
     let c = x-of t in
     let r = read-of c in
     let l = loop-of r in (
       within c .1,
-      goes-on (conf l) (start l .args .required) (point l) (walk l) v (l .loop .left) (l .loop .left - 1) (l .loop .indirect-seen) (t .is-target .result) (l .loop .at) (entry c .size) (list l) (listed c) _
+      goes-on (conf l) (start l .args .required) (point l) (walk l) v (l .loop .left) (l .loop .left - 1) (l .loop .indirect-seen) (t .is-target .result) (l .loop .at) (entry c .end) (list l) (listed c) _
           (r .before .before .before .loop-test .taken) (omega (arith, r .before .before .if1 .left)) (read c) (ordered t) (t .is-target .ensures) refl e (l .loop .inv .1),
     )
 
@@ -207,10 +207,10 @@ loop-again c =
     let k = x-of t in
     let l = loop-of (read-of k) in
     let x = entry k in
-    let s = partOf (slice (read-of k)) (x .place) (x .size) in
+    let s = partOf (slice (read-of k)) (x .place) (x .end) in
     let q = c .before .is-quiet .ensures (c .if3 .taken) in
     goes t (walk l)
-    (walked-quiet (conf l) (start l .args .required) (point l) (walk l) (aimOf (x .aim)) s (x .state) (x .certified) (x .«first_valid») (x .size) (q .0)
+    (walked-quiet (conf l) (start l .args .required) (point l) (walk l) (aimOf (x .aim)) s (x .state) (x .certified) (x .«first_valid») (x .end) (q .0)
     (passed (conf l) (point l .view) (l .before .quick-of .result) s (x .state) (l .before .quick-of .ensures) (placed k .1 .read) (q .1)))
 
 uncovers-requires : tie.Need-uncovers-requires Inv-loop μ-loop
@@ -238,7 +238,7 @@ loop-again-2 c =
     let x = entry k in
     goes t _
     (walked-nothing (conf l) (start l .args .required) (point l) (walk l) (listed k) (givesOf (g .listed-gives .result)) _ _ (g .listed-gives .ensures) (sym (c .before .gives-nothing .ensures) ∙ c .if4 .taken)
-    (u .uncovers .ensures (partOf (slice (read-of k)) (x .place) (x .size))) (g .before .either .ensures))
+    (u .uncovers .ensures (partOf (slice (read-of k)) (x .place) (x .end))) (g .before .either .ensures))
 
 with-listed-requires : tie.Need-with-listed-requires Inv-loop μ-loop
 with-listed-requires c κs = search needs
@@ -256,7 +256,7 @@ loop-again-3 c =
     let x = entry k in
     goes t _
     (walked-giving (conf l) (start l .args .required) (point l) (walk l) (listed k) (givesOf (g .listed-gives .result)) (t .is-target .result) _ _ (judgingOf (c .with-listed .result)) (g .listed-gives .ensures) (t .is-target .ensures) (c .with-listed .ensures)
-    (u .uncovers .ensures (partOf (slice (read-of k)) (x .place) (x .size))) (g .before .either .ensures))
+    (u .uncovers .ensures (partOf (slice (read-of k)) (x .place) (x .end))) (g .before .either .ensures))
 
 returns-4 : tie.Need-returns-4 Inv-loop μ-loop
 returns-4 c =

@@ -11,6 +11,7 @@ use borrow.Author.Tests.{not-true, not-false}
 use Rattle.base.specs.Base.{isSome}
 use Rattle.base.proofs.Lists.{up-to}
 use Rattle.base.proofs.Option.{some-of, unfound}
+use Rattle.parts.specs.Limits.{tag33Length}
 use Rattle.record.specs.Record.{fieldRow, fieldOk, wellShaped}
 use Rattle.record.specs.Code.{PlacesOf, Shaped}
 use Rattle.record.specs.declared.Shape.{Shape}
@@ -60,7 +61,7 @@ first c = c .before .before
 tagged : (c : tie.Else2) → let k = walked (first c) in fieldOk (fieldRow 33 105 105) (slice k) (end k) ≡ true
 tagged c = sym (c .before .field-ok .ensures) ∙ not-false _ (c .if2 .left)
 
-long : (c : tie.Else2) → let k = walked (first c) in end k + 108 ≤ length (slice k)
+long : (c : tie.Else2) → let k = walked (first c) in end k + tag33Length ≤ length (slice k)
 long c = let k = walked (first c) in tag-inside (end k) (slice k) (tagged c)
 
 read-shape-requires : tie.Need-read-shape-requires

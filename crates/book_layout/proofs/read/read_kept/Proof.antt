@@ -9,6 +9,7 @@ use lib.ListN.{length, take}
 use denote.Ref.{now}
 use borrow.Author.Tests.{not-true, not-false}
 use Rattle.base.proofs.Lists.{up-to}
+use Rattle.parts.specs.Limits.{tag33Length}
 use Rattle.record.specs.Record.{fieldRow, fieldOk, recordEnd}
 use Rattle.record.specs.Code.{endOf}
 use Rattle.record.proofs.Laws.{end-within, front-shaped}
@@ -46,7 +47,7 @@ read c = subst (PointRead (part (known c))) (c .before .info .given .1) (c .befo
 tagged : (c : tie.Else1) → let k = known (c .before .before) in fieldOk (fieldRow 33 105 105) (slice k) (end k) ≡ true
 tagged c = sym (c .before .field-ok .ensures) ∙ not-false _ (c .if1 .left)
 
-long : (c : tie.Else1) → let k = known (c .before .before) in end k + 108 ≤ length (slice k)
+long : (c : tie.Else1) → let k = known (c .before .before) in end k + tag33Length ≤ length (slice k)
 long c = let k = known (c .before .before) in tag-inside (end k) (slice k) (tagged c)
 
 record-end-requires : tie.Need-record-end-requires

@@ -1,16 +1,16 @@
 -- `note` meets its contract: the versions up to the place are the block, those after it are left (`Noting`).
-use Prim.Native.Nat.{ℕ, _-_}
+use Prim.Native.Nat.{_-_}
 use native.Mathlib.Omega.{arith}
-use mathlib.Core.Path.{_≡_, ap, sym, _∙_}
+use mathlib.Core.Path.{_∙_}
 use mathlib.Core.Bool.{true}
-use mathlib.Core.List.{List}
-use lib.ListN.{length, replicate, length-replicate}
+use lib.ListN.{length}
 use denote.Ref.{now}
 use borrow.Author.Needs.{needs}
 use Rattle.point.specs.Code.{pointIdOf}
 use Rattle.id_index.specs.Code.{countOf}
 use Rattle.judge_mismatch.specs.Code.{HasRoom}
 use Rattle.judge_mismatch.proofs.Heads.{reads-head}
+use Rattle.judge_mismatch.proofs.Laws.{same-room}
 use Rattle.judge_mismatch.proofs.Own.{Met, met, Noting, noting-start, noting-full, noting-end, noting-own, noting-other, room-there, room-not}
 use Rattle.judge_mismatch.proofs.versions.note.Statement.{statement}
 use Rattle.judge_mismatch.proofs.versions.note.Tie as tie
@@ -28,10 +28,6 @@ here : (c : tie.After-version-at Inv-loop μ-loop) →
 here c =
     let t = c .before .before in
     met _ _ _ _ (t .before .loop .inv .reads) (t .loop-test .taken) (c .version-at .ensures)
-
--- the index is as long as it was
-same-room : (entry : List ℕ) → entry ≡ replicate 16386 0 → 16386 ≡ length entry
-same-room entry z = sym (ap length z ∙ length-replicate {A = ℕ} 16386 0)
 
 room : (c : tie.Else2 Inv-loop μ-loop) → HasRoom (countOf (c .before .before .before .before .before .before .before .loop .index)) (c .before .before .before .before .before .before .before .loop .at) true
 room c = room-there _ _ (c .before .has-room .result) (c .before .has-room .ensures) (c .if2 .left)
@@ -55,7 +51,7 @@ has-room-requires : tie.Need-has-room-requires Inv-loop μ-loop
 has-room-requires c κs = c .before .before .before .before .before .loop .inv .noted .places .sized
 
 same-length : tie.Need-same-length Inv-loop μ-loop
-same-length c = let l = c .before .before .before .before .before .before .before in l .loop .inv .noted .places .sized ∙ same-room _ (l .before .before .before .pre .1)
+same-length c = let l = c .before .before .before .before .before .before .before in l .loop .inv .noted .places .sized ∙ same-room 16386 _ (l .before .before .before .pre .1)
 
 returns : tie.Need-returns Inv-loop μ-loop
 returns c = noting-full (c .before .before .before .before .before .before .before .loop .inv) (room-not _ _ (c .before .has-room .result) (c .before .has-room .ensures) (c .if2 .taken))
@@ -93,7 +89,7 @@ loop-again-2 : tie.Need-loop-again-2 Inv-loop μ-loop
 loop-again-2 c = let v = c .before .before in noting-other (v .before .before .before .loop .inv) _ (here v) (c .before .if1 .left)
 
 same-length-2 : tie.Need-same-length-2 Inv-loop μ-loop
-same-length-2 c = c .before .loop .inv .noted .places .sized ∙ same-room _ (c .before .before .before .before .pre .1)
+same-length-2 c = c .before .loop .inv .noted .places .sized ∙ same-room 16386 _ (c .before .before .before .before .pre .1)
 
 returns-2 : tie.Need-returns-2 Inv-loop μ-loop
 returns-2 c = noting-end (c .before .loop .inv) (c .loop-test .left)

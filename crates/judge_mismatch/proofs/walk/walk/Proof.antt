@@ -235,13 +235,13 @@ entries-again-2 c =
     going-placed (entry h .entries .inv) (front h) (direct-in (a .before)) (a .before .before .if2 .left) (i .0) (whole a) (i .2) (placed (c .before) ∙ not-false _ (c .if4 .left))
 
 same-length : tie.Need-same-length Inv-loop μ-loop Inv-entries μ-entries
-same-length c = c .before .entries .inv .walk .room ∙ same-room _ (start (c .before) .pre .1 .1)
+same-length c = c .before .entries .inv .walk .room ∙ same-room 510 _ (start (c .before) .pre .1 .1)
 
 returns : tie.Need-returns Inv-loop μ-loop Inv-entries μ-entries
 returns c = going-end (c .before .entries .inv) (c .entries-test .left)
 
 same-length-2 : tie.Need-same-length-2 Inv-loop μ-loop Inv-entries μ-entries
-same-length-2 c = let e = entry (c .before .before) in e .entries .inv .walk .room ∙ same-room _ (start e .pre .1 .1)
+same-length-2 c = let e = entry (c .before .before) in e .entries .inv .walk .room ∙ same-room 510 _ (start e .pre .1 .1)
 
 returns-2 : tie.Need-returns-2 Inv-loop μ-loop Inv-entries μ-entries
 returns-2 c =
@@ -249,7 +249,7 @@ returns-2 c =
     going-target (entry h .entries .inv) (front h) (target-told (c .before .is-direct .result) (aimOf (h .head-of .result .aim)) (c .before .is-direct .ensures) (c .if1 .taken))
 
 same-length-3 : tie.Need-same-length-3 Inv-loop μ-loop Inv-entries μ-entries
-same-length-3 c = let l = c .before .before .before .before .before .before .before in l .loop .inv .1 .room ∙ same-room _ (start (entry (head-in l)) .pre .1 .1)
+same-length-3 c = let l = c .before .before .before .before .before .before .before in l .loop .inv .1 .room ∙ same-room 510 _ (start (entry (head-in l)) .pre .1 .1)
 
 returns-3 : tie.Need-returns-3 Inv-loop μ-loop Inv-entries μ-entries
 returns-3 c =
@@ -261,7 +261,7 @@ returns-3 c =
     going-twice (entry h .entries .inv) (front h) (direct-in l) (l .before .if2 .left) (i .0) (marked-stood (i .1) (maps r) (below (r .before) .1) (below (r .before) .2) _ (row k .0) (row k .1) (c .if3 .taken))
 
 same-length-4 : tie.Need-same-length-4 Inv-loop μ-loop Inv-entries μ-entries
-same-length-4 c = let l = c .before .before .before in l .loop .inv .1 .room ∙ same-room _ (start (entry (head-in l)) .pre .1 .1)
+same-length-4 c = let l = c .before .before .before in l .loop .inv .1 .room ∙ same-room 510 _ (start (entry (head-in l)) .pre .1 .1)
 
 returns-4 : tie.Need-returns-4 Inv-loop μ-loop Inv-entries μ-entries
 returns-4 c =
