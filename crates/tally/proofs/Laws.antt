@@ -18,6 +18,7 @@ use Rattle.tally.specs.declared.points.State.{State}
 use Rattle.tally.specs.declared.points.Turn as code-turn
 use Rattle.tally.specs.declared.points.Turn.the-variants as case-turn
 use Rattle.parts.specs.Bytes.{putAt}
+use Rattle.parts.specs.Limits.{settingsLength}
 use Rattle.tally_line.specs.declared.Line.{Line}
 use Rattle.tally_feed.specs.declared.next.Next.the-variants as case-next
 use Rattle.tally_feed.specs.Tally.{Step, over, last, point}
@@ -123,21 +124,21 @@ lies-without len w v n e h l = subst (Lies len) (sym e) (h, l)
 abbrev pub stateOf : Window → ℕ → ℕ → State
 stateOf w place n = record { window = w; place = place; «schedule_len» = n }
 
-pub first-state : (w v : Window) (start : ℕ) → v ≡ without w start → stateOf v 1 (start - 47) ≡ firstState w start
-first-state w v start e = ap (λ (x : Window). stateOf x 1 (start - 47)) e
+pub first-state : (w v : Window) (start : ℕ) → v ≡ without w start → stateOf v 1 (start - settingsLength) ≡ firstState w start
+first-state w v start e = ap (λ (x : Window). stateOf x 1 (start - settingsLength)) e
 
 -- the bytes that are copied are the schedule's
-pub first-schedule : (schedule out buf : List ℕ) (w : Window) (start : ℕ) → w .start ≡ 0 → start ≤ w .end → w .end ≤ length buf → 47 ≤ start →
-    out ≡ putAt schedule 0 (take (start - 47) (drop 47 buf)) → take (start - 47) out ≡ drop 47 (take start (atHand buf w))
+pub first-schedule : (schedule out buf : List ℕ) (w : Window) (start : ℕ) → w .start ≡ 0 → start ≤ w .end → w .end ≤ length buf → settingsLength ≤ start →
+    out ≡ putAt schedule 0 (take (start - settingsLength) (drop settingsLength buf)) → take (start - settingsLength) out ≡ drop settingsLength (take start (atHand buf w))
 unfolding putAt
 first-schedule schedule out buf w start z h l k e =
-    let vs = take (start - 47) (drop 47 buf) in
-    let m : 47 + (start - 47) ≡ start = omega arith in
-    ap (take (start - 47)) e
-    ∙ take-at vs (drop (0 + length vs) schedule) (start - 47) (length-take-le (start - 47) (drop 47 buf) (omega (arith, length-drop 47 buf)))
-    ∙ sym (drop-part 47 (start - 47) buf)
-    ∙ ap (λ (n : ℕ). drop 47 (take n buf)) m
-    ∙ ap (drop 47) (sym (at-front (w .start) (w .end) start buf (take start buf) z h refl))
+    let vs = take (start - settingsLength) (drop settingsLength buf) in
+    let m : settingsLength + (start - settingsLength) ≡ start = omega arith in
+    ap (take (start - settingsLength)) e
+    ∙ take-at vs (drop (0 + length vs) schedule) (start - settingsLength) (length-take-le (start - settingsLength) (drop settingsLength buf) (omega (arith, length-drop settingsLength buf)))
+    ∙ sym (drop-part settingsLength (start - settingsLength) buf)
+    ∙ ap (λ (n : ℕ). drop settingsLength (take n buf)) m
+    ∙ ap (drop settingsLength) (sym (at-front (w .start) (w .end) start buf (take start buf) z h refl))
 
 pub stands-with : (len room : ℕ) (s t : State) (w : Window) → t ≡ withWindow s w → Lies len w → s .«schedule_len» ≤ room → s .place < 18446744073709551615 →
     Stands len room t × (t .place < 18446744073709551615)

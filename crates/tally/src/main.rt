@@ -40,7 +40,7 @@ fn print_points(
         match turn {
             Turn::Over => return true,
             Turn::Last(line) => return print::line(line),
-            Turn::Point(line, next) => {
+            Turn::Point { line, next } => {
                 if !print::line(line) {
                     return false;
                 }
@@ -60,8 +60,8 @@ fn print_after(
     w: Window,
     start: usize,
 ) -> bool
-    requires { ⌜ (settingsLength ≤ start) × (start ≤ 32722) × (32675 ≤ length (now schedule)) ⌝ }
-    requires { ⌜ (w .start ≡ 0) × (start ≤ w .end) × (w .end ≤ length (now buf)) × (41127 ≤ length (now buf)) ⌝ }
+    requires begins { ⌜ (settingsLength ≤ start) × (start ≤ 32722) × (32675 ≤ length (now schedule)) ⌝ }
+    requires held { ⌜ (w .start ≡ 0) × (start ≤ w .end) × (w .end ≤ length (now buf)) × (41127 ≤ length (now buf)) ⌝ }
 {
     let first = points::begin_points(schedule, buf, w, start);
     print_points(book, schedule, peers, buf, first)

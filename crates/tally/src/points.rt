@@ -21,17 +21,17 @@ pub struct State {
 pub enum Turn {
     Over,
     Last(Line),
-    Point(Line, State),
+    Point { line: Line, next: State },
 }
 
 // Where the first turn stands, of points that begin at a place of the first window, after settings and a schedule. The schedule's
 // bytes are copied, since the buffer will hold others.
 pub fn begin_points(schedule: &mut [u8], buf: &[u8], w: Window, start: usize) -> State
-    requires { ⌜ (settingsLength ≤ start) × (start ≤ 32722) × (32675 ≤ length (now schedule)) ⌝ }
-    requires { ⌜ (w .start ≡ 0) × (start ≤ w .end) × (w .end ≤ length (now buf)) ⌝ }
-    ensures { λ r. ⌜ r ≡ firstState w start ⌝ }
-    ensures { λ r. ⌜ take (start - settingsLength) (now (schedule .exit)) ≡ drop settingsLength (take start (atHand (now (buf .entry)) w)) ⌝ }
-    ensures { λ r. ⌜ Stands (length (now (buf .entry))) (length (now (schedule .exit))) r ⌝ }
+    requires begins { ⌜ (settingsLength ≤ start) × (start ≤ 32722) × (32675 ≤ length (now schedule)) ⌝ }
+    requires held { ⌜ (w .start ≡ 0) × (start ≤ w .end) × (w .end ≤ length (now buf)) ⌝ }
+    ensures same { λ r. ⌜ r ≡ firstState w start ⌝ }
+    ensures copied { λ r. ⌜ take (start - settingsLength) (now (schedule .exit)) ≡ drop settingsLength (take start (atHand (now (buf .entry)) w)) ⌝ }
+    ensures stands { λ r. ⌜ Stands (length (now (buf .entry))) (length (now (schedule .exit))) r ⌝ }
 {
     write::put_slice(schedule, 0, &buf[parts::SETTINGS_LENGTH..start]);
     State {
@@ -55,12 +55,12 @@ pub fn with(s: State, w: Window) -> State
 // Offers the next point at hand to the book.
 pub fn take_turn(book: &mut [u8], schedule: &[u8], peers: &mut [u8], buf: &[u8], s: State) -> Turn
     requires { ⌜ Stands (length (now buf)) (length (now schedule)) s × (s .place < 18446744073709551615) ⌝ }
-    ensures { λ r. ⌜ r ≡ turnOf s (stepFrom s (now (schedule .entry)) (now (book .entry)) (now (peers .entry)) (now (buf .entry))) ⌝ }
-    ensures { λ r. ⌜ now (book .exit) ≡ bookAfter (now (book .entry))
+    ensures same { λ r. ⌜ r ≡ turnOf s (stepFrom s (now (schedule .entry)) (now (book .entry)) (now (peers .entry)) (now (buf .entry))) ⌝ }
+    ensures left { λ r. ⌜ now (book .exit) ≡ bookAfter (now (book .entry))
         (stepFrom s (now (schedule .entry)) (now (book .entry)) (now (peers .entry)) (now (buf .entry))) ⌝ }
-    ensures { λ r. ⌜ now (peers .exit) ≡ peersAfter (now (peers .entry))
+    ensures unknown { λ r. ⌜ now (peers .exit) ≡ peersAfter (now (peers .entry))
         (stepFrom s (now (schedule .entry)) (now (book .entry)) (now (peers .entry)) (now (buf .entry))) ⌝ }
-    ensures { λ r. ⌜ Leads (length (now (buf .entry))) (length (now (schedule .entry))) r ⌝ }
+    ensures leads { λ r. ⌜ Leads (length (now (buf .entry))) (length (now (schedule .entry))) r ⌝ }
 {
     let w = s.window;
     let start = w.start;
@@ -70,13 +70,13 @@ pub fn take_turn(book: &mut [u8], schedule: &[u8], peers: &mut [u8], buf: &[u8],
     match next {
         Next::Over => Turn::Over,
         Next::Last(line) => Turn::Last(line),
-        Next::Point(line, size) => Turn::Point(
+        Next::Point { line, size } => Turn::Point {
             line,
-            State {
+            next: State {
                 window: window::after(w, size),
                 place: s.place + 1,
                 schedule_len: n,
             },
-        ),
+        },
     }
 }

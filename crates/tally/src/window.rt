@@ -57,8 +57,8 @@ fn got_of(got: isize, room: &[u8]) -> Got
 // Reads once, from a place of the buffer on.
 fn read_at(buf: &mut [u8], at: usize) -> Got
     requires { ⌜ at ≤ length (now buf) ⌝ }
-    ensures { λ r. ⌜ take at (now (buf .exit)) ≡ take at (now (buf .entry)) ⌝ }
-    ensures { λ r. ⌜ GotWithin at (length (now (buf .entry))) r ⌝ }
+    ensures front { λ r. ⌜ take at (now (buf .exit)) ≡ take at (now (buf .entry)) ⌝ }
+    ensures within { λ r. ⌜ GotWithin at (length (now (buf .entry))) r ⌝ }
 {
     let got = libc::read(STDIN_FILENO, &mut buf[at..]);
     got_of(got, &buf[at..])
@@ -67,8 +67,8 @@ fn read_at(buf: &mut [u8], at: usize) -> Got
 // Reads after the n bytes at the front until the buffer is full, or the input ends.
 fn read_after(buf: &mut [u8], n: usize) -> Window
     requires { ⌜ n ≤ length (now buf) ⌝ }
-    ensures { λ r. ⌜ take n (now (buf .exit)) ≡ take n (now (buf .entry)) ⌝ }
-    ensures { λ r. ⌜ Filled n (length (now (buf .entry))) r ⌝ }
+    ensures front { λ r. ⌜ take n (now (buf .exit)) ≡ take n (now (buf .entry)) ⌝ }
+    ensures filled { λ r. ⌜ Filled n (length (now (buf .entry))) r ⌝ }
 {
     let mut end = n;
     while end < buf.len() {

@@ -10,6 +10,7 @@ use mathlib.Core.List.{List, [], _∷_}
 use lib.ListN.{length, take, drop, length-drop}
 use lib.Seq.{take-all, take-length, take-nil, drop-nil, take-take, length-take-le}
 use Rattle.base.proofs.Option.{picked}
+use Rattle.parts.specs.Limits.{settingsLength}
 use Rattle.record.specs.Record.{lengthAt, nextAt, fieldOk, endFrom, recordEnd, wellShaped}
 use Rattle.record.proofs.Laws.{fitting, end-after, shaped-end, Agree, front-agrees, field-same, next-same, ends-same, end-same, end-within, record-most}
 use Rattle.point.specs.Point.{PointInfo}
@@ -157,9 +158,9 @@ drop-part (suc k) n (x ∷ s) = let e : suc k + n ≡ suc (k + n) = omega arith 
 pub begin-part : (n len : ℕ) (feed : List ℕ) → 32722 ≤ n → begin len (take n feed) ≡ begin len feed
 unfolding begin frontOf
 begin-part n len feed h =
-    let e : n ≡ 47 + (n - 47) = omega arith in
-    let d : drop 47 (take n feed) ≡ take (n - 47) (drop 47 feed) = ap (λ (m : ℕ). drop 47 (take m feed)) e ∙ drop-part 47 (n - 47) feed in
-    rw (take-take 47 n feed (omega arith), d) (ap (λ (x : code-front.Front). openedWith x (openNumber (take 47 feed) len)) (with-part (n - 47) (drop 47 feed) (readSettings (take 47 feed)) (omega arith)))
+    let e : n ≡ settingsLength + (n - settingsLength) = omega arith in
+    let d : drop settingsLength (take n feed) ≡ take (n - settingsLength) (drop settingsLength feed) = ap (λ (m : ℕ). drop settingsLength (take m feed)) e ∙ drop-part settingsLength (n - settingsLength) feed in
+    rw (take-take settingsLength n feed (omega arith), d) (ap (λ (x : code-front.Front). openedWith x (openNumber (take settingsLength feed) len)) (with-part (n - settingsLength) (drop settingsLength feed) (readSettings (take settingsLength feed)) (omega arith)))
 
 -- ---- the lines of a feed, step by step
 

@@ -11,6 +11,7 @@ use lib.Dec.{eqb}
 use borrow.Author.Tests.{ne-eqb}
 use Rattle.base.specs.Base.{pick}
 use Rattle.base.proofs.Option.{picked}
+use Rattle.parts.specs.Limits.{settingsLength}
 use Rattle.record.specs.declared.Row.{Row}
 use Rattle.record.specs.Record.{nextAt, fieldRow, fieldOk, endFrom, recordEnd}
 use Rattle.record.proofs.Laws.{next-within, fitting, end-after, end-most, end-within}
@@ -107,34 +108,34 @@ unlike : (n m : ℕ) → n < m → eqb n m ≡ false
 unlike n m h = ne-eqb n m (λ e. omega arith)
 
 -- no settings are shorter than 47 bytes
-pub short-settings : (s : List ℕ) → length s < 47 → readSettings s ≡ none
+pub short-settings : (s : List ℕ) → length s < settingsLength → readSettings s ≡ none
 unfolding readSettings
-short-settings s h = simp (unlike (length s) 47 h)
+short-settings s h = simp (unlike (length s) settingsLength h)
 
 module _ (feed : List ℕ) where
-  pub front-unset : readSettings (take 47 feed) ≡ none → frontOf feed ≡ case-front.Number 1
+  pub front-unset : readSettings (take settingsLength feed) ≡ none → frontOf feed ≡ case-front.Number 1
   unfolding frontOf
   front-unset e = rw e
 
-  module _ (c : Settings) (z : readSettings (take 47 feed) ≡ some c) where
-    front-set : frontOf feed ≡ scheduleTo (drop 47 feed) (scheduleEnd (drop 47 feed))
+  module _ (c : Settings) (z : readSettings (take settingsLength feed) ≡ some c) where
+    front-set : frontOf feed ≡ scheduleTo (drop settingsLength feed) (scheduleEnd (drop settingsLength feed))
     unfolding frontOf
     front-set = rw z
 
-    pub front-endless : scheduleEnd (drop 47 feed) ≡ none → frontOf feed ≡ case-front.Number 2
+    pub front-endless : scheduleEnd (drop settingsLength feed) ≡ none → frontOf feed ≡ case-front.Number 2
     front-endless e = front-set ∙ rw e
 
-    module _ (n : ℕ) (e : scheduleEnd (drop 47 feed) ≡ some n) where
-      pub front-unread : readSchedule (take n (drop 47 feed)) ≡ none → frontOf feed ≡ case-front.Number 2
+    module _ (n : ℕ) (e : scheduleEnd (drop settingsLength feed) ≡ some n) where
+      pub front-unread : readSchedule (take n (drop settingsLength feed)) ≡ none → frontOf feed ≡ case-front.Number 2
       front-unread u = front-set ∙ rw (e, u)
 
-      pub front-read : (d : Schedule) → readSchedule (take n (drop 47 feed)) ≡ some d → frontOf feed ≡ case-front.Points (47 + n)
+      pub front-read : (d : Schedule) → readSchedule (take n (drop settingsLength feed)) ≡ some d → frontOf feed ≡ case-front.Points (settingsLength + n)
       front-read d r = front-set ∙ rw (e, r)
 
-  pub begins : (n : ℕ) → scheduleEnd (drop 47 feed) ≡ some n → 47 ≤ length feed → (47 ≤ 47 + n) × (47 + n ≤ length feed) × (47 + n ≤ 32722)
+  pub begins : (n : ℕ) → scheduleEnd (drop settingsLength feed) ≡ some n → settingsLength ≤ length feed → (settingsLength ≤ settingsLength + n) × (settingsLength + n ≤ length feed) × (settingsLength + n ≤ 32722)
   begins n e h =
-      let i = schedule-inside (drop 47 feed) n e in
-      (omega arith, omega (arith, length-drop 47 feed), omega (arith, schedule-most (drop 47 feed) n e))
+      let i = schedule-inside (drop settingsLength feed) n e in
+      (omega arith, omega (arith, length-drop settingsLength feed), omega (arith, schedule-most (drop settingsLength feed) n e))
 
 -- ---- opening the book
 
@@ -144,12 +145,12 @@ module _ (len : ℕ) (feed : List ℕ) where
   begin-unread n e = rw e
 
   module _ (n : ℕ) (e : frontOf feed ≡ case-front.Points n) where
-    pub begin-refused : (k : ℕ) → openNumber (take 47 feed) len ≡ k → (k ≡ 0 → ⊥) → begin len feed ≡ case-front.Number k
+    pub begin-refused : (k : ℕ) → openNumber (take settingsLength feed) len ≡ k → (k ≡ 0 → ⊥) → begin len feed ≡ case-front.Number k
     unfolding begin
     begin-refused zero f d = absurd (d refl)
     begin-refused (suc k) f d = rw (e, f)
 
-    pub begin-open : openNumber (take 47 feed) len ≡ 0 → begin len feed ≡ case-front.Points n
+    pub begin-open : openNumber (take settingsLength feed) len ≡ 0 → begin len feed ≡ case-front.Points n
     unfolding begin
     begin-open f = rw (e, f)
 

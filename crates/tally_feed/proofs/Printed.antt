@@ -9,6 +9,7 @@ use mathlib.Core.List.{List, [], _∷_}
 use lib.ListN.{length, take, drop, replicate, length-drop}
 use lib.Seq.{take-take}
 use Rattle.base.specs.Base.{pick, isSome}
+use Rattle.parts.specs.Limits.{settingsLength}
 use Rattle.point.specs.Point.{PointInfo}
 use Rattle.point.specs.Reading.{readPoint}
 use Rattle.schedule.specs.Settings.{Settings, readSettings}
@@ -54,8 +55,8 @@ module _ (s : List ℕ) (n : ℕ) where
   to-most none q e = let z : _≡_ {A = ℕ} 0 1 = cc in absurd (omega arith)
   to-most (some k) q e = go (isSome (readSchedule (take k s))) e
     where
-      go : (t : Bool) → pick t (case-front.Points (47 + k)) (case-front.Number 2) ≡ case-front.Points n → n ≤ 32722
-      go true f = let g : 47 + k ≡ n = cc in omega (arith, schedule-most s k q)
+      go : (t : Bool) → pick t (case-front.Points (settingsLength + k)) (case-front.Number 2) ≡ case-front.Points n → n ≤ 32722
+      go true f = let g : settingsLength + k ≡ n = cc in omega (arith, schedule-most s k q)
       go false f = let z : _≡_ {A = ℕ} 0 1 = cc in absurd (omega arith)
 
   with-most : (c : Option Settings) → frontWith s c ≡ case-front.Points n → n ≤ 32722
@@ -70,7 +71,7 @@ opened-front n (case-front.Points m) (suc k) e = let z : _≡_ {A = ℕ} 0 1 = c
 
 begin-most : (len : ℕ) (feed : List ℕ) (n : ℕ) → begin len feed ≡ case-front.Points n → n ≤ 32722
 unfolding begin frontOf
-begin-most len feed n e = with-most (drop 47 feed) n (readSettings (take 47 feed)) (opened-front n (frontOf feed) (openNumber (take 47 feed) len) e)
+begin-most len feed n e = with-most (drop settingsLength feed) n (readSettings (take settingsLength feed)) (opened-front n (frontOf feed) (openNumber (take settingsLength feed) len) e)
 
 -- ---- a whole feed
 
@@ -79,8 +80,8 @@ module _ (turns room : ℕ) (held : ℕ → ℕ) (feed : List ℕ) (long : lengt
       begunThen turns held (take room feed) feed book peers x ≡ tallyFrom book peers feed x
   front-tally book peers (case-front.Number n) e = refl
   front-tally book peers (case-front.Points n) e =
-      rw (take-take 47 room feed (omega arith), take-take n room feed (omega (arith, begin-most 65536 feed n e)))
-      (printed-points held enough turns (drop 47 (take n feed)) 1 (openBytes (take 47 feed) book) peers (drop n feed) (omega (arith, length-drop n feed)))
+      rw (take-take settingsLength room feed (omega arith), take-take n room feed (omega (arith, begin-most 65536 feed n e)))
+      (printed-points held enough turns (drop settingsLength (take n feed)) 1 (openBytes (take settingsLength feed) book) peers (drop n feed) (omega (arith, length-drop n feed)))
 
   -- a feed of at most as many bytes as there are turns
   pub printed-tally : printed turns room held feed ≡ tally feed

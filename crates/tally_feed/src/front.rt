@@ -57,8 +57,8 @@ pub fn schedule_end(s: &[u8]) -> End
 
 // The number of settings or a schedule that can't be read, or where the points begin.
 fn front_of(feed: &[u8]) -> Front
-    ensures { λ r. ⌜ r ≡ frontOf (now (feed .entry)) ⌝ }
-    ensures { λ r. ⌜ Begins (now (feed .entry)) r ⌝ }
+    ensures same { λ r. ⌜ r ≡ frontOf (now (feed .entry)) ⌝ }
+    ensures begins { λ r. ⌜ Begins (now (feed .entry)) r ⌝ }
 {
     if feed.len() < parts::SETTINGS_LENGTH {
         return Front::Number(1);
@@ -79,9 +79,9 @@ fn front_of(feed: &[u8]) -> Front
 
 // Opens the book with the settings of a feed, and says where its points begin. A number leaves the book as it was.
 pub fn begin(book: &mut [u8], feed: &[u8]) -> Front
-    ensures { λ r. ⌜ r ≡ begin (length (now (book .entry))) (now (feed .entry)) ⌝ }
-    ensures { λ r. ⌜ now (book .exit) ≡ begunBook (take settingsLength (now (feed .entry))) (now (book .entry)) r ⌝ }
-    ensures { λ r. ⌜ Begins (now (feed .entry)) r ⌝ }
+    ensures same { λ r. ⌜ r ≡ begin (length (now (book .entry))) (now (feed .entry)) ⌝ }
+    ensures opened { λ r. ⌜ now (book .exit) ≡ begunBook (take settingsLength (now (feed .entry))) (now (book .entry)) r ⌝ }
+    ensures begins { λ r. ⌜ Begins (now (feed .entry)) r ⌝ }
 {
     let front = front_of(feed);
     match front {

@@ -14,13 +14,13 @@ ghost use Rattle.tally_feed.specs.Code.{nextOf, bookAfter, peersAfter, W
 pub enum Next {
     Over,
     Last(Line),
-    Point(Line, usize),
+    Point { line: Line, size: usize },
 }
 
 // How many bytes the record at the front of a slice takes: all of them where none ends there.
 fn record_size(s: &[u8]) -> usize
-    ensures { λ r. ⌜ r ≡ recordSize (now (s .entry)) ⌝ }
-    ensures { λ r. ⌜ r ≤ length (now (s .entry)) ⌝ }
+    ensures same { λ r. ⌜ r ≡ recordSize (now (s .entry)) ⌝ }
+    ensures within { λ r. ⌜ r ≤ length (now (s .entry)) ⌝ }
 {
     let end = record::record_end(s);
     match end {
@@ -37,12 +37,12 @@ pub fn next_point(
     feed: &[u8],
     peers: &mut [u8],
 ) -> Next
-    ensures { λ r. ⌜ r ≡ nextOf (step (now (schedule .entry)) (now (book .entry)) (now (peers .entry)) place (now (feed .entry))) ⌝ }
-    ensures { λ r. ⌜ now (book .exit) ≡ bookAfter (now (book .entry))
+    ensures same { λ r. ⌜ r ≡ nextOf (step (now (schedule .entry)) (now (book .entry)) (now (peers .entry)) place (now (feed .entry))) ⌝ }
+    ensures left { λ r. ⌜ now (book .exit) ≡ bookAfter (now (book .entry))
         (step (now (schedule .entry)) (now (book .entry)) (now (peers .entry)) place (now (feed .entry))) ⌝ }
-    ensures { λ r. ⌜ now (peers .exit) ≡ peersAfter (now (peers .entry))
+    ensures unknown { λ r. ⌜ now (peers .exit) ≡ peersAfter (now (peers .entry))
         (step (now (schedule .entry)) (now (book .entry)) (now (peers .entry)) place (now (feed .entry))) ⌝ }
-    ensures { λ r. ⌜ Within (length (now (feed .entry))) r ⌝ }
+    ensures within { λ r. ⌜ Within (length (now (feed .entry))) r ⌝ }
 {
     if feed.len() == 0 {
         return Next::Over;
@@ -54,7 +54,10 @@ pub fn next_point(
     match read {
         ReadPoint::Point(info) => {
             let id = info.id;
-            Next::Point(answers::line_of(place, id.round, answer), size)
+            Next::Point {
+                line: answers::line_of(place, id.round, answer),
+                size,
+            }
         }
         ReadPoint::Unreadable => Next::Last(answers::line_of(place, 0, answer)),
     }

@@ -20,11 +20,11 @@ pub extern "C" fn wutherdish_verify(
     peers: &mut [u8],
     answer: &mut [u8; 114],
 ) -> u8
-    ensures { λ r. ⌜ r ≡ verifyNumber
+    ensures number { λ r. ⌜ r ≡ verifyNumber
         (verifyWith (tested (now (settings .entry)) (now (schedule .entry)) (now (rec .entry)) true (length (now (peers .entry))))) ⌝ }
-    ensures { λ r. ⌜ now (answer .exit) ≡ verifyAnswer
+    ensures told { λ r. ⌜ now (answer .exit) ≡ verifyAnswer
         (verifyWith (tested (now (settings .entry)) (now (schedule .entry)) (now (rec .entry)) true (length (now (peers .entry))))) (now (answer .entry)) ⌝ }
-    ensures { λ r. ⌜ now (peers .exit) ≡ verifyBuffer
+    ensures buffer { λ r. ⌜ now (peers .exit) ≡ verifyBuffer
         (tested (now (settings .entry)) (now (schedule .entry)) (now (rec .entry)) true (length (now (peers .entry)))) (now (peers .entry)) ⌝ }
 {
     let verified = verify::verify(settings, schedule, rec, peers);
@@ -49,14 +49,14 @@ pub extern "C" fn wutherdish_judge(
     peers: &mut [u8],
     answer: &mut [u8; 114],
 ) -> u8
-    ensures { λ r. ⌜ r ≡ judgeNumber
+    ensures number { λ r. ⌜ r ≡ judgeNumber
         (judgeWith leader presence (now (list .entry))
         (tested (now (settings .entry)) (now (schedule .entry)) (now (rec .entry)) (flagsOk leader presence) (length (now (peers .entry))))) ⌝ }
-    ensures { λ r. ⌜ now (answer .exit) ≡ judgeAnswer
+    ensures told { λ r. ⌜ now (answer .exit) ≡ judgeAnswer
         (judgeWith leader presence (now (list .entry))
         (tested (now (settings .entry)) (now (schedule .entry)) (now (rec .entry)) (flagsOk leader presence) (length (now (peers .entry)))))
         (now (answer .entry)) ⌝ }
-    ensures { λ r. ⌜ now (peers .exit) ≡ verifyBuffer
+    ensures buffer { λ r. ⌜ now (peers .exit) ≡ verifyBuffer
         (tested (now (settings .entry)) (now (schedule .entry)) (now (rec .entry)) (flagsOk leader presence) (length (now (peers .entry))))
         (now (peers .entry)) ⌝ }
 {
@@ -73,8 +73,8 @@ pub extern "C" fn wutherdish_judge(
 // Opens a book in a slice, with its settings. Answers 1, 5, or 0 where it is open; with a number no byte changes.
 #[no_mangle]
 pub extern "C" fn wutherdish_open(book: &mut [u8], settings: &[u8]) -> u8
-    ensures { λ r. ⌜ r ≡ openNumber (now (settings .entry)) (length (now (book .entry))) ⌝ }
-    ensures { λ r. ⌜ now (book .exit) ≡ openBytes (now (settings .entry)) (now (book .entry)) ⌝ }
+    ensures number { λ r. ⌜ r ≡ openNumber (now (settings .entry)) (length (now (book .entry))) ⌝ }
+    ensures opened { λ r. ⌜ now (book .exit) ≡ openBytes (now (settings .entry)) (now (book .entry)) ⌝ }
 {
     book::open(book, settings)
 }
@@ -89,13 +89,13 @@ pub extern "C" fn wutherdish_offer(
     peers: &mut [u8],
     answer: &mut [u8; 114],
 ) -> u8
-    ensures { λ r. ⌜ r ≡ judgeNumber
+    ensures number { λ r. ⌜ r ≡ judgeNumber
         (offerBytes (now (book .entry)) (offerOf (now (schedule .entry)) leader (now (rec .entry)) (now (peers .entry))) .answer) ⌝ }
-    ensures { λ r. ⌜ now (answer .exit) ≡ judgeAnswer
+    ensures told { λ r. ⌜ now (answer .exit) ≡ judgeAnswer
         (offerBytes (now (book .entry)) (offerOf (now (schedule .entry)) leader (now (rec .entry)) (now (peers .entry))) .answer) (now (answer .entry)) ⌝ }
-    ensures { λ r. ⌜ now (peers .exit) ≡ offerBytes (now (book .entry))
+    ensures buffer { λ r. ⌜ now (peers .exit) ≡ offerBytes (now (book .entry))
         (offerOf (now (schedule .entry)) leader (now (rec .entry)) (now (peers .entry))) .peers ⌝ }
-    ensures { λ r. ⌜ now (book .exit) ≡ offerBytes (now (book .entry))
+    ensures left { λ r. ⌜ now (book .exit) ≡ offerBytes (now (book .entry))
         (offerOf (now (schedule .entry)) leader (now (rec .entry)) (now (peers .entry))) .after ⌝ }
 {
     let judged = book::offer(book, schedule, leader, rec, peers);

@@ -3,6 +3,7 @@ use Prim.Native.Nat.{_-_, _≤_}
 use native.Mathlib.Omega.{arith}
 use mathlib.Core.Path.{subst}
 use lib.ListN.{take, length-take}
+use Rattle.parts.specs.Limits.{settingsLength}
 use Rattle.tally_feed.specs.Code.{Begins}
 use borrow.Author.Needs.{needs}
 use Rattle.tally.proofs.print_lines.Statement.{statement}
@@ -12,7 +13,7 @@ abbrev opened : tie.After-print-after-arg4 → tie.After-first
 opened c = c .before .before .before .before .before .before .before .before .before .before .before .before .before .before .before .before
 
 begun : (c : tie.After-print-after-arg4) → let n = c .before .before .before .before .before .front2 .given .0 .0 in
-    (47 ≤ n) × (n ≤ opened c .first .result .end) × (n ≤ 32722)
+    (settingsLength ≤ n) × (n ≤ opened c .first .result .end) × (n ≤ 32722)
 begun c =
     let f = opened c .first in
     let s = take (f .result .end - 0) (f .last .0) in

@@ -4,6 +4,7 @@ use native.Mathlib.Omega.{arith}
 use mathlib.Core.Path.{_≡_, refl, sym, subst, _∙_}
 use lib.ListN.{length, take}
 use denote.Ref.{now}
+use Rattle.parts.specs.Limits.{settingsLength}
 use Rattle.tally_feed.specs.declared.front.Front.the-variants as case-front
 use Rattle.tally_feed.specs.Tally.{frontOf}
 use Rattle.tally_feed.specs.Code.{Begins}
@@ -21,7 +22,7 @@ points c = c .before .front2 .given .0 .0
 has-front : (c : tie.After-known-told2) → frontOf (now (start c .args .feed)) ≡ case-front.Points (points c)
 has-front c = sym (c .before .before .before .front-of .ensures .0) ∙ c .before .front2 .given .1
 
-begun : (c : tie.After-known-told2) → (47 ≤ points c) × (points c ≤ length (now (start c .args .feed))) × (points c ≤ 32722)
+begun : (c : tie.After-known-told2) → (settingsLength ≤ points c) × (points c ≤ length (now (start c .args .feed))) × (points c ≤ 32722)
 begun c = subst (Begins (now (start c .args .feed))) (c .before .front2 .given .1) (c .before .before .before .front-of .ensures .1)
 
 front-of-requires : tie.Need-front-of-requires
@@ -55,7 +56,7 @@ returns c =
     let s = now (start k .args .feed) in
     let b = now (start k .args .book) in
     let e = o .«open» .ensures in
-    (sym (begin-refused (length b) s (points k) (has-front k) (o .«open» .result) (sym (e .0)) (c .if1 .taken)), (e .1 ∙ unopened (take 47 s) b (λ z. c .if1 .taken (e .0 ∙ z)), tt))
+    (sym (begin-refused (length b) s (points k) (has-front k) (o .«open» .result) (sym (e .0)) (c .if1 .taken)), (e .1 ∙ unopened (take settingsLength s) b (λ z. c .if1 .taken (e .0 ∙ z)), tt))
 
 returns-2 : tie.Need-returns-2
 returns-2 c =

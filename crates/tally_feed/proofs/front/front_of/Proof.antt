@@ -12,6 +12,7 @@ use Rattle.schedule.specs.Settings.{Settings, readSettings}
 use Rattle.schedule.specs.Code.{settingsOf, readSettingsOf}
 use Rattle.schedule.specs.Schedule.{readSchedule}
 use Rattle.base.proofs.Lists.{up-to, rest}
+use Rattle.parts.specs.Limits.{settingsLength}
 use Rattle.verify.proofs.Laws.{schedule-read, schedule-unread}
 use Rattle.tally_feed.specs.Tally.{scheduleEnd}
 use Rattle.tally_feed.proofs.Laws.{schedule-inside, schedule-most, short-settings, front-unset, front-endless, front-unread, front-read, begins}
@@ -26,37 +27,37 @@ feed c = now (c .before .before .before .before .args .feed)
 abbrev settings : tie.After-enum-told → Settings
 settings c = settingsOf (c .enum-told .given .0 .0)
 
-has-settings : (c : tie.After-enum-told) → readSettings (take 47 (feed (c .before .before))) ≡ some (settings c)
+has-settings : (c : tie.After-enum-told) → readSettings (take settingsLength (feed (c .before .before))) ≡ some (settings c)
 has-settings c = sym (c .before .before .read-settings .ensures) ∙ ap readSettingsOf (c .enum-told .given .1)
 
 abbrev call : tie.After-schedule-end → tie.After-enum-told
 call c = c .before .before
 
 -- where the schedule ends
-ended : (c : tie.After-schedule-end) → endOf (c .schedule-end .result) ≡ scheduleEnd (drop 47 (feed (call c .before .before)))
-ended c = c .schedule-end .ensures ∙ ap scheduleEnd (rest 47 (feed (call c .before .before)))
+ended : (c : tie.After-schedule-end) → endOf (c .schedule-end .result) ≡ scheduleEnd (drop settingsLength (feed (call c .before .before)))
+ended c = c .schedule-end .ensures ∙ ap scheduleEnd (rest settingsLength (feed (call c .before .before)))
 
 abbrev found : tie.After-known-told → tie.After-schedule-end
 found c = c .before .before .before
 
-has-end : (c : tie.After-known-told) → scheduleEnd (drop 47 (feed (call (found c) .before .before))) ≡ some (c .before .n .given .0 .0)
+has-end : (c : tie.After-known-told) → scheduleEnd (drop settingsLength (feed (call (found c) .before .before))) ≡ some (c .before .n .given .0 .0)
 has-end c = sym (ended (found c)) ∙ ap endOf (c .before .n .given .1)
 
 -- the schedule
 abbrev schedule : tie.After-read-schedule → List ℕ
-schedule c = let k = c .before .before in take (k .before .n .given .0 .0) (drop 47 (feed (call (found k) .before .before)))
+schedule c = let k = c .before .before in take (k .before .n .given .0 .0) (drop settingsLength (feed (call (found k) .before .before)))
 
 same-part : (c : tie.After-read-schedule) → let k = c .before .before in let s = feed (call (found k) .before .before) in
-    readSchedule (take (k .before .n .given .0 .0 - 0) (take (length s - 47) (drop 47 s))) ≡ readSchedule (schedule c)
+    readSchedule (take (k .before .n .given .0 .0 - 0) (take (length s - settingsLength) (drop settingsLength s))) ≡ readSchedule (schedule c)
 same-part c =
     let k = c .before .before in
     let n = k .before .n .given .0 .0 in
-    ap readSchedule (up-to n _ ∙ ap (take n) (rest 47 (feed (call (found k) .before .before))))
+    ap readSchedule (up-to n _ ∙ ap (take n) (rest settingsLength (feed (call (found k) .before .before))))
 
 returns : tie.Need-returns
 returns c =
     let s = now (c .before .before .args .feed) in
-    (sym (front-unset s (ap readSettings (take-all 47 s (omega (arith, c .if1 .taken))) ∙ short-settings s (c .if1 .taken))), tt)
+    (sym (front-unset s (ap readSettings (take-all settingsLength s (omega (arith, c .if1 .taken))) ∙ short-settings s (c .if1 .taken))), tt)
 
 sub-read-settings : tie.Need-sub-read-settings
 sub-read-settings c = search needs
