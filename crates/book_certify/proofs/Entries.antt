@@ -24,8 +24,7 @@ use Rattle.point.proofs.Laws.{parts-of}
 use Rattle.schedule.specs.Settings.{Settings}
 use Rattle.id_index.specs.Code.{countOf, placeIn, fieldId, idIn, Once, Index}
 use Rattle.books.specs.Kept.{Status, Valid, TransInvalid, Invalid, IllFormed, Kept, Book}
-use Rattle.books.specs.Following.{isIllFormed}
-use Rattle.books.specs.Spread.{hasDeps}
+use Rattle.books.specs.Spread.{isIllFormed, hasDeps}
 use Rattle.books.specs.Offer.{used}
 use Rattle.books.specs.Layout.{statusBytes, keptBytes}
 use Rattle.books.proofs.Shape.{KeptShape, Shape}

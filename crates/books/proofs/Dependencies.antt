@@ -6,7 +6,7 @@ use mathlib.Core.Logic.{_⊎_, inl, inr}
 use mathlib.Core.Bool.{Bool, true, false, not, _&&_}
 use mathlib.Core.Option.{Option, none, some}
 use mathlib.Core.List.{List, [], _∷_, List·Memᴰ, List·Memᴰ·head, List·Memᴰ·tail, List·Memᴰ·not-nil, List·Memᴰ·cases-cons, Memᴰ·append-left, Memᴰ·append-right}
-use lib.Dec.{T, eqb}
+use lib.Dec.{eqb}
 use borrow.Author.Tests.{ltb-false, eqb-true, eq-eqb, ne-eqb, not-false}
 use Rattle.base.proofs.Lists.{append-none}
 use Rattle.base.proofs.Tables.{AllNone, all-none, row-none}
@@ -26,7 +26,7 @@ use Rattle.rules.proofs.Passed.{by-position}
 use Rattle.rules.specs.Mismatch.{pairId}
 use Rattle.books.specs.Kept.{Status, Valid, TransInvalid, Invalid, IllFormed, Kept, Book, findKept}
 use Rattle.books.specs.Lists.{dagPoint, keptEntry, entryWith, lookup, lookups, directList}
-use Rattle.books.specs.Following.{isIllFormed}
+use Rattle.books.specs.Following.{IsFormed}
 use Rattle.books.proofs.Clear.{lookup-id}
 use Rattle.books.proofs.Find.{find-id}
 use Rattle.books.proofs.Following.{Inherited, HeldById, Linked}
@@ -78,7 +78,7 @@ module _ (p : PointInfo) (q : Pair) where
 record Clean (c : Settings) (b : Book) (p : PointInfo) (required : Bool) (i : PointId) : Type 0 where
   pub entry : Kept
   pub kept : findKept b i ≡ some entry
-  pub formed : T (not (isIllFormed (entry .status)))
+  pub formed : IsFormed (entry .status)
   pub isPrevPoint : Bool
   pub rows : AllNone (pointRows c required isPrevPoint (pointView p) (depView (entry .point)))
 
@@ -88,9 +88,9 @@ module _ (c : Settings) (b : Book) (p : PointInfo) (required : Bool) where
   clean-state isPrevPoint i h = go (findKept b i) refl h
     where
       of : (k : Kept) → findKept b i ≡ some k → (s : Status) → k .status ≡ s → RowsNone c required isPrevPoint (pointView p) (dagPoint (k .point) s) → Clean c b p required i
-      of k f Valid e r = record { entry = k; kept = f; formed = rw e tt; isPrevPoint = isPrevPoint; rows = by-position _ r }
-      of k f (TransInvalid d) e r = record { entry = k; kept = f; formed = rw e tt; isPrevPoint = isPrevPoint; rows = by-position _ r }
-      of k f (Invalid n) e r = record { entry = k; kept = f; formed = rw e tt; isPrevPoint = isPrevPoint; rows = by-position _ r }
+      of k f Valid e r = record { entry = k; kept = f; formed = λ m q. impossible (cc); isPrevPoint = isPrevPoint; rows = by-position _ r }
+      of k f (TransInvalid d) e r = record { entry = k; kept = f; formed = λ m q. impossible (cc); isPrevPoint = isPrevPoint; rows = by-position _ r }
+      of k f (Invalid n) e r = record { entry = k; kept = f; formed = λ m q. impossible (cc); isPrevPoint = isPrevPoint; rows = by-position _ r }
       of k f (IllFormed n) e r = absurd r
 
       go : (o : Option Kept) → findKept b i ≡ o → RowsNone c required isPrevPoint (pointView p) (entryWith b p i o .state) → Clean c b p required i

@@ -10,13 +10,14 @@ use lib.Dec.{ltb, lit<, lit≤}
 use borrow.Author.Tests.{ltb-true}
 use Rattle.base.specs.Base.{concat}
 use Rattle.base.proofs.Bool.{and-left, and-right}
+use Rattle.base.proofs.Impossible.{impossible}
 use Rattle.parts.specs.Bytes.{littleAt, bigAt, Bytes}
 use Rattle.map.specs.Rows.{pairsOf, peers}
 use Rattle.point.specs.Point.{source, target}
 use Rattle.schedule.specs.Settings.{readSettings}
 use Rattle.rules.specs.Mismatch.{mismatch, uncovered}
 use Rattle.rules.specs.Validate.{validate}
-use Rattle.books.specs.Kept.{Valid, Invalid, findKept, mark}
+use Rattle.books.specs.Kept.{Valid, Invalid, IllFormed, findKept, mark}
 use Rattle.books.specs.Offer.{Offer, used, offer}
 use Rattle.books.specs.Run.{Run, run, AreBytes}
 use Rattle.books.specs.Layout.{entriesBytes, bookBytes}
@@ -102,7 +103,7 @@ example =
       answers = as-given;
       book = as-left;
       laid = as-laid;
-      reaches = ((entry second Valid true, (refl, inr ((refl, (tt, tt)), (entry genesis Valid true, (refl, inl refl))))), (refl, (tt, tt)));
-      stops = ((entry first (Invalid 4) true, (refl, inl refl)), (refl, tt));
+      reaches = ((entry second Valid true, (refl, inr ((refl, (tt, tt)), (entry genesis Valid true, (refl, inl refl))))), (refl, (tt, λ n e. (let f : Valid ≡ IllFormed n = e in impossible (cc)))));
+      stops = ((entry first (Invalid 4) true, (refl, inl refl)), (refl, (4, refl)));
       found = as-found;
     }

@@ -15,7 +15,7 @@ use Rattle.point.specs.declared.data.AnchorStageRole.the-variants.{Proof, Trigg
 use Rattle.schedule.specs.Settings.{Settings}
 use Rattle.rules.specs.Mismatch.{pairId}
 use Rattle.books.specs.Kept.{Status, Valid, TransInvalid, Invalid, IllFormed, Kept, Book, findKept}
-use Rattle.books.specs.Following.{isIllFormed, isUsable, IsReached, IsStopped, IsPassed, Way}
+use Rattle.books.specs.Following.{IsFormed, isUsable, IsReached, IsStopped, IsPassed, Way}
 use Rattle.books.proofs.Find.{find-id, find-member}
 
 -- ---- what holds of an entry
@@ -29,21 +29,21 @@ Inherited Trigger p q = Unit
 pub record HeldById (b : Book) (p : PointInfo) (i : PointId) : Type 0 where
   pub entry : Kept
   pub kept : findKept b i ≡ some entry
-  pub formed : T (not (isIllFormed (entry .status)))
+  pub formed : IsFormed (entry .status)
   pub topped : (g : AnchorStageRole) → top g (entry .point) .round ≤ target g p .round
 
 -- the source of a link is kept, and its top is the link's target
 pub record Linked (b : Book) (p : PointInfo) (g : AnchorStageRole) : Type 0 where
   pub entry : Kept
   pub kept : findKept b (source g p) ≡ some entry
-  pub formed : T (not (isIllFormed (entry .status)))
+  pub formed : IsFormed (entry .status)
   pub leads : top g (entry .point) ≡ target g p
   pub inherited : Inherited g p (entry .point)
 
 -- of an entry by its point and its status; all of it stays true as the book grows
 pub record Stands (c : Settings) (b : Book) (p : PointInfo) (s : Status) : Type 0 where
-  pub floor : T (not (isIllFormed s)) → c .genesisRound ≤ p .id .round
-  pub genesis : T (not (isIllFormed s)) → p .id .round ≡ c .genesisRound → (g : AnchorStageRole) → isAnchorStage g (p .role) ≡ true
+  pub floor : IsFormed s → c .genesisRound ≤ p .id .round
+  pub genesis : IsFormed s → p .id .round ≡ c .genesisRound → (g : AnchorStageRole) → isAnchorStage g (p .role) ≡ true
   pub includes : T (isUsable s) → c .genesisRound < p .id .round → (q : Pair) → List·Memᴰ q (p .includes) → HeldById b p (pairId (p .id .round - 1) q)
   pub witness : T (isUsable s) → c .genesisRound < p .id .round → (q : Pair) → List·Memᴰ q (p .witness) → HeldById b p (pairId (p .id .round - 2) q)
   pub linked : T (isUsable s) → c .genesisRound < p .id .round → (g : AnchorStageRole) → Linked b p g
@@ -75,14 +75,14 @@ no-is true h = absurd h
 no-is false h = refl
 
 module _ (g : AnchorStageRole) (to : PointId) (k : Kept) where
-  past : (s : Status) → k .status ≡ s → T (not (isIllFormed s)) → isAnchorStage g (k .point .role) ≡ false → target g (k .point) ≡ to → IsStopped g to k ⊎ IsPassed g to k
+  past : (s : Status) → k .status ≡ s → IsFormed s → isAnchorStage g (k .point .role) ≡ false → target g (k .point) ≡ to → IsStopped g to k ⊎ IsPassed g to k
   past Valid q f r l = inr (l, (rw q tt, rw r tt))
   past (TransInvalid d) q f r l = inr (l, (rw q tt, rw r tt))
-  past (Invalid n) q f r l = inl (l, rw q tt)
-  past (IllFormed n) q f r l = absurd f
+  past (Invalid n) q f r l = inl (l, (n, q))
+  past (IllFormed n) q f r l = absurd (f n refl)
 
   -- a point whose top is the target is the target, or an Invalid point that links it, or one to go on from
-  arrives : T (not (isIllFormed (k .status))) → top g (k .point) ≡ to → IsReached g to k ⊎ (IsStopped g to k ⊎ IsPassed g to k)
+  arrives : IsFormed (k .status) → top g (k .point) ≡ to → IsReached g to k ⊎ (IsStopped g to k ⊎ IsPassed g to k)
   arrives f e = go (isAnchorStage g (k .point .role)) refl
     where
       go : (t : Bool) → isAnchorStage g (k .point .role) ≡ t → IsReached g to k ⊎ (IsStopped g to k ⊎ IsPassed g to k)
@@ -104,7 +104,7 @@ step b g to n p k f next (inr (inr h)) = let x = next h in (x .0, ((k, (f, inr (
 
 module _ (c : Settings) (b : Book) (all : AllStand c b) where
   -- a point that is not ill-formed and has not the role stands above genesis
-  above : (g : AnchorStageRole) (k : Kept) → List·Memᴰ k b → T (not (isIllFormed (k .status))) → isAnchorStage g (k .point .role) ≡ false →
+  above : (g : AnchorStageRole) (k : Kept) → List·Memᴰ k b → IsFormed (k .status) → isAnchorStage g (k .point .role) ≡ false →
       c .genesisRound < k .point .id .round
   above g k m f s =
       let low : c .genesisRound ≤ k .point .id .round = all k m .floor f in
@@ -143,7 +143,7 @@ module _ (c : Settings) (b : Book) (all : AllStand c b) where
       let f : some (x .entry) ≡ some k = sym (x .kept) ∙ h .1 .0 in
       let same : x .entry ≡ k = cc in
       let own : k .point .anchorTime ≡ p .anchorTime = subst (λ (y : Kept). y .point .anchorTime ≡ p .anchorTime) same (x .inherited r) in
-      let formed : T (not (isIllFormed (k .status))) = subst (λ (y : Kept). T (not (isIllFormed (y .status)))) same (x .formed) in
+      let formed : IsFormed (k .status) = subst (λ (y : Kept). IsFormed (y .status)) same (x .formed) in
       carried to n (p .anchorTime) k e own
       (λ v rest. follow-time to n (k .point) (k .status) (all k m) (v .1 .0) (above Proof k m formed (no-is _ (v .1 .1))) (no-is _ (v .1 .1)) e rest)
       (h .1 .1)

@@ -2,10 +2,9 @@
 use Prim.Native.Nat.{_-_, _≤_}
 use mathlib.Core.Path.{_≡_, refl, sym, ap, _∙_, subst}
 use mathlib.Core.Logic.{_⊎_, inl, inr}
-use mathlib.Core.Bool.{Bool, not}
+use mathlib.Core.Bool.{Bool}
 use mathlib.Core.Option.{some}
 use mathlib.Core.List.{_++_, map, List·Memᴰ, List·Memᴰ·append-cases}
-use lib.Dec.{T}
 use Rattle.point.specs.Point.{PointId, PointInfo, source, target, top}
 use Rattle.point.specs.declared.data.AnchorStageRole.{AnchorStageRole}
 use Rattle.schedule.specs.Settings.{Settings}
@@ -13,7 +12,7 @@ use Rattle.rules.specs.Mismatch.{pairId}
 use Rattle.books.specs.Kept.{Status, Kept, Book, findKept}
 use Rattle.books.specs.AnyMarks.{remark}
 use Rattle.books.proofs.Find.{find-front, remarked-kept, remark-member}
-use Rattle.books.specs.Following.{isIllFormed}
+use Rattle.books.specs.Following.{IsFormed}
 use Rattle.books.proofs.Following.{Inherited, HeldById, Linked, Stands, AllStand}
 
 -- ---- what an id finds, it finds in the grown book
@@ -43,7 +42,7 @@ module _ (c : Settings) (b d : Book) (grow : Grows b d) where
       record {
         entry = s .entry;
         kept = s .kept;
-        formed = subst (λ (x : Status). T (not (isIllFormed x))) (sym (s .status)) (h .formed);
+        formed = subst IsFormed (sym (s .status)) (h .formed);
         topped = λ g. subst (λ (q : PointInfo). top g q .round ≤ target g p .round) (sym (s .point)) (h .topped g);
       }
 
@@ -53,7 +52,7 @@ module _ (c : Settings) (b d : Book) (grow : Grows b d) where
       record {
         entry = s .entry;
         kept = s .kept;
-        formed = subst (λ (x : Status). T (not (isIllFormed x))) (sym (s .status)) (h .formed);
+        formed = subst IsFormed (sym (s .status)) (h .formed);
         leads = ap (top g) (s .point) ∙ h .leads;
         inherited = subst (Inherited g p) (sym (s .point)) (h .inherited);
       }

@@ -46,7 +46,7 @@ use Rattle.books.proofs.Found.{found-connected}
 
 module _ (c : Settings) (b : Book) (p : PointInfo) where
   ill-formed-stands : (n : ℕ) → Stands c b p (IllFormed n)
-  ill-formed-stands n = record { floor = λ f. absurd f; genesis = λ f. absurd f; includes = λ u. absurd u; witness = λ u. absurd u; linked = λ u. absurd u }
+  ill-formed-stands n = record { floor = λ f. absurd (f n refl); genesis = λ f. absurd (f n refl); includes = λ u. absurd u; witness = λ u. absurd u; linked = λ u. absurd u }
 
   module _ (s : Schedule) (pass : verify c s p ≡ none) where
     invalid-stands : (n : ℕ) → Stands c b p (Invalid n)

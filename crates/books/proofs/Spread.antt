@@ -3,10 +3,10 @@ use Prim.Native.Nat.{ℕ, zero, suc, _+_, _-_, _≤_, _<_}
 use native.Mathlib.Omega.{arith}
 use mathlib.Core.Path.{_≡_, refl, ap, sym, _∙_, subst}
 use mathlib.Core.Logic.{_⊎_, inl, inr}
-use mathlib.Core.Bool.{Bool, true, false, _||_}
+use mathlib.Core.Bool.{Bool, true, false, not, _||_}
 use mathlib.Core.Option.{Option, none, some}
 use mathlib.Core.List.{List, [], _∷_, List·Memᴰ, List·Memᴰ·head, List·Memᴰ·tail, List·Memᴰ·not-nil, List·Memᴰ·cases-cons}
-use lib.Dec.{T, ltb}
+use lib.Dec.{ltb}
 use borrow.Author.Tests.{ltb-true, lt-ltb}
 use Rattle.base.proofs.Bool.{never, clash, and-left, and-right, and-both, or-first, or-second, or-cases}
 use Rattle.base.proofs.Impossible.{impossible}
@@ -15,14 +15,13 @@ use Rattle.point.specs.Point.{PointId, Through, Includes, Witness, sameId}
 use Rattle.point.proofs.Ids.{same-refl, same-eq}
 use Rattle.schedule.specs.Settings.{Settings}
 use Rattle.rules.specs.Mismatch.{pairId, isId}
-use Rattle.books.specs.Kept.{Kept, Book, findKept, mark}
-use Rattle.books.specs.Following.{isIllFormed}
-use Rattle.books.specs.Spread.{hasDeps, anyPair, traverse, certifies, covers}
+use Rattle.books.specs.Kept.{Status, Valid, TransInvalid, Invalid, IllFormed, Kept, Book, findKept, mark}
+use Rattle.books.specs.Following.{IsFormed}
+use Rattle.books.specs.Spread.{isIllFormed, hasDeps, anyPair, traverse, certifies, covers}
 use Rattle.books.specs.FoundBook.{IsDependency, PassesOn, LeadsTo, there, down}
 use Rattle.books.proofs.Find.{find-id, find-member, once-found}
 use Rattle.books.proofs.Clear.{Covered, prev-covers}
 use Rattle.books.proofs.Shape.{Shape, domain-least}
-use Rattle.books.proofs.Following.{no-is}
 
 -- two tests that say the same
 pub both-ways : (x y : Bool) → (x ≡ true → y ≡ true) → (y ≡ true → x ≡ true) → x ≡ y
@@ -52,14 +51,26 @@ module _ (test : PointId → Bool) (round : ℕ) where
 
 -- ---- who passes a mark on
 
+formed-not : (s : Status) → IsFormed s → isIllFormed s ≡ false
+formed-not Valid f = refl
+formed-not (TransInvalid d) f = refl
+formed-not (Invalid n) f = refl
+formed-not (IllFormed n) f = absurd (f n refl)
+
+not-formed : (s : Status) → not (isIllFormed s) ≡ true → IsFormed s
+not-formed Valid h n e = impossible (cc)
+not-formed (TransInvalid d) h n e = impossible (cc)
+not-formed (Invalid m) h n e = impossible (cc)
+not-formed (IllFormed m) h n e = impossible (cc)
+
 module _ (c : Settings) (b : Book) (k : Kept) where
   pub has-deps : PassesOn c b k → hasDeps c k ≡ true
-  has-deps p = rw (lt-ltb (c .genesisRound) (k .point .id .round) (p .1 .0), no-is (isIllFormed (k .status)) (p .1 .1))
+  has-deps p = rw (lt-ltb (c .genesisRound) (k .point .id .round) (p .1 .0), formed-not (k .status) (p .1 .1))
 
   pub passes-on : List·Memᴰ k b → hasDeps c k ≡ true → PassesOn c b k
   passes-on m h =
       let r = and-right (ltb (c .genesisRound) (k .point .id .round)) _ h in
-      (m, (ltb-true (c .genesisRound) (k .point .id .round) (and-left (ltb (c .genesisRound) (k .point .id .round)) _ h), subst T (sym r) tt))
+      (m, (ltb-true (c .genesisRound) (k .point .id .round) (and-left (ltb (c .genesisRound) (k .point .id .round)) _ h), not-formed (k .status) r))
 
 -- ---- the point itself is covered
 

@@ -3,32 +3,32 @@
 use Prim.Native.Nat.{ℕ, zero, suc}
 use mathlib.Core.Path.{_≡_}
 use mathlib.Core.Logic.{_⊎_}
-use mathlib.Core.Bool.{Bool, not, _||_}
+use mathlib.Core.Bool.{Bool, true, false, not}
 use mathlib.Core.Option.{some}
-use lib.Dec.{T, eqb}
+use lib.Dec.{T}
 use Rattle.point.specs.Point.{PointId, PointInfo, isAnchorStage, source, target}
 use Rattle.point.specs.declared.data.AnchorStageRole.{AnchorStageRole}
-use Rattle.books.specs.Kept.{Status, stateNumber, Kept, Book, findKept}
+use Rattle.books.specs.Kept.{Status, Valid, TransInvalid, Invalid, IllFormed, Kept, Book, findKept}
 
-abbrev pub isIllFormed : Status → Bool
-isIllFormed s = eqb (stateNumber s) 3
+-- in any state but ill-formed
+abbrev pub IsFormed : Status → Type 0
+IsFormed s = (n : ℕ) → s ≡ IllFormed n → ⊥
 
-abbrev pub isInvalid : Status → Bool
-isInvalid s = eqb (stateNumber s) 2
-
--- Valid or TransInvalid
 abbrev pub isUsable : Status → Bool
-isUsable s = not (isInvalid s || isIllFormed s)
+isUsable Valid = true
+isUsable (TransInvalid d) = true
+isUsable (Invalid n) = false
+isUsable (IllFormed n) = false
 
 -- ---- from a point along its link in a role, towards the link's target
 
--- "the linked point in that role", in any state but ill-formed
+-- "the linked point in that role"
 abbrev pub IsReached : AnchorStageRole → PointId → Kept → Type 0
-IsReached g to k = (k .point .id ≡ to) × (T (isAnchorStage g (k .point .role)) × T (not (isIllFormed (k .status))))
+IsReached g to k = (k .point .id ≡ to) × (T (isAnchorStage g (k .point .role)) × IsFormed (k .status))
 
 -- "a point judged Invalid that links the same target"
 abbrev pub IsStopped : AnchorStageRole → PointId → Kept → Type 0
-IsStopped g to k = (target g (k .point) ≡ to) × T (isInvalid (k .status))
+IsStopped g to k = (target g (k .point) ≡ to) × ((n : ℕ) × (k .status ≡ Invalid n))
 
 -- a point on the way links the same target too: it is Valid or TransInvalid, and no anchor of that role itself
 abbrev pub IsPassed : AnchorStageRole → PointId → Kept → Type 0

@@ -29,7 +29,7 @@ use Rattle.books.specs.Run.{Moment, Run, momentOf, run, AreBytes}
 use Rattle.books.specs.Layout.{readBook}
 use Rattle.books.specs.ListFor.{listFor}
 use Rattle.books.specs.Calls.{openNumber, openBytes, opened, laidOut, inBytes, offerBytes, IsOfferNumber}
-use Rattle.books.specs.Following.{isIllFormed, isUsable, IsReached, IsStopped, Way}
+use Rattle.books.specs.Following.{IsFormed, isUsable, IsReached, IsStopped, Way}
 
 -- ---- what the offers did: their entries by their answers, their marks by the rule
 
@@ -79,7 +79,7 @@ IsDependency p i t =
 
 -- a kept point that passes a mark on: above genesis and not ill-formed
 abbrev pub PassesOn : Settings → Book → Kept → Type 0
-PassesOn c b k = List·Memᴰ k b × ((c .genesisRound < k .point .id .round) × T (not (isIllFormed (k .status))))
+PassesOn c b k = List·Memᴰ k b × ((c .genesisRound < k .point .id .round) × IsFormed (k .status))
 
 -- from an id a chain leads to i: no step, or one from a point that passes a mark on to a dependency, and a chain from there
 pub data LeadsTo (c : Settings) (b : Book) (i : PointId) : PointId → Type 0 where
@@ -165,7 +165,7 @@ pub record Held (b : Book) (p : PointInfo) (i : PointId) : Type 0 where
   pub entry : Kept
   pub kept : List·Memᴰ entry b
   pub named : entry .point .id ≡ i
-  pub formed : T (not (isIllFormed (entry .status)))
+  pub formed : IsFormed (entry .status)
   pub topped : (g : AnchorStageRole) → top g (entry .point) .round ≤ target g p .round
 
 -- a link, followed through its sources, leads "within round minus genesis round steps" to e

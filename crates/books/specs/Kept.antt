@@ -1,5 +1,5 @@
 -- The plain book (document 01, "The book"): a list of entries, what a mark does to them, and the slice that they stand in. Offer.antt
--- says when a mark is made.
+-- says when marks are made, Spread.antt how far they reach.
 use Prim.Native.Nat.{ℕ}
 use mathlib.Core.Bool.{Bool, false, _||_}
 use mathlib.Core.Option.{Option, none, some}
@@ -15,13 +15,6 @@ pub data Status : Type 0 where
   TransInvalid : InvalidDependency → Status
   Invalid : ℕ → Status
   IllFormed : ℕ → Status
-
--- "0 valid, 1 trans-invalid, 2 invalid, 3 ill-formed"
-abbrev pub stateNumber : Status → ℕ
-stateNumber Valid = 0
-stateNumber (TransInvalid d) = 1
-stateNumber (Invalid n) = 2
-stateNumber (IllFormed n) = 3
 
 -- an entry: the record as it was offered, the point that it says, and "state, certified, reason, root id, root's reason, map and
 -- peer it came through"

@@ -1,9 +1,9 @@
 -- The list of dependencies that the entries of a book and their marks give (document 01, "The book"), as bytes that `judge` takes.
 use Prim.Native.Nat.{ℕ, _-_}
-use mathlib.Core.Bool.{Bool, false, _&&_}
+use mathlib.Core.Bool.{Bool, true, false, _&&_}
 use mathlib.Core.Option.{Option, none, some}
 use mathlib.Core.List.{List, [], _∷_, _++_}
-use lib.Dec.{ltb, eqb}
+use lib.Dec.{ltb}
 use Rattle.base.specs.Base.{pick, isSome}
 use Rattle.map.specs.Rows.{Pair}
 use Rattle.point.specs.Point.{PointId, AnchorLink, Direct, Indirect, PointInfo, prevDigest, prevId, target, sameId}
@@ -12,7 +12,7 @@ use Rattle.point.specs.declared.data.AnchorStageRole.the-variants.{Proof, Trigg
 use Rattle.reasons.specs.Answer.{flag, roleNumber}
 use Rattle.rules.specs.DagPoint.{isBy}
 use Rattle.rules.specs.Mismatch.{pairId, isId}
-use Rattle.books.specs.Kept.{Status, Valid, TransInvalid, Invalid, IllFormed, stateNumber, Kept, Book, findKept}
+use Rattle.books.specs.Kept.{Status, Valid, TransInvalid, Invalid, IllFormed, Kept, Book, findKept}
 use Rattle.books.specs.Layout.{idBytes}
 
 -- tag 16: "state .., certified (0 or 1), first valid (0 or 1), reason number"
@@ -31,7 +31,10 @@ entryAs k certified first (Invalid n) = tag16 2 certified first n ++ k .bytes
 entryAs k certified first (IllFormed n) = tag16 3 certified first n ++ tag17 (k .point .id)
 
 abbrev pub isKeptValid : Status → Bool
-isKeptValid s = eqb (stateNumber s) 0
+isKeptValid Valid = true
+isKeptValid (TransInvalid d) = false
+isKeptValid (Invalid n) = false
+isKeptValid (IllFormed n) = false
 
 -- "First valid is the earliest Valid entry of that author and round"
 unfoldable pub isFirstValid : Book → PointId → Bool
