@@ -6,17 +6,19 @@ use mathlib.Core.Bool.{Bool, true, false}
 use mathlib.Core.Option.{Option, none, some}
 use mathlib.Core.List.{List, [], _∷_, map}
 use Rattle.map.specs.Rows.{Pair}
-use Rattle.point.specs.Point.{PointId, Through, Includes, Witness, Direct, Indirect, PointInfo, prevId}
+use Rattle.point.specs.Point.{PointId, Includes, Witness, Direct, Indirect, PointInfo, prevId}
 use Rattle.point.specs.declared.data.PointRole.the-variants.{Regular}
 use Rattle.schedule.specs.Settings.{Settings}
 use Rattle.reasons.specs.Invalid.{InvalidDependency}
 use Rattle.reasons.specs.Verdict as verdict
 use Rattle.rules.specs.Judge.{Given, needed}
 use Rattle.rules.specs.Mismatch.{isId}
-use Rattle.books.specs.Kept.{Status, Valid, TransInvalid, Invalid, IllFormed, Kept, Book, mark}
+use Rattle.books.specs.Kept.{Status, Valid, TransInvalid, Invalid, IllFormed, Kept, Book, mark, Opened}
 use Rattle.books.specs.Spread.{covers}
-use Rattle.books.specs.Offer.{markedBy, answerWith, keptAs}
-use Rattle.books.specs.Example.{conf, pointOf, idOf, pair, genesis, atEleven}
+use Rattle.books.specs.Offer.{answerWith, keptAs, offer}
+use Rattle.books.specs.Run.{Run, run}
+use Rattle.books.specs.Calls.{opened}
+use Rattle.books.specs.Example.{settingsBytes, conf, pointOf, idOf, pair, genesis, atEleven, first, second, third, dependent, offered, four}
 
 -- ---- books of points that have a round, a number for author and digest, includes and witness
 
@@ -48,8 +50,8 @@ reaching rounds =
     }
 
 -- whether each entry is marked after an offer with this previous point
-abbrev pub marks : ℕ → Book → Option PointId → List Bool
-marks rounds b prev = map (λ k. k .certified) (mark (covers (reaching rounds) b prev) b)
+abbrev pub marksOf : ℕ → Book → Option PointId → List Bool
+marksOf rounds b prev = map (λ k. k .certified) (mark (covers (reaching rounds) b prev) b)
 
 -- point 1 of each round includes that of the round below; that of 14 witnesses point 2 of 12. No point includes point 3 of 14.
 abbrev pub ladder : Book
@@ -63,8 +65,8 @@ ladder =
     ∷ []
 
 -- point 1 of 13 between that of 14 and that of 12, in this state and with this mark
-abbrev pub through : Status → Bool → Book
-through status certified =
+abbrev pub between : Status → Bool → Book
+between status certified =
     kept 12 1 [] [] Valid false ∷ kept 13 1 (1 ∷ []) [] status certified ∷ kept 14 1 (1 ∷ []) [] Valid false ∷ []
 
 -- point 1 of 12, and a point that includes the author's other version and another author's point of that digest
@@ -74,56 +76,56 @@ alike = kept 12 1 [] [] Valid false ∷ keptAs [] (pointOf (at 13 1) (pair 1 2 �
 abbrev pub rootCause : InvalidDependency
 rootCause = record { to = at 12 1; reason = 4; through = Includes 1 }
 
--- ---- a verdict over wider marks: the previous point includes an invalid one, which is a witness too
+-- ---- a verdict over wider marks, with Example's points up to round 12: `first` is invalid, and `dependent` includes it
 
-abbrev pub bad : PointInfo
-bad = atEleven 112 2 []
+abbrev pub fourth : PointInfo
+fourth = atEleven 114 4 []
 
-abbrev pub badCause : Through → InvalidDependency
-badCause through = record { to = bad .id; reason = 4; through = through }
+-- at 12 without `first`
+abbrev pub besides : ℕ → ℕ → List ℕ → PointInfo
+besides digest author evidenced =
+    pointOf (idOf 12 digest author) (pair 2 112 ∷ pair 3 113 ∷ pair 4 114 ∷ []) [] evidenced (Indirect (genesis .id) (Includes 2)) Regular 7
 
-abbrev pub previous : PointInfo
-previous = pointOf (idOf 12 121 1) (pair 1 111 ∷ pair 2 112 ∷ []) [] [] (Indirect (genesis .id) (Includes 1)) Regular 7
+-- its previous point is `dependent`, and its witness is `first`
+abbrev pub follower : PointInfo
+follower =
+    pointOf (idOf 13 132 2) (pair 2 122 ∷ pair 3 125 ∷ pair 4 126 ∷ []) (pair 1 111 ∷ []) (3 ∷ 4 ∷ []) (Indirect (genesis .id) (Includes 3)) Regular 8
 
-abbrev pub offered : PointInfo
-offered = pointOf (idOf 13 131 1) (pair 1 121 ∷ []) (pair 2 112 ∷ []) [] (Indirect (genesis .id) (Includes 1)) Regular 8
-
-abbrev pub before : Book
-before =
-    keptAs [] genesis Valid
-    ∷ keptAs [] (atEleven 111 1 []) Valid
-    ∷ keptAs [] bad (Invalid 4)
-    ∷ keptAs [] previous (TransInvalid (badCause (Includes 2)))
-    ∷ []
+-- the offers before it
+abbrev pub earlier : Run Opened
+earlier =
+    run offer (opened (settingsBytes conf) conf 10000)
+    (map (offered four 0) (genesis ∷ first ∷ second ∷ third ∷ fourth ∷ dependent ∷ besides 125 3 (2 ∷ 4 ∷ []) ∷ besides 126 4 (2 ∷ 3 ∷ []) ∷ []))
 
 -- ---- the facts
 
 pub record SpreadFacts : Type 0 where
   -- "its direct `includes`" with one round, their includes with two, the witness of an include with three
-  pub one : marks 1 ladder (some (at 15 1)) ≡ false ∷ false ∷ false ∷ true ∷ false ∷ true ∷ []
-  pub two : marks 2 ladder (some (at 15 1)) ≡ false ∷ false ∷ true ∷ true ∷ false ∷ true ∷ []
-  pub three : marks 3 ladder (some (at 15 1)) ≡ true ∷ true ∷ true ∷ true ∷ false ∷ true ∷ []
+  pub one : marksOf 1 ladder (some (at 15 1)) ≡ false ∷ false ∷ false ∷ true ∷ false ∷ true ∷ []
+  pub two : marksOf 2 ladder (some (at 15 1)) ≡ false ∷ false ∷ true ∷ true ∷ false ∷ true ∷ []
+  pub three : marksOf 3 ladder (some (at 15 1)) ≡ true ∷ true ∷ true ∷ true ∷ false ∷ true ∷ []
   -- a witness counts two; nothing above the previous point is marked
-  pub witnessOne : marks 1 ladder (some (at 14 1)) ≡ false ∷ false ∷ true ∷ true ∷ false ∷ false ∷ []
-  pub witnessTwo : marks 2 ladder (some (at 14 1)) ≡ true ∷ true ∷ true ∷ true ∷ false ∷ false ∷ []
+  pub witnessOne : marksOf 1 ladder (some (at 14 1)) ≡ false ∷ false ∷ true ∷ true ∷ false ∷ false ∷ []
+  pub witnessTwo : marksOf 2 ladder (some (at 14 1)) ≡ true ∷ true ∷ true ∷ true ∷ false ∷ false ∷ []
   -- without a previous point nothing is marked, nor where it is not kept
-  pub noPrevious : marks 3 ladder none ≡ false ∷ false ∷ false ∷ false ∷ false ∷ false ∷ []
-  pub unkept : marks 3 ladder (some (at 15 2)) ≡ false ∷ false ∷ false ∷ false ∷ false ∷ false ∷ []
+  pub noPrevious : marksOf 3 ladder none ≡ false ∷ false ∷ false ∷ false ∷ false ∷ false ∷ []
+  pub unkept : marksOf 3 ladder (some (at 15 2)) ≡ false ∷ false ∷ false ∷ false ∷ false ∷ false ∷ []
   -- points are told apart by the whole id
-  pub wholeId : marks 3 alike (some (at 13 1)) ≡ false ∷ true ∷ []
+  pub wholeId : marksOf 3 alike (some (at 13 1)) ≡ false ∷ true ∷ []
   -- Valid, TransInvalid and Invalid entries pass a mark on; ill-formed ones take it and pass nothing on
-  pub valid : marks 2 (through Valid false) (some (at 14 1)) ≡ true ∷ true ∷ true ∷ []
-  pub transInvalid : marks 2 (through (TransInvalid rootCause) false) (some (at 14 1)) ≡ true ∷ true ∷ true ∷ []
-  pub invalid : marks 2 (through (Invalid 4) false) (some (at 14 1)) ≡ true ∷ true ∷ true ∷ []
-  pub illFormed : marks 2 (through (IllFormed 16) false) (some (at 14 1)) ≡ false ∷ true ∷ true ∷ []
+  pub valid : marksOf 2 (between Valid false) (some (at 14 1)) ≡ true ∷ true ∷ true ∷ []
+  pub transInvalid : marksOf 2 (between (TransInvalid rootCause) false) (some (at 14 1)) ≡ true ∷ true ∷ true ∷ []
+  pub invalid : marksOf 2 (between (Invalid 4) false) (some (at 14 1)) ≡ true ∷ true ∷ true ∷ []
+  pub illFormed : marksOf 2 (between (IllFormed 16) false) (some (at 14 1)) ≡ false ∷ true ∷ true ∷ []
   -- a point at the genesis round, 10, takes it and passes nothing on
-  pub genesisRound : marks 3 (kept 9 1 [] [] Valid false ∷ kept 10 1 (1 ∷ []) [] Valid false ∷ kept 11 1 (1 ∷ []) [] Valid false ∷ []) (some (at 11 1)) ≡ false ∷ true ∷ true ∷ []
+  pub genesisRound : marksOf 3 (kept 9 1 [] [] (IllFormed 3) false ∷ kept 10 1 (1 ∷ []) [] Valid false ∷ kept 11 1 (1 ∷ []) [] Valid false ∷ []) (some (at 11 1)) ≡ false ∷ true ∷ true ∷ []
   -- the walk goes on through an entry that was marked before, and takes no mark away
-  pub markedBefore : marks 2 (through Valid true) (some (at 14 1)) ≡ true ∷ true ∷ true ∷ []
-  pub markedStays : marks 0 (through Valid true) (some (at 14 1)) ≡ false ∷ true ∷ true ∷ []
+  pub markedBefore : marksOf 2 (between Valid true) (some (at 14 1)) ≡ true ∷ true ∷ true ∷ []
+  pub markedStays : marksOf 1 (between Valid true) (some (at 12 1)) ≡ true ∷ true ∷ false ∷ []
   -- where an entry on the way is not kept, nothing below it is marked
-  pub missing : marks 2 (kept 12 1 [] [] Valid false ∷ kept 14 1 (1 ∷ []) [] Valid false ∷ []) (some (at 14 1)) ≡ false ∷ true ∷ []
+  pub missing : marksOf 2 (kept 12 1 [] [] Valid false ∷ kept 14 1 (1 ∷ []) [] Valid false ∷ []) (some (at 14 1)) ≡ false ∷ true ∷ []
   -- marks are made before judging: the invalid witness is covered by the same offer's mark, and the point is Valid. With the previous
   -- point's mark alone it is not.
-  pub wider : answerWith conf 3 offered (markedBy conf offered before (needed false)) (needed false) ≡ Given verdict.Valid
-  pub narrower : answerWith conf 3 offered (mark (isId (prevId offered)) before) (needed false) ≡ Given (verdict.TransInvalid (badCause (Witness 2)))
+  pub wider : offer (earlier .last) (offered four 0 follower) .answer ≡ Given verdict.Valid
+  pub narrower : answerWith conf 3 follower (mark (isId (prevId follower)) (earlier .last .book)) (needed false)
+      ≡ Given (verdict.TransInvalid (record { to = first .id; reason = 4; through = Witness 1 }))
