@@ -5,7 +5,7 @@ use mathlib.Core.Path.{_≡_, ap, sym, _∙_, subst}
 use mathlib.Core.Bool.{Bool, false}
 use mathlib.Core.List.{List}
 use lib.ListN.{length, take, drop, length-drop}
-use Rattle.base.proofs.Option.{none-some}
+use Rattle.base.specs.Base.{isSome}
 use Rattle.judge_valid.specs.Code.{pointViewOf}
 use Rattle.point.specs.Point.{PointId, Through, AnchorLink, Indirect, PointInfo, prevId, anchorLink}
 use Rattle.point.specs.declared.data.AnchorStageRole.{AnchorStageRole}
@@ -17,7 +17,7 @@ use Rattle.judge_step.specs.Code.{Judging, directStep, indirectStep, indirectFo
 use Rattle.judge_valid.specs.declared.view.PointView as code-view
 use Rattle.rules.specs.Mismatch.{isVersion, isId}
 use Rattle.judge_list.specs.Code.{prevIn}
-use Rattle.id_index.specs.Code.{placeIn, FoundAt}
+use Rattle.id_index.specs.Code.{placeIn, FoundAt, Index}
 use Rattle.id_index.specs.declared.Place.{Place}
 use Rattle.id_index.specs.declared.Place.the-variants.{At, Absent}
 use Rattle.judge_entries.specs.Code.{dagPointOf, partOf, ReadFrom, EntryPlaced}
@@ -26,14 +26,12 @@ use Rattle.judge_entries.specs.declared.DagPoint.the-variants as case-point
 use Rattle.books.specs.Kept.{Kept, Book}
 use Rattle.books.specs.Lists.{dagPoint, lookup, targetEntry}
 use Rattle.books.specs.Layout.{keptFront}
-use Rattle.book_layout.specs.Code.{statusOf, keptOf, readKeptOf, KeptPlaced}
-use Rattle.book_layout.specs.Code as layout
+use Rattle.book_layout.specs.Code.{statusOf, keptOf, KeptAt}
 use Rattle.book_layout.specs.declared.read.Kept as code-kept
-use Rattle.book_layout.specs.declared.read.ReadKept as code-read
-use Rattle.book_layout.specs.declared.read.ReadKept.the-variants as case-read
-use Rattle.book_judge.specs.Code.{Asked, shown, lookedOf, Looks, KeptLooked}
+use Rattle.book_judge.specs.Code.{Entries, Asked, shown, lookedOf, Looks, KeptLooked}
 use Rattle.book_judge.specs.declared.look.Looked as code-looked
-use Rattle.book_read.proofs.Laws.{found-kept, absent-kept}
+use Rattle.book_read.specs.Code.{Holds}
+use Rattle.book_read.proofs.Laws.{standing, found-kept, absent-kept}
 use Rattle.book_judge.proofs.Laws.{looked-kept, looked-absent, step-looked, indirect-judged}
 
 -- what `kept_at` says of the entry that starts at a place
@@ -42,37 +40,35 @@ LookedAt s place x =
     EntryPlaced s (x .state) (x .place) (x .end)
     × KeptLooked s place x
 
-placed-kept : (s : List ℕ) (r : code-read.ReadKept) (k : code-kept.Kept) → r ≡ case-read.Kept k → KeptPlaced s r → layout.KeptAt s k
-placed-kept s r k e h = rw e at h
-
 module _ (s : List ℕ) (place : ℕ) (part : List ℕ) (e : part ≡ drop place s) (inside : place ≤ length s)
-    (r : code-read.ReadKept) (front : readKeptOf part r ≡ keptFront part) where
-  pub looked-none : r ≡ case-read.Unreadable → LookedAt s place (record { state = case-point.Dropped; certified = false; place = place; end = place })
-  looked-none g = (
-    record { ordered = omega arith; inside = inside; read = tt },
-    λ y f. none-some (ap (readKeptOf part) (sym g) ∙ (front ∙ (ap keptFront e ∙ f))),
-  )
+    (k : code-kept.Kept) (h : KeptAt part k) where
+  pub kept-end : place + k .len ≤ length s
+  kept-end = omega (arith, h .inside, ap length e, length-drop place s)
 
-  module _ (k : code-kept.Kept) (g : r ≡ case-read.Kept k) (placed : KeptPlaced part r) where
-    pub kept-end : place + k .len ≤ length s
-    kept-end = omega (arith, placed-kept part r k g placed .inside, ap length e, length-drop place s)
+  pub looked-there : (state : code-point.DagPoint) →
+      ((t : List ℕ) → dagPointOf t state ≡ dagPoint (pointOf t (k .info)) (statusOf (k .status))) →
+      ((t : List ℕ) → Reads t (k .info) → ReadFrom t state) →
+      LookedAt s place (record { state = state; certified = k .certified; place = place; end = place + k .len })
+  looked-there state dag from =
+      let t = partOf s place (place + k .len) in
+      let g : take (k .len) part ≡ t = let n : place + k .len - place ≡ k .len = omega arith in rw (n, e) in (
+        record {
+          ordered = omega arith;
+          inside = kept-end;
+          read = from t (subst (λ (z : List ℕ). Reads z (k .info)) g (h .read));
+        },
+        λ y f first.
+            let w : keptOf (take (k .len) part) k ≡ y .kept = let q = sym (h .front) ∙ (ap keptFront e ∙ f) in cc in
+            rw (dag t) (ap (λ (z : Kept). shown z first) (ap (λ (z : List ℕ). keptOf z k) (sym g) ∙ w)),
+      )
 
-    pub looked-some : (state : code-point.DagPoint) →
-        ((t : List ℕ) → dagPointOf t state ≡ dagPoint (pointOf t (k .info)) (statusOf (k .status))) →
-        ((t : List ℕ) → Reads t (k .info) → ReadFrom t state) →
-        LookedAt s place (record { state = state; certified = k .certified; place = place; end = place + k .len })
-    looked-some state dag from =
-        let t = partOf s place (place + k .len) in
-        let h : take (k .len) part ≡ t = let n : place + k .len - place ≡ k .len = omega arith in rw (n, e) in (
-          record {
-            ordered = omega arith;
-            inside = kept-end;
-            read = from t (subst (λ (z : List ℕ). Reads z (k .info)) h (placed-kept part r k g placed .read));
-          },
-          λ y f first.
-              let w : keptOf (take (k .len) part) k ≡ y .kept = let q = ap (readKeptOf part) (sym g) ∙ (front ∙ (ap keptFront e ∙ f)) in cc in
-              rw (dag t) (ap (λ (z : Kept). shown z first) (ap (λ (z : List ℕ). keptOf z k) (sym h) ∙ w)),
-        )
+-- the entries of a book stand at the places of its index
+pub held-entries : {s : List ℕ} {b : Book} {x : List ℕ} → Holds s b x → Index s x → Entries s x
+held-entries {s} {b} {x} h i =
+    record {
+      index = i;
+      fronts = λ j lt. let k = standing b j (omega (arith, h .placed .count)) in ap isSome (h .placed .fronts j (k .0) (k .1) (k .2));
+    }
 
 -- ---- the entry of an id
 

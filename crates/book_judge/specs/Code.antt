@@ -1,10 +1,10 @@
 -- Judging a point by the lists that a book builds of its entries, and what the code's values stand for.
-use Prim.Native.Nat.{ℕ, _-_, _+_}
+use Prim.Native.Nat.{ℕ, _-_, _+_, _<_}
 use mathlib.Core.Path.{_≡_}
 use mathlib.Core.Bool.{Bool, true, false, not, _&&_, _||_}
 use mathlib.Core.List.{List, List·Memᴰ}
 use Rattle.judge_valid.specs.Code.{pointViewOf}
-use Rattle.base.specs.Base.{pick}
+use Rattle.base.specs.Base.{pick, isSome}
 use Rattle.map.specs.Rows.{Pair, pairsOf}
 use Rattle.point.specs.Point.{PointInfo, PointId, AnchorLink, anchorLink, inDomain}
 use Rattle.schedule.specs.Settings.{Settings}
@@ -16,6 +16,7 @@ use Rattle.judge_step.specs.Code.{Judging, directStep, judgingOf, start, direct
 use Rattle.rules.specs.Mismatch.{pairId, isVersion}
 use Rattle.books.specs.Kept.{Kept, Book}
 use Rattle.books.specs.Lists.{dagPoint, isValid, isOf, directList, indirectList, lookup, lookups, versions, targetEntry}
+use Rattle.id_index.specs.Code.{countOf, placeIn, Index}
 use Rattle.book_read.specs.Code.{Holds}
 use Rattle.judge_valid.specs.declared.view.PointView as code-view
 use Rattle.book_judge.specs.declared.look.Looked as code-looked
@@ -34,6 +35,11 @@ abbrev pub overBook : Settings → Bool → PointInfo → Book → Verdict
 overBook c required p b = validate c required 3 p (directList b p) (indirectList b p)
 
 -- ---- for contracts between functions
+
+-- x is an index of the entries in the bytes s
+pub record Entries (s x : List ℕ) : Type 0 where
+  pub index : Index s x
+  pub fronts : (j : ℕ) → j < countOf x → isSome (keptFront (drop (placeIn x j) s)) ≡ true
 
 -- a book whose entries stand in the bytes, and the point that a view is of
 pub record Asked (s : List ℕ) (b : Book) (x : List ℕ) (v : code-view.PointView) (p : PointInfo) : Type 0 where

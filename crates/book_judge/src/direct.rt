@@ -13,14 +13,15 @@ ghost use mathlib.Core.Path.{_≡_};
 ghost use mathlib.Core.Bool.{true, not, _&&_, _||_};
 ghost use mathlib.Core.List.{List};
 ghost use Prim.Native.Nat.{ℕ, _+_, _≤_};
-ghost use lib.ListN.{length};
+ghost use lib.ListN.{length, drop};
+ghost use Rattle.base.specs.Base.{isSome};
 ghost use Rattle.judge_valid.specs.Code.{pointViewOf};
 ghost use Rattle.point.specs.Code.{Reads};
 ghost use Rattle.schedule.specs.Code.{settingsOf};
 ghost use Rattle.judge_entries.specs.Code.{dagPointOf, partOf, EntryPlaced};
 ghost use Rattle.judge_step.specs.Code.{directStep, judgingOf, Quiet};
-ghost use Rattle.id_index.specs.Code.{Index};
-ghost use Rattle.book_judge.specs.Code.{lookedOf, isValidState, versionsOf, MapJudged};
+ghost use Rattle.books.specs.Layout.{keptFront};
+ghost use Rattle.book_judge.specs.Code.{Entries, lookedOf, isValidState, versionsOf, MapJudged};
 ghost use Rattle.book_judge.specs.Code.{VersionJudged, VersionsJudged, DirectListJudged};
 
 // What every entry is judged by: the settings, whether regular points are required, and the view of the point.
@@ -85,7 +86,7 @@ fn judge_map(
     index: &[u16],
     so_far: Judging,
 ) -> Judging
-    requires { ⌜ Index (now book) (now index) ⌝ }
+    requires { ⌜ Entries (now book) (now index) ⌝ }
     ensures { λ r. ⌜ MapJudged (settingsOf (by .conf)) (by .required) (by .view) round (now (rows .entry)) (now (book .entry)) (now (index .entry)) (judgingOf «so_far»)
         (judgingOf r) ⌝ }
 {
@@ -125,7 +126,7 @@ fn is_first(state: DagPoint, seen: bool) -> bool
 
 // Judges the entry at a place, if it is a version of the author's point at the round before.
 fn judge_version(by: By, book: &[u8], place: usize, so_far: Versions) -> Versions
-    requires { ⌜ place + 71 ≤ length (now book) ⌝ }
+    requires { ⌜ (place + 71 ≤ length (now book)) × (isSome (keptFront (drop place (now book))) ≡ true) ⌝ }
     ensures { λ r. ⌜ VersionJudged (settingsOf (by .conf)) (by .required) (by .view) (now (book .entry)) place (versionsOf «so_far») (versionsOf r) ⌝ }
 {
     let p = by.view;
@@ -146,7 +147,7 @@ fn judge_version(by: By, book: &[u8], place: usize, so_far: Versions) -> Version
 
 // Judges the versions of the author's point at the round before, in the book's order.
 fn judge_versions(by: By, book: &[u8], index: &[u16], judging: Judging) -> Judging
-    requires { ⌜ Index (now book) (now index) ⌝ }
+    requires { ⌜ Entries (now book) (now index) ⌝ }
     ensures { λ r. ⌜ VersionsJudged (settingsOf (by .conf)) (by .required) (by .view) (now (book .entry)) (now (index .entry)) (judgingOf judging) (judgingOf r) ⌝ }
 {
     let mut so_far = Versions {
@@ -173,7 +174,7 @@ pub fn judge_direct_list(
     index: &[u16],
 ) -> Judging
     requires { ⌜ Reads (now rec) info ⌝ }
-    requires { ⌜ Index (now book) (now index) ⌝ }
+    requires { ⌜ Entries (now book) (now index) ⌝ }
     ensures { λ r. ⌜ DirectListJudged (settingsOf conf) required p (now (rec .entry)) (now (book .entry)) (now (index .entry)) (judgingOf r) ⌝ }
 {
     let by = By {

@@ -15,9 +15,8 @@ ghost use Rattle.point.specs.Code.{linkOf, pointOf, Reads};
 ghost use Rattle.schedule.specs.Code.{settingsOf};
 ghost use Rattle.reasons.specs.Code.{verdictOf};
 ghost use Rattle.judge_step.specs.Code.{judgingOf};
-ghost use Rattle.id_index.specs.Code.{Index};
 ghost use Rattle.books.specs.Lists.{isTriggerFirst};
-ghost use Rattle.book_judge.specs.Code.{TargetJudged, TargetsJudged, BookJudged};
+ghost use Rattle.book_judge.specs.Code.{Entries, TargetJudged, TargetsJudged, BookJudged};
 
 // Judges the target of a link, if it is indirect.
 fn judge_target(
@@ -29,7 +28,7 @@ fn judge_target(
     index: &[u16],
     so_far: Judging,
 ) -> Judging
-    requires { ⌜ Index (now book) (now index) ⌝ }
+    requires { ⌜ Entries (now book) (now index) ⌝ }
     ensures { λ r. ⌜ TargetJudged (settingsOf conf) p role (linkOf link) (now (book .entry)) (now (index .entry)) (judgingOf «so_far») (judgingOf r) ⌝ }
 {
     match link {
@@ -81,7 +80,7 @@ fn judge_targets(
     index: &[u16],
     so_far: Judging,
 ) -> Judging
-    requires { ⌜ Index (now book) (now index) ⌝ }
+    requires { ⌜ Entries (now book) (now index) ⌝ }
     ensures { λ r. ⌜ TargetsJudged (settingsOf conf) p info (now (book .entry)) (now (index .entry)) (judgingOf «so_far») (judgingOf r) ⌝ }
 {
     let proof = info.anchor_proof;
@@ -106,7 +105,7 @@ pub fn judge_book(
     index: &[u16],
 ) -> Verdict
     requires { ⌜ Reads (now rec) info ⌝ }
-    requires { ⌜ Index (now book) (now index) ⌝ }
+    requires { ⌜ Entries (now book) (now index) ⌝ }
     ensures { λ r. ⌜ BookJudged (settingsOf conf) required (pointOf (now (rec .entry)) info) (now (book .entry)) (now (index .entry)) (verdictOf r) ⌝ }
 {
     let p = judge_valid::point_view(rec, info);

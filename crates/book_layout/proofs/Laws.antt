@@ -8,7 +8,7 @@ use mathlib.Core.Bool.{Bool, true, false, _&&_, and-assoc}
 use mathlib.Core.Option.{Option, none, some, Option·map}
 use mathlib.Core.List.{List, [], _∷_, _++_, append-assoc}
 use lib.ListN.{length, getD, set, take, drop, take-append-drop, drop-of-length-le, length-take, length-drop}
-use lib.Seq.{drop-cons, drop-drop, take-add, length-take-le}
+use lib.Seq.{drop-cons, drop-drop, take-add}
 use lib.Dec.{leb, eqb}
 use borrow.Author.Tests.{le-leb, lt-leb, eq-eqb, ne-eqb}
 use Rattle.base.specs.Base.{pick, isSome}
@@ -23,18 +23,18 @@ use Rattle.record.specs.Code.{Shaped, ShapeOf}
 use Rattle.record.specs.declared.Shape.{Shape}
 use Rattle.record.specs.declared.ReadShape as code-read-shape
 use Rattle.record.specs.declared.ReadShape.the-variants as case-read-shape
-use Rattle.record.proofs.Laws.{fitting, end-within}
+use Rattle.record.proofs.Laws.{fitting}
 use Rattle.point.specs.Point.{PointId, Through, Includes, Witness, PointInfo, inDomain}
 use Rattle.point.specs.Reading.{pointIdAt, readPoint}
 use Rattle.point.specs.Code.{pointOf, Reads}
 use Rattle.point.specs.declared.info.PointInfo as code-info
+use Rattle.point.proofs.Known.{picked-some}
 use Rattle.reasons.specs.Invalid.{dagRound}
 use Rattle.rules.specs.List.{isNamed, isListable}
 use Rattle.books.specs.Kept.{Status, Valid, TransInvalid, Invalid, IllFormed, Kept}
 use Rattle.books.specs.Layout.{idBytes, isZeros, throughAt, rootAt, isRootOk, readStatus, isKeepable, readKept, KeptFront, keptFront}
-use Rattle.book_layout.specs.Code.{keptEntryOf, EntryFrom, readKeptOf, KeptPlaced, EntryTo}
-use Rattle.book_layout.specs.declared.read.ReadKept as code-read-kept
-use Rattle.book_layout.specs.declared.read.ReadKept.the-variants as case-read-kept
+use Rattle.book_layout.specs.Code.{statusOf, KeptAt, EntryTo}
+use Rattle.book_layout.specs.declared.status.Status as code-status
 
 -- ---- zeros
 
@@ -125,10 +125,6 @@ module _ (s : List ℕ) (at : ℕ) where
 some-picked : {A : Type 0} (b : Bool) (x : A) → isSome (pick b (some x) none) ≡ b
 some-picked true x = refl
 some-picked false x = refl
-
-picked-some : {A : Type 0} (b : Bool) (x : A) → isSome (pick b (some x) none) ≡ true → pick b (some x) none ≡ some x
-picked-some true x h = refl
-picked-some false x h = impossible (cc)
 
 module _ (t : List ℕ) where
   module _ (r : ℕ) (e : r ≡ littleAt 4 t 3) where
@@ -221,16 +217,6 @@ module _ (bytes : List ℕ) (q : PointInfo) (t : List ℕ) where
     unfolding readKept
     entry-statusless n = rw (le-leb (getD t 1 0) 1 h, n)
 
-    module _ (s : Status) (e : readStatus t ≡ some s) where
-      pub entry-unkept : isKeepable q s ≡ false → readKept bytes q t ≡ none
-      unfolding readKept
-      entry-unkept k = rw (le-leb (getD t 1 0) 1 h, e, k)
-
-      pub entry-kept : isKeepable q s ≡ true →
-          readKept bytes q t ≡ some (record { bytes = bytes; point = q; status = s; certified = eqb (getD t 1 0) 1 })
-      unfolding readKept
-      entry-kept k = rw (le-leb (getD t 1 0) 1 h, e, k)
-
     -- with a status, an entry is up to whether it may be kept
     pub entry-some : (s : Status) → readStatus t ≡ some s → isSome (readKept bytes q t) ≡ isKeepable q s
     unfolding readKept
@@ -276,13 +262,14 @@ module _ (bytes : List ℕ) (q : PointInfo) (t : List ℕ) where
       unfolding isListable
       entry-listed e = entry-by ∙ rw (ne-eqb (getD t 0 0) 3 e, d)
 
-  -- an entry has its record and its point
-  pub entry-whose : (k : Kept) → readKept bytes q t ≡ some k → (k .bytes ≡ bytes) × (k .point ≡ q)
+  -- an entry has its record, its point, the status and the mark
+  pub entry-parts : (k : Kept) → readKept bytes q t ≡ some k →
+      (s : Status) × (readStatus t ≡ some s) × (k ≡ record { bytes = bytes; point = q; status = s; certified = eqb (getD t 1 0) 1 })
   unfolding readKept
-  entry-whose k h =
+  entry-parts k h =
       let s = and-then (readStatus t) _ k (picked (leb (getD t 1 0) 1) _ k h .1) in
       let e = picked (isKeepable q (s .0)) _ k (s .2) .1 in
-      (cc, cc)
+      (s .0, s .1, cc)
 
 -- ---- the entry at the front of a slice
 
@@ -341,29 +328,60 @@ module _ (s part : List ℕ) (n : ℕ) (e : recordEnd s ≡ some n) (p : part �
           go : (o : Option Kept) → readKept part q tag ≡ o → isSome o ≡ true → EntryTo s n
           go none e d = impossible (cc)
           go (some k) e d =
-              let w = entry-whose part q tag k e in
-              record { kept = k; front = front-read ∙ rw e; bytes = w .0 ∙ p; read = rw (← p, w .1) h; inside = tag-inside n s f }
+              let w = entry-parts part q tag k e .2 in
+              record {
+                kept = k;
+                front = front-read ∙ rw e;
+                bytes = ap (λ (z : Kept). z .bytes) w ∙ p;
+                read = rw (← p, ap (λ (z : Kept). z .point) w) h;
+                inside = tag-inside n s f;
+              }
 
-  part-length : length part ≡ n
-  part-length = rw p (length-take-le n s (end-within s n e))
+-- ---- an entry that is known to stand there
 
-  module _ (i : code-info.PointInfo) (h : Reads part i) (f : fieldOk (fieldRow 33 105 105) s n ≡ true) where
-    kept-sized : (r : code-read-kept.ReadKept) → EntryFrom part i r → readKeptOf s r ≡ sized (n + tag33Length) (keptEntryOf part r)
-    kept-sized (case-read-kept.Kept k) w = let l : k .len ≡ n = w .len ∙ part-length in rw (l, ← p)
-    kept-sized case-read-kept.Unreadable w = refl
+module _ (s : List ℕ) (h : isSome (keptFront s) ≡ true) where
+  there : {A : Type 0} (o : Option A) → (o ≡ none → keptFront s ≡ none) → isSome o ≡ true
+  there none f = clash (isSome (keptFront s)) h (ap isSome (f refl))
+  there (some x) f = refl
 
-    kept-placed : (r : code-read-kept.ReadKept) → EntryFrom part i r → KeptPlaced s r
-    kept-placed (case-read-kept.Kept k) w =
-        let l : k .len ≡ n = w .len ∙ part-length in
-        record { inside = omega (arith, tag-inside n s f); read = rw (l, ← p, w .info) h }
-    kept-placed case-read-kept.Unreadable w = tt
+  holds : (b : Bool) → (b ≡ false → keptFront s ≡ none) → b ≡ true
+  holds true f = refl
+  holds false f = clash (isSome (keptFront s)) h (ap isSome (f refl))
 
-    pub front-entry : (tag : List ℕ) (r : code-read-kept.ReadKept) → tag ≡ take 105 (drop (n + 3) s) →
-        (keptEntryOf part r ≡ readKept part (pointOf part i) tag) × EntryFrom part i r → (readKeptOf s r ≡ keptFront s) × KeptPlaced s r
-    front-entry tag r g w = (
-      kept-sized r (w .1) ∙ (ap (sized (n + tag33Length)) (w .0 ∙ ap (readKept part (pointOf part i)) g) ∙ sym (front-tagged (pointOf part i) (h .read) f)),
-      kept-placed r (w .1),
-    )
+  pub known-end : isSome (recordEnd s) ≡ true
+  known-end = there (recordEnd s) (front-endless s)
+
+  module _ (part : List ℕ) (n : ℕ) (e : recordEnd s ≡ some n) (p : part ≡ take n s) where
+    pub known-point : isSome (readPoint part) ≡ true
+    known-point = there (readPoint part) (front-unread s part n e p)
+
+    known-tag : fieldOk (fieldRow 33 105 105) s n ≡ true
+    known-tag = let q = some-of (readPoint part) known-point in holds (fieldOk (fieldRow 33 105 105) s n) (front-tagless s part n e p (q .0) (q .1))
+
+    pub known-inside : n + 108 ≤ length s
+    known-inside = tag-inside n s known-tag
+
+    module _ (tag : List ℕ) (g : tag ≡ take 105 (drop (n + 3) s)) where
+      known-entry : (q : PointInfo) → readPoint part ≡ some q → (k : Kept) × (readKept part q tag ≡ some k)
+      known-entry q r = some-of (readKept part q tag) (holds (isSome (readKept part q tag)) (front-no-entry s part n e p q r known-tag tag g))
+
+      pub known-status : isSome (readStatus tag) ≡ true
+      known-status =
+          let q = some-of (readPoint part) known-point in
+          let k = known-entry (q .0) (q .1) in
+          ap isSome (entry-parts part (q .0) tag (k .0) (k .1) .1)
+
+      pub known-kept : (i : code-info.PointInfo) (x : code-status.Status) → Reads part i → readStatus tag ≡ some (statusOf x) →
+          KeptAt s (record { info = i; status = x; certified = eqb (getD tag 1 0) 1; len = n })
+      known-kept i x r t =
+          let k = known-entry (pointOf part i) (r .read) in
+          let w = entry-parts part (pointOf part i) tag (k .0) (k .1) in
+          let y : w .0 ≡ statusOf x = let a = w .1 in cc in
+          record {
+            front = front-read s part n e p (pointOf part i) (r .read) known-tag tag g ∙ rw (k .1, w .2, y, p);
+            inside = known-inside;
+            read = rw (← p) r;
+          }
 
 -- ---- an entry's bytes
 

@@ -6,9 +6,8 @@ mod zeros;
 
 pub use put::put_kept;
 pub use read::Kept;
-pub use read::ReadKept;
 pub use read::kept_end;
-pub use read::read_kept;
+pub use read::known_kept;
 pub use status::Left;
 pub use status::Status;
 pub use status::dag_point;

@@ -3,7 +3,6 @@ use crate::status::Status;
 use crate::zeros;
 use map::Position;
 use point::PointInfo;
-use point::ReadPoint;
 use point::Through;
 use reasons::InvalidDependency;
 use record::End;
@@ -20,11 +19,11 @@ ghost use Rattle.record.specs.Record.{startOf};
 ghost use Rattle.map.specs.Code.{positionOf};
 ghost use Rattle.record.specs.Code.{PlacesOf};
 ghost use Rattle.point.specs.Point as point;
-ghost use Rattle.point.specs.Code.{throughOf, pointOf, Reads};
+ghost use Rattle.point.specs.Code.{throughOf};
 ghost use Rattle.point.specs.Reading.{readLink, readPoint};
 ghost use Rattle.rules.specs.List.{isNamed};
-ghost use Rattle.books.specs.Layout.{throughAt, isRootOk, readStatus, isKeepable, readKept, keptFront};
-ghost use Rattle.book_layout.specs.Code.{statusOf, keptEntryOf, EntryFrom, readKeptOf, KeptPlaced, KeptEnd};
+ghost use Rattle.books.specs.Layout.{throughAt, isRootOk, readStatus, readKept, keptFront};
+ghost use Rattle.book_layout.specs.Code.{statusOf, KeptAt, KeptEnd};
 
 // An entry whose record takes `len` bytes; tag 33 takes 108 after them.
 pub struct Kept {
@@ -32,11 +31,6 @@ pub struct Kept {
     pub status: Status,
     pub certified: bool,
     pub len: usize,
-}
-
-pub enum ReadKept {
-    Kept(Kept),
-    Unreadable,
 }
 
 const TAG: Row = Row {
@@ -151,45 +145,6 @@ fn status_of(t: &[u8]) -> Status
     }
 }
 
-// Whether a point may be kept with a status.
-fn is_keepable(rec: &[u8], info: PointInfo, status: Status) -> bool
-    requires { ⌜ Reads (now rec) info ⌝ }
-    ensures { λ r. ⌜ r ≡ isKeepable (pointOf (now (rec .entry)) info) (statusOf status) ⌝ }
-{
-    match status {
-        Status::Valid => judge_entries::is_listable(rec, info),
-        Status::TransInvalid(_) => judge_entries::is_listable(rec, info),
-        Status::Invalid(_) => judge_entries::is_listable(rec, info),
-        Status::IllFormed(_) => point::is_in_domain(rec, info),
-    }
-}
-
-// The entry of a record and the 105 bytes of tag 33.
-fn entry_of(rec: &[u8], info: PointInfo, t: &[u8]) -> ReadKept
-    requires reads { ⌜ Reads (now rec) info ⌝ }
-    requires long { ⌜ length (now t) ≡ 105 ⌝ }
-    ensures same { λ r. ⌜ keptEntryOf (now (rec .entry)) r ≡ readKept (now (rec .entry)) (pointOf (now (rec .entry)) info) (now (t .entry)) ⌝ }
-    ensures from { λ r. ⌜ EntryFrom (now (rec .entry)) info r ⌝ }
-{
-    let certified = t[1];
-    if 1 < certified {
-        return ReadKept::Unreadable;
-    }
-    if !is_status(t) {
-        return ReadKept::Unreadable;
-    }
-    let status = status_of(t);
-    if !is_keepable(rec, info, status) {
-        return ReadKept::Unreadable;
-    }
-    ReadKept::Kept(Kept {
-        info,
-        status,
-        certified: certified == 1,
-        len: rec.len(),
-    })
-}
-
 // Where the peer of a direct link stands in its map.
 fn peer_position(
     rec: &[u8],
@@ -289,20 +244,19 @@ pub fn kept_end(s: &[u8]) -> End
     End::At(n)
 }
 
-// The entry at the front of a slice.
-pub fn read_kept(s: &[u8]) -> ReadKept
-    ensures same { λ r. ⌜ readKeptOf (now (s .entry)) r ≡ keptFront (now (s .entry)) ⌝ }
-    ensures placed { λ r. ⌜ KeptPlaced (now (s .entry)) r ⌝ }
+// The entry at the front of a slice that is known to stand there: nothing of it is tested again.
+pub fn known_kept(s: &[u8]) -> Kept
+    requires { ⌜ isSome (keptFront (now s)) ≡ true ⌝ }
+    ensures { λ r. ⌜ KeptAt (now (s .entry)) r ⌝ }
 {
-    let End::At(n) = record::record_end(s) else {
-        return ReadKept::Unreadable;
-    };
-    let rec = &s[0..n];
-    let ReadPoint::Point(info) = point::read_shaped(rec) else {
-        return ReadKept::Unreadable;
-    };
-    if !record::field_ok(s, n, TAG) {
-        return ReadKept::Unreadable;
+    let n = record::known_end(s);
+    let info = point::known_point(&s[0..n]);
+    let t = &s[n + 3..n + parts::TAG33_LENGTH];
+    let status = status_of(t);
+    Kept {
+        info,
+        status,
+        certified: t[1] == 1,
+        len: n,
     }
-    entry_of(rec, info, &s[n + 3..n + parts::TAG33_LENGTH])
 }

@@ -17,12 +17,6 @@ use Rattle.point.specs.declared.link.AnchorLink as code-link
 use Rattle.point.specs.declared.link.AnchorLink.the-variants as case-link
 use Rattle.point.specs.declared.info.PointInfo as code-info
 use Rattle.point.specs.declared.info.AnchorView as code-view
-use Rattle.point.specs.declared.read.ReadThrough as code-read-through
-use Rattle.point.specs.declared.read.ReadThrough.the-variants as case-read-through
-use Rattle.point.specs.declared.read.ReadLink as code-read-link
-use Rattle.point.specs.declared.read.ReadLink.the-variants as case-read-link
-use Rattle.point.specs.declared.read.ReadRole as code-read-role
-use Rattle.point.specs.declared.read.ReadRole.the-variants as case-read-role
 use Rattle.point.specs.declared.read.ReadPoint as code-read-point
 use Rattle.point.specs.declared.read.ReadPoint.the-variants as case-read-point
 use Rattle.point.specs.declared.info.ThroughId as code-through-id
@@ -66,18 +60,6 @@ linkIn Trigger i = linkOf (i .«anchor_trigger»)
 
 abbrev pub viewOf : code-view.AnchorView → AnchorView
 viewOf v = record { top = pointIdOf (v .top); target = pointIdOf (v .target); source = pointIdOf (v .source) }
-
-abbrev pub readThroughOf : code-read-through.ReadThrough → Option Through
-readThroughOf (case-read-through.Through t) = some (throughOf t)
-readThroughOf case-read-through.Unreadable = none
-
-abbrev pub readLinkOf : code-read-link.ReadLink → Option AnchorLink
-readLinkOf (case-read-link.Link l) = some (linkOf l)
-readLinkOf case-read-link.Unreadable = none
-
-abbrev pub readRoleOf : code-read-role.ReadRole → Option PointRole
-readRoleOf (case-read-role.Role r) = some r
-readRoleOf case-read-role.Unreadable = none
 
 -- what the reader gave for a record: the point that it says, and where its maps end
 pub record Reads (s : List ℕ) (i : code-info.PointInfo) : Type 0 where

@@ -1,6 +1,5 @@
 // Whether a record of the right shape is a point, and what is asked of it, without the point by value: where many records
 // are walked over, copying it costs more than the tests.
-use crate::read;
 use record::Places;
 ghost use mathlib.Core.Path.{_≡_};
 ghost use mathlib.Core.Bool.{true};
@@ -8,10 +7,10 @@ ghost use mathlib.Core.Option.{some};
 ghost use Prim.Native.Nat.{_≤_};
 ghost use lib.ListN.{length};
 ghost use Rattle.base.specs.Base.{isSome};
-ghost use Rattle.record.specs.Record.{wellShaped};
+ghost use Rattle.record.specs.Record.{startOf, wellShaped};
 ghost use Rattle.record.specs.Code.{PlacesOf};
 ghost use Rattle.point.specs.Point as point;
-ghost use Rattle.point.specs.Reading.{readLink, readRole, readPoint};
+ghost use Rattle.point.specs.Reading.{readLink, readRole, mapsOk, readPoint};
 
 // Whether a link can be read.
 fn is_link(s: &[u8]) -> bool
@@ -48,12 +47,31 @@ fn is_role(s: &[u8]) -> bool
     false
 }
 
+// Whether includes, witness and evidence are whole rows that rise.
+fn are_maps_ok(rec: &[u8], at: Places) -> bool
+    requires { ⌜ wellShaped (now rec) ≡ true ⌝ }
+    requires { ⌜ (at .includes ≡ startOf (now rec) 2) × (at .witness ≡ startOf (now rec) 3) ⌝ }
+    requires { ⌜ (at .evidence ≡ startOf (now rec) 4) × (at .«anchor_proof» ≡ startOf (now rec) 5) ⌝ }
+    ensures { λ r. ⌜ r ≡ mapsOk (now (rec .entry)) ⌝ }
+{
+    if !map::is_well_rowed(record::content_from(rec, at.includes, at.witness, 2), 64) {
+        return false;
+    }
+    if !map::is_well_rowed(record::content_from(rec, at.witness, at.evidence, 3), 64) {
+        return false;
+    }
+    map::is_well_rowed(
+        record::content_from(rec, at.evidence, at.anchor_proof, 4),
+        32,
+    )
+}
+
 // Whether a record whose fields start at these places is a point.
 pub fn is_point(rec: &[u8], at: Places) -> bool
     requires { ⌜ (wellShaped (now rec) ≡ true) × PlacesOf (now rec) at ⌝ }
     ensures { λ r. ⌜ r ≡ isSome (readPoint (now (rec .entry))) ⌝ }
 {
-    if !read::are_maps_ok(rec, at) {
+    if !are_maps_ok(rec, at) {
         return false;
     }
     if !is_link(record::content_from(rec, at.anchor_proof, at.anchor_trigger, 5)) {

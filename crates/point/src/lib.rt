@@ -30,6 +30,7 @@ pub use link::AnchorLink;
 pub use link::IndirectLink;
 pub use link::Through;
 pub use read::ReadPoint;
+pub use read::known_point;
 pub use read::point_id_at;
 pub use read::read_point;
 pub use read::read_shaped;

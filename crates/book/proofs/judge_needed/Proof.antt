@@ -5,6 +5,7 @@ use denote.Ref.{now}
 use Rattle.parts.specs.Bytes.{Bytes}
 use Rattle.rules.specs.Judge.{Given}
 use Rattle.book_read.proofs.Marked.{marked-holds, marked-index}
+use Rattle.book_judge.proofs.Looked.{held-entries}
 use borrow.Author.Needs.{needs}
 use Rattle.book.proofs.judge_needed.Statement.{statement}
 use Rattle.book.proofs.judge_needed.Tie as tie
@@ -23,7 +24,7 @@ judge-book-requires c κs =
     let m = c .before .before .before in
     let st = start m in
     let h = st .pre .0 in
-    (st .pre .1 .0, marked-index (bytes m) (h .read) _ (m .mark-covered .ensures (h .opened) (h .read)) (h .holds) (h .index))
+    (st .pre .1 .0, held-entries (marked-holds (bytes m) (h .read) _ (m .mark-covered .ensures (h .opened) (h .read)) (h .holds)) (marked-index (bytes m) (h .read) _ (m .mark-covered .ensures (h .opened) (h .read)) (h .holds) (h .index)))
 
 keep-requires : tie.Need-keep-requires
 keep-requires c κs = search needs

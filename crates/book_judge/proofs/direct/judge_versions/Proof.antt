@@ -31,7 +31,7 @@ abbrev start : tie.At-loop Inv-loop μ-loop → tie.Start Inv-loop μ-loop
 start l = l .before .before .before .before
 
 count-requires : tie.Need-count-requires Inv-loop μ-loop
-count-requires c κs = c .before .before .pre .places .sized
+count-requires c κs = c .before .before .pre .index .places .sized
 
 loop-holds : tie.Need-loop-holds Inv-loop μ-loop
 loop-holds c = (search needs, λ b h. refl)
@@ -40,13 +40,14 @@ place-at-requires : tie.Need-place-at-requires Inv-loop μ-loop
 place-at-requires c κs =
     let l = c .before in
     let st = start l in
-    (st .pre .places .sized, omega (arith, c .loop-test .taken, l .before .count .ensures, st .pre .places .room))
+    (st .pre .index .places .sized, omega (arith, c .loop-test .taken, l .before .count .ensures, st .pre .index .places .room))
 
 judge-version-requires : tie.Need-judge-version-requires Inv-loop μ-loop
 judge-version-requires c κs =
     let l = c .before .before in
     let st = start l in
-    omega (arith, c .place-at .ensures, st .pre .places .inside (l .loop .j) (omega (arith, c .before .loop-test .taken, l .before .count .ensures)))
+    let lt : l .loop .j < countOf (now (st .args .index)) = omega (arith, c .before .loop-test .taken, l .before .count .ensures) in
+    (omega (arith, c .place-at .ensures, st .pre .index .places .inside (l .loop .j) lt), rw (c .place-at .ensures) (st .pre .fronts (l .loop .j) lt))
 
 add-j : tie.Need-add-j Inv-loop μ-loop
 add-j c = search needs

@@ -22,7 +22,7 @@ found : (c : tie.After-known-told) →
 found c = let f = c .before .before .before in found-there _ _ _ (f .find .result) (At (which c)) (c .before .found .given .1) (f .find .ensures)
 
 find-requires : tie.Need-find-requires
-find-requires c κs = search needs
+find-requires c κs = c .before .before .pre .index
 
 enum-known-found : tie.Need-enum-known-found
 enum-known-found c = search needs
@@ -30,13 +30,13 @@ enum-known-found c = search needs
 place-at-requires : tie.Need-place-at-requires
 place-at-requires c κs =
     let st = start (c .before .before .before) in
-    (st .pre .places .sized, omega (arith, found c .within, st .pre .places .room))
+    (st .pre .index .places .sized, omega (arith, found c .within, st .pre .index .places .room))
 
 kept-at-requires : tie.Need-kept-at-requires
 kept-at-requires c κs =
     let k = c .before in
     let st = start (k .before .before .before) in
-    omega (arith, c .place-at .ensures, st .pre .places .inside (which k) (found k .within))
+    (omega (arith, c .place-at .ensures, st .pre .index .places .inside (which k) (found k .within)), rw (c .place-at .ensures) (st .pre .fronts (which k) (found k .within)))
 
 enum-told : tie.Need-enum-told
 enum-told c = search needs

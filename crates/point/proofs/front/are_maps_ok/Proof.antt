@@ -6,8 +6,8 @@ use denote.Ref.{now}
 use Rattle.map.specs.Rows.{wellRowed}
 use Rattle.record.specs.Record.{contentOf}
 use Rattle.point.specs.Reading.{mapsOk}
-use Rattle.point.proofs.read.are_maps_ok.Statement.{statement}
-use Rattle.point.proofs.read.are_maps_ok.Tie as tie
+use Rattle.point.proofs.front.are_maps_ok.Statement.{statement}
+use Rattle.point.proofs.front.are_maps_ok.Tie as tie
 
 -- what each test told of the record
 includes : (c : tie.After-is-well-rowed) → wellRowed 64 (contentOf (now (c .before .before .before .args .rec)) 2) ≡ c .is-well-rowed .result
