@@ -7,7 +7,7 @@ use oracle::{read, write};
 
 /// Direct entries of the longest list that is permuted.
 const LONGEST: usize = 4;
-/// One list in so many is run with a damaged entry too.
+/// One list in this many is run with a damaged entry too.
 const DAMAGED: u64 = 4;
 
 /// An entry's bytes.
