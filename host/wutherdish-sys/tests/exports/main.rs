@@ -59,9 +59,9 @@ fn an_export_that_the_header_lacks() {
 
 #[test]
 fn a_lent_slice_of_which_nothing_is_said() {
-    let exports = changed(&line("ensures { λ r. ⌜ now (peers .exit)"), "");
+    let exports = changed(&line("ensures buffer { λ r. ⌜ now (peers .exit)"), "");
     assert_eq!(exports.faults(), ["wutherdish_verify says nothing of peers"]);
-    let exports = changed(&line("ensures { λ r. ⌜ now (book .exit)"), "");
+    let exports = changed(&line("ensures opened { λ r. ⌜ now (book .exit)"), "");
     assert_eq!(exports.faults(), ["wutherdish_open says nothing of book"]);
 }
 
@@ -101,7 +101,7 @@ fn a_parameter_that_may_be_lent_unseen() {
 
 #[test]
 fn a_contract_in_a_comment() {
-    let clause = line("ensures { λ r. ⌜ now (book .exit)");
+    let clause = line("ensures opened { λ r. ⌜ now (book .exit)");
     let exports = changed(&clause, &format!("// {clause}"));
     assert_eq!(exports.faults(), ["wutherdish_open says nothing of book"]);
     let exports = changed(&clause, &format!("/* {clause} */"));
@@ -110,7 +110,7 @@ fn a_contract_in_a_comment() {
 
 #[test]
 fn a_call_that_asks_something() {
-    let ensures = "    ensures { λ r. ⌜ r ≡ openNumber";
+    let ensures = "    ensures number { λ r. ⌜ r ≡ openNumber";
     let exports = changed(ensures, &format!("    requires {{ ⌜ 47 ≤ length (now book) ⌝ }}\n{ensures}"));
     assert_eq!(exports.faults(), ["wutherdish_open has a requires"]);
 }
