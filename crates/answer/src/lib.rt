@@ -1,4 +1,6 @@
 // Document 01's number and values of a verdict, and their 114 bytes.
+#![tactic(auto)]
+
 ghost use Rattle.std.specs.Prelude.{◌≡◌, ◌≤◌, length};
 ghost use Rattle.parts.specs.Bytes.{put_at};
 ghost use Rattle.point.specs.Code.{point_id_of, through_of};

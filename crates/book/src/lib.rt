@@ -1,4 +1,6 @@
 // The book that keeps judged points: opening it, and offering points to it.
+#![tactic(auto)]
+
 mod decide;
 
 ghost use Rattle.std.specs.Prelude.{◌≡◌, ◌++◌, ◌+◌, ◌-◌, ◌≤◌, length, take, replicate};

@@ -7,6 +7,8 @@
 // A walk is one slice of numbers. The first 4,096 have 1 for each entry that is reached. The entries within the history are chained
 // by their depths: `HEADS` has for each depth one more than its last entry, `LINKS` for each entry one more than the last
 // before it of its depth, 0 if there is none.
+#![tactic(auto)]
+
 mod chain;
 mod entry;
 mod marks;

@@ -1,5 +1,7 @@
 // Judges a point by the lists that a book builds of its entries. The lists are never stored: each dependency is looked up, and
 // judged at once.
+#![tactic(auto)]
+
 mod direct;
 mod look;
 

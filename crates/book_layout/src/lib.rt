@@ -1,4 +1,6 @@
 // One entry of the book: read from the front of a slice, written at a place, and what it is made of.
+#![tactic(auto)]
+
 mod put;
 mod read;
 mod status;

@@ -1,4 +1,6 @@
 // Reads a book: its settings, its entries and the zeros after them, and makes an index of the entries.
+#![tactic(auto)]
+
 ghost use Rattle.std.specs.Prelude.{◌≡◌, true, not, ◌≤◌, length, get_or, replicate, eqb};
 ghost use Rattle.parts.specs.Limits.{entries_start, longest_book};
 ghost use Rattle.book_read.specs.Code.{Reading, EntryRead, EntriesRead, BookRead};

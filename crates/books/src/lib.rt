@@ -1,4 +1,6 @@
 // The definitions of the book, which crates prove their code equal to, and the statement on found books. There is no code here.
+#![tactic(auto)]
+
 ghost use Rattle.std.specs.Prelude.{ℕ, List};
 ghost use Rattle.books.specs.FoundBook.{FoundBooks};
 ghost use Rattle.books.specs.OffersTold.{OffersTold};

@@ -1,5 +1,7 @@
 // The cases of a file, one blob after another. A case is its kind (1), its number of blobs (1), and each blob after its
 // length (4). The file is taken to hold whole cases.
+#![tactic(auto)]
+
 ghost use Rattle.std.specs.Prelude.{◌≡◌, ◌≤◌, length};
 ghost use Rattle.case_files.specs.Code.{head_of, HeadRead, BlobRead};
 

@@ -6,6 +6,8 @@
 // `LINKS` for each id one more than the last before it in its bucket, 0 if there is none. Who writes the ids can make a
 // chain long. So where one has more than LONGEST_CHAIN ids they are sorted instead: `LINKS` then has the ids in their
 // order, and an id is found by halving.
+#![tactic(auto)]
+
 ghost use Rattle.std.specs.Prelude.{◌≡◌, ◌+◌, ◌≤◌, ◌<◌, ◌^◌, length};
 ghost use Rattle.parts.specs.Limits.{most_kept};
 ghost use Rattle.parts.specs.Parts.{order};

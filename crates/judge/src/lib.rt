@@ -1,4 +1,6 @@
 // Verifier::validate of verifier.rs on points whose dependencies are listed in the order of their arrival.
+#![tactic(auto)]
+
 mod before;
 
 ghost use Rattle.std.specs.Prelude.{◌≡◌, not, ◌&&◌, ◌≤◌, length, eqb};

@@ -1,4 +1,6 @@
 // dependency of verifier.rs: the root cause that a dependency has recorded.
+#![tactic(auto)]
+
 ghost use Rattle.std.specs.Prelude.{◌≡◌, List, ℕ, ◌+◌, ◌-◌, leb};
 ghost use Rattle.point.specs.Code.{point_id_of, through_of};
 ghost use Rattle.schedule.specs.Code.{settings_of};

@@ -1,4 +1,6 @@
 // The list of a point's dependencies, entry by entry.
+#![tactic(auto)]
+
 ghost use Rattle.std.specs.Prelude.{◌≡◌, List, ℕ, ◌-◌, ◌≤◌, drop};
 ghost use Rattle.base.specs.Base.{is_some};
 ghost use Rattle.parts.specs.Code.{number};

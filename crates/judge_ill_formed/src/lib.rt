@@ -1,5 +1,7 @@
 // Verifier::check_ill_formed: what is left to test of a verified point's form once the schedule's spans and the leader
 // are known.
+#![tactic(auto)]
+
 ghost use Rattle.std.specs.Prelude.{◌≡◌, List, ℕ};
 ghost use Rattle.point.specs.Code.{point_of, Reads};
 ghost use Rattle.schedule.specs.Code.{schedule_of};

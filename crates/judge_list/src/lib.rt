@@ -1,4 +1,6 @@
 // A list of dependencies, read and judged entry by entry in one walk.
+#![tactic(auto)]
+
 ghost use Rattle.std.specs.Prelude.{◌≡◌, true, ◌||◌, List, ℕ};
 ghost use Rattle.std.proofs.Math.Option.{none};
 ghost use Rattle.base.specs.Base.{is_some};

@@ -1,4 +1,6 @@
 // Number 8: whether a list and the point's dependencies fit.
+#![tactic(auto)]
+
 mod head;
 mod maps;
 mod targets;

@@ -1,5 +1,7 @@
 // How an entry is taken, and what it then gives of reasons: the arms of check_valid and of check_indirect_links of verifier.rs. What is
 // called at one place is compiled into it, and costs no copies of what it is handed.
+#![tactic(auto)]
+
 ghost use Rattle.std.specs.Prelude.{◌≡◌, List, ℕ};
 ghost use Rattle.base.specs.Base.{last_of};
 ghost use Rattle.point.specs.Code.{point_id_of};

@@ -1,4 +1,6 @@
 // Judging of a point by its dependencies, one entry at a time: check_valid, check_indirect_links and dependency of verifier.rs.
+#![tactic(auto)]
+
 mod step;
 
 pub use step::{

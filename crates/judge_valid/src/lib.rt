@@ -1,4 +1,6 @@
 // The rules that one dependency is checked against: what check_valid and check_indirect_links of verifier.rs ask of it.
+#![tactic(auto)]
+
 mod brief;
 mod quick;
 mod rows;

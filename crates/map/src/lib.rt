@@ -1,5 +1,7 @@
 // Rising rows: a set of peers, 32 bytes a row, or a map of peers and digests, 64 bytes a row. They stand for the
 // hash maps of the Rust. Contracts speak of the list of peers or of pairs that the bytes mean.
+#![tactic(auto)]
+
 ghost use Rattle.std.specs.Prelude.{◌≡◌, true, ◌≤◌, ◌<◌, length, get_or};
 ghost use Rattle.parts.specs.Code.{number};
 ghost use Rattle.parts.specs.Parts.{order};

@@ -1,4 +1,6 @@
 // Ids, numbers read at a place of a slice, and PeerCount: the ports of parts.rs and peer_count.rs.
+#![tactic(auto)]
+
 ghost use Rattle.std.specs.Prelude.{◌≡◌, ◌+◌, ◌-◌, ◌≤◌, ◌<◌, eqb, length};
 ghost use Rattle.parts.specs.Bytes.{big, little_at, big_at, id_at, little_bytes};
 ghost use Rattle.parts.specs.Code.{number, order_of_rest, peer_count_of};

@@ -1,5 +1,7 @@
 // What a point record says: PointInfo by value, and what data.rs, link.rs and info.rs ask of it. Its maps stay where
 // they are, as parts of the record.
+#![tactic(auto)]
+
 mod data;
 mod front;
 mod info;

@@ -1,5 +1,7 @@
 // Runs the readers of settings, schedules and point records over the cases of a file and over damaged copies of its
 // first records, and prints counts, and sums in which everything that was read shows. The file's name is the argument.
+#![tactic(auto)]
+
 mod damage;
 mod file;
 mod mix;

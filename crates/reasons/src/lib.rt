@@ -1,4 +1,6 @@
 // The reasons and verdicts of verifier.rs, under its names, and document 01's number of each.
+#![tactic(auto)]
+
 mod ill_formed;
 mod invalid;
 mod verdict;

@@ -1,4 +1,6 @@
 // Fields of a tag, a length and content, and the table of the nine fields of a point record.
+#![tactic(auto)]
+
 ghost use Rattle.std.specs.Prelude.{◌≡◌, true, ◌+◌, ◌<◌, ◌≤◌, length};
 ghost use Rattle.std.proofs.Math.Option.{some};
 ghost use Rattle.base.specs.Base.{is_some};

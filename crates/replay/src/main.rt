@@ -5,6 +5,8 @@
 // data/books.bin has openings and offers, with the answers and the bytes of the plain book in Rust. Of
 // data/wrong_on_purpose.bin each case has a change in what it expects, so all of them must be found different.
 // oracle/README.md says how the two are made. Of no file may there be a case for which there is no room.
+#![tactic(auto)]
+
 mod case;
 mod compare;
 mod counts;

@@ -1,4 +1,6 @@
 // The definitions of verification and of judging, which crates prove their code equal to. There is no code here.
+#![tactic(auto)]
+
 ghost use Rattle.rules.specs.Told.{Told};
 ghost use Rattle.rules.specs.Joined.{Joined};
 ghost use Rattle.rules.specs.AnyOrder.{AnyOrder};

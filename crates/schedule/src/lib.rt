@@ -1,4 +1,6 @@
 // Settings and schedules, by value.
+#![tactic(auto)]
+
 mod schedule;
 mod settings;
 

@@ -1,4 +1,6 @@
 // Reads settings, a schedule and points from standard input, keeps the points in a book, and prints a line for each.
+#![tactic(auto)]
+
 mod points;
 mod print;
 mod window;

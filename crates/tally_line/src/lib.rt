@@ -1,4 +1,6 @@
 // A line that the program tally prints, and the bytes of it.
+#![tactic(auto)]
+
 ghost use Rattle.std.specs.Prelude.{◌≡◌, [], ◌∷◌, ◌++◌, ◌+◌, ◌≤◌, ◌<◌, length};
 ghost use Rattle.io.specs.Counts.{IsPrefixLen};
 ghost use Rattle.tally_line.specs.Text.{decimal, space, line_bytes, end_bytes};

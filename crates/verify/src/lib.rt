@@ -1,4 +1,6 @@
 // BasicVerifier of verifier.rs: whether a point is well formed, before any of its dependencies is known.
+#![tactic(auto)]
+
 ghost use Rattle.std.specs.Prelude.{◌≡◌, true, ◌≤◌, length};
 ghost use Rattle.std.proofs.Math.Option.{some};
 ghost use Rattle.parts.specs.Limits.{peers_room};

@@ -1,4 +1,6 @@
 // BasicVerifierInner::new: the peer sets of the point's rounds, its author, and the targets of its links.
+#![tactic(auto)]
+
 ghost use Rattle.std.specs.Prelude.{◌≡◌};
 ghost use Rattle.std.proofs.Math.Option.{some};
 ghost use Rattle.base.specs.Base.{concat, first_of};

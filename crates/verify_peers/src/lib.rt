@@ -1,4 +1,6 @@
 // check_peers: the peers of the maps are scheduled, and there are enough of them.
+#![tactic(auto)]
+
 ghost use Rattle.std.specs.Prelude.{◌≡◌, true, ◌≤◌, length};
 ghost use Rattle.std.proofs.Math.Option.{some};
 ghost use Rattle.base.specs.Base.{concat, first_of};

@@ -1,4 +1,6 @@
 // The peers of a map that are not scheduled, written into the peer buffer.
+#![tactic(auto)]
+
 ghost use Rattle.std.specs.Prelude.{◌≡◌, true, ◌*◌, ◌≤◌, ◌<◌, length, get_or};
 ghost use Rattle.parts.specs.Bytes.{put_at};
 ghost use Rattle.map.specs.Rows.{peers_of, rising};

@@ -1,4 +1,6 @@
 // check_well_formed, with PointInfo::check_structure and PointData::check_non_genesis_structure.
+#![tactic(auto)]
+
 ghost use Rattle.std.specs.Prelude.{◌≡◌, not, ◌&&◌};
 ghost use Rattle.parts.specs.Code.{number};
 ghost use Rattle.base.specs.Base.{concat, first_of, is_some};

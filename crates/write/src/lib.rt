@@ -1,4 +1,6 @@
 // Ids and slices written into a lent slice.
+#![tactic(auto)]
+
 ghost use Rattle.std.specs.Prelude.{◌≡◌, ◌+◌, ◌≤◌, length};
 ghost use Rattle.parts.specs.Bytes.{little_bytes, big_bytes, put_at};
 ghost use Rattle.parts.specs.Code.{number};

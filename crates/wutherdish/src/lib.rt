@@ -1,4 +1,6 @@
 // The calls for other languages, over the proved ones.
+#![tactic(auto)]
+
 ghost use Rattle.std.specs.Prelude.{◌≡◌, true, length};
 ghost use Rattle.rules.specs.Judge.{tested, verify_with, verify_buffer, flags_ok, judge_with};
 ghost use Rattle.books.specs.Calls.{open_number, open_bytes, offer_bytes};
