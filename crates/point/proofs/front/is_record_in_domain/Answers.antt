@@ -42,8 +42,8 @@ returns-then-round-gt-LAST_ROUND c = λ q h.
 pub content_from-times-requires : goal.content_from-times-requires
 content_from-times-requires c =
     let b = c in
-    let w = b.pre.0 in
-    record { rec_value = (w, omega arith); at_value = (b.pre.1.times, sym (end_is b.args.rec.now _ (shaped-end b.args.rec.now w))) }
+    let w = b.requires.0 in
+    record { rec_value = (w, omega arith); at_value = (b.requires.1.times, sym (end_is b.args.rec.now _ (shaped-end b.args.rec.now w))) }
 
 pub u64_at-requires : goal.u64_at-requires
 unfolding row_of rows

@@ -23,5 +23,5 @@ returns-in-2 c = known-trigger _ c.requires c.in-2.is
 
 pub returns-in_default : goal.returns-in_default
 returns-in_default c =
-    let r = c.match.rest in
+    let r = c.in_default.in_default-own.rest in
     known-genesis _ c.requires r.0.0.1 r.0.1 r.1

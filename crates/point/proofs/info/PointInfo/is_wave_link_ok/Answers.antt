@@ -1,29 +1,29 @@
 -- `PointInfo::is_wave_link_ok` meets its contract, role by role.
 use mathlib.Core.Path.{◌≡◌, ap, sym, ◌∙◌}
-use mathlib.Core.Bool.{not, ◌&&◌, and_assoc}
-use mathlib.Core.Logic.{⊎_elim}
+use mathlib.Core.Bool.{Bool, not, ◌&&◌, and_assoc, true, false}
+use mathlib.Core.Logic.{◌⊎◌, inl, inr}
 use borrow.Author.Rules.{rules}
 use Rattle.point.specs.Point.{is_wave_link_ok, is_wave_far_enough}
 use Rattle.point.specs.Code.{link_of}
 use Rattle.point.proofs.Laws.{later-proof}
 use Rattle.point.proofs.info.PointInfo.is_wave_link_ok.Goals as goal
-use Rattle.point.proofs.info.PointInfo.is_wave_link_ok.Goals.{Joined-has_prev_point, Joined-is_leader}
-
-abbrev at-Joined-is_leader-from-Joined-has_prev_point : (c : Joined-has_prev_point) → Joined-is_leader
-at-Joined-is_leader-from-Joined-has_prev_point c = c.before
+use Rattle.point.proofs.info.PointInfo.is_wave_link_ok.Goals.{Joined-has_prev_point, then-has_prev_point, else-has_prev_point}
 
 -- the tests of a regular point, one after the other
-both : (c : Joined-is_leader) → c.if-is_leader.if-has_prev_point ≡ (c.args.is-leader && c.args.has-prev-point)
-both c = ⊎_elim (λ w. rw w.0.taken w.1) (λ w. rw w.0.left (w.1 ∙ w.0.left)) c.if-is_leader.branch
+all_tested : (a b f r : Bool) → (a ≡ true) × (b ≡ true) → r ≡ f → r ≡ (a && (b && f))
+all_tested a b f r n e = rw (n.0, n.1) e
+
+one_failed : (a b f r : Bool) → ((a ≡ true) × (b ≡ false)) ⊎ (a ≡ false) → r ≡ false → r ≡ (a && (b && f))
+one_failed a b f r (inl n) e = rw (n.0, n.1) e
+one_failed a b f r (inr n) e = rw n e
 
 far : (c : Joined-has_prev_point) →
     let a = c.args in
-    c.if-has_prev_point.result ≡ (a.is-leader && (a.has-prev-point && is_wave_far_enough a.self.id.round (link_of a.self.anchor_proof)))
-far c =
-    let f = c in
-    let a = f.args in
-    rw (← f.is_wave_far_enough-far.ensures, ← and_assoc a.is-leader a.has-prev-point f.is_wave_far_enough-far.result, ← both (at-Joined-is_leader-from-Joined-has_prev_point c))
-    (⊎_elim (λ w. rw w.0.taken w.1) (λ w. rw w.0.left (w.1 ∙ w.0.left)) c.if-has_prev_point.branch)
+    c.if-has_prev_point.result ≡ (a.is_leader && (a.has_prev_point && is_wave_far_enough a.self.id.round (link_of a.self.anchor_proof)))
+far c = elim c.if-has_prev_point.branch [
+  then-has_prev_point w ↦ all_tested _ _ _ _ w.if-has_prev_point.true (w.result-is ∙ c.is_wave_far_enough-far.ensures)
+  | else-has_prev_point w ↦ one_failed _ _ _ _ w.if-has_prev_point.either (w.result-is ∙ w.if-has_prev_point.false-raw)
+  ]
 
 pub returns-after-has_prev_point : goal.returns-after-has_prev_point
 unfolding is_wave_link_ok
