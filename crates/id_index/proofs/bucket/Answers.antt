@@ -4,4 +4,4 @@ use borrow.Author.Rules.{rules}
 use Rattle.id_index.proofs.bucket.Goals as goal
 
 pub returns : goal.returns
-returns c = (last_word c.args.id.digest, search rules)
+returns c = record { value = last_word c.args.id.digest; upper_bound = search rules }

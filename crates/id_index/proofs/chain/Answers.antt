@@ -12,12 +12,12 @@ use Rattle.id_index.proofs.chain.Goals as goal
 use Rattle.id_index.proofs.chain.Goals.{After-chain_next}
 
 -- all but the links is as it was
-front : (c : After-chain_next) → SameFront c.args.index.now c.Chain-next.new.1.0
-front c = front_then_lem c.loop-j.invariant.0 c.Chain-next.ensures.0
+front : (c : After-chain_next) → SameFront c.args.index.now c.chain_next.new.index
+front c = front_then_lem c.loop-j.invariant.0 c.chain_next.ensures.same_front
 
-told : (c : After-chain_next) (r : Bool) → c.Chain-next.result ≡ r →
-    Chained c.args.s.now c.Chain-next.new.1.0 (c.loop-j.j + 1) r
-told c r e = subst (Chained c.args.s.now c.Chain-next.new.1.0 (c.loop-j.j + 1)) e c.Chain-next.ensures.1
+told : (c : After-chain_next) (r : Bool) → c.chain_next.result ≡ r →
+    Chained c.args.s.now c.chain_next.new.index (c.loop-j.j + 1) r
+told c r e = subst (Chained c.args.s.now c.chain_next.new.index (c.loop-j.j + 1)) e c.chain_next.ensures.chained
 
 pub count-n-requires : goal.count-n-requires
 count-n-requires c = c.requires.places.sized
@@ -38,12 +38,12 @@ shape_of-index-then-not-chain_next c = (front (goal.at.shape_of-index-then-not-c
 pub returns-then-not-chain_next : goal.returns-then-not-chain_next
 returns-then-not-chain_next c =
     let k = c in
-    (front (goal.at.returns-then-not-chain_next c).After-chain_next, λ e. clash false e refl)
+    record { same_front = front (goal.at.returns-then-not-chain_next c).After-chain_next; chained = λ e. clash false e refl }
 
 pub overflow_add-j : goal.overflow_add-j
 overflow_add-j c =
     let l = c in
-    omega (arith, l.loop-j.inv.1, c.loop-j-test.true)
+    omega (arith, l.loop-j.invariant.1, c.loop-j-test.true)
 
 pub loop-j-smaller : goal.loop-j-smaller
 loop-j-smaller c = omega (arith, c.loop-j-test.true)
@@ -51,7 +51,7 @@ loop-j-smaller c = omega (arith, c.loop-j-test.true)
 pub loop-j-preserved : goal.loop-j-preserved
 loop-j-preserved c =
     let k = c in
-    let t = told (goal.at.loop-j-preserved c).After-chain_next _ c.if-not-chain_next.false-raw refl in
+    let t = told (goal.at.loop-j-preserved c).After-chain_next _ (not-false _ c.if-not-chain_next.false-raw) refl in
     (front (goal.at.loop-j-preserved c).After-chain_next, omega (arith, c.loop-j-test.true), t.0, t.1)
 
 pub shape_of-index : goal.shape_of-index
@@ -63,4 +63,4 @@ returns c =
     let st = l in
     let i = l.loop-j.invariant in
     let e : l.loop-j.j ≡ count_of st.args.index.now = omega (arith, c.loop-j-test.false, i.1, l.count-n.ensures) in
-    (i.0, λ t. (subst (Chains _ _) e i.2, subst (Once _ _) e i.3))
+    record { same_front = i.0; chained = λ t. (subst (Chains _ _) e i.2, subst (Once _ _) e i.3) }

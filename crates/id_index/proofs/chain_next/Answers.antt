@@ -41,10 +41,10 @@ point_id_at-id-requires c =
     omega (arith, c.place_at.ensures, st.requires.places.0.inside st.args.j st.requires.places.1)
 
 pub returns-in_default : goal.returns-in_default
-returns-in_default c = (front_same _, λ e. clash false e refl)
+returns-in_default c = record { same_front = front_same _; chained = λ e. clash false e refl }
 
 pub returns-then-passed-ge-LONGEST_CHAIN : goal.returns-then-passed-ge-LONGEST_CHAIN
-returns-then-passed-ge-LONGEST_CHAIN c = (front_same _, λ e. clash false e refl)
+returns-then-passed-ge-LONGEST_CHAIN c = record { same_front = front_same _; chained = λ e. clash false e refl }
 
 pub returns : goal.returns
 returns c =
@@ -53,5 +53,5 @@ returns c =
     let k = b in
     let p = k in
     let st = p in
-    let fact = next_chained st.requires.places.0 st.requires.places.1 st.requires.chains.0 st.requires.chains.1 (none (goal.at.returns c).In-Absent) (b.bucket.ensures.0 ∙ ap bucket_of (own (goal.at.returns c).After-point_id_at-id)) b.bucket.ensures.1 l.link.ensures in
-    (fact.0, λ e. fact.1)
+    let fact = next_chained st.requires.places.0 st.requires.places.1 st.requires.chains.0 st.requires.chains.1 (none (goal.at.returns c).In-Absent) (b.bucket.ensures.value ∙ ap bucket_of (own (goal.at.returns c).After-point_id_at-id)) b.bucket.ensures.upper_bound l.link.ensures in
+    record { same_front = fact.0; chained = λ e. fact.1 }

@@ -53,7 +53,7 @@ pub returns-in_default : goal.returns-in_default
 returns-in_default c =
     let k = c in
     let st = k in
-    (front_same _, at-twice st.requires.1.0 (told (goal.at.returns-in_default c).After-seek _ c.in_default.is))
+    record { same_front = front_same _; sorted_next = at-twice st.requires.1.0 (told (goal.at.returns-in_default c).After-seek _ c.in_default.is) }
 
 pub shift-requires : goal.shift-requires
 shift-requires c =
@@ -80,4 +80,4 @@ returns c =
     let k = c in
     let st = k in
     let f = c.shift.ensures in
-    (front_shifted f _, one-sorted st.requires.1.1 st.requires.0.sized (omega (arith, st.requires.1.0, st.requires.0.room)) (between (goal.at.returns c).In-Absent) f)
+    record { same_front = front_shifted f _; sorted_next = one-sorted st.requires.1.1 st.requires.0.sized (omega (arith, st.requires.1.0, st.requires.0.room)) (between (goal.at.returns c).In-Absent) f }

@@ -25,7 +25,7 @@ overflow_cast-k c = omega (arith, c.type_inv.index (12290 + c.bucket.result))
 pub loop-k-init : goal.loop-k-init
 loop-k-init c =
     let st = c in
-    let w = search_start st.requires.1.1 (point_id_of st.args.id) _ c.bucket.ensures.0 c.bucket.ensures.1 in
+    let w = search_start st.requires.1.1 (point_id_of st.args.id) _ c.bucket.ensures.value c.bucket.ensures.upper_bound in
     (w, omega (arith, w.within))
 
 pub place_at-requires : goal.place_at-requires

@@ -106,7 +106,7 @@ unfolding row_of rows
 last c = c.field_ok.ensures
 
 fits : (c : Else-not-field_ok) → let a = c in field_ok (row_of 8) (s8 (at-After-next_after-times-from-Else-not-field_ok c)) a.next_after-times.result ≡ true
-fits c = sym (last (at-After-field_ok-from-Else-not-field_ok c)) ∙ c.if-not-field_ok.false
+fits c = sym (last (at-After-field_ok-from-Else-not-field_ok c)) ∙ not-false _ c.if-not-field_ok.false-raw
 
 pub returns-then-s-lt3 : goal.returns-then-s-lt3
 returns-then-s-lt3 c = head_cut _ c.if-s-lt3.true
@@ -144,7 +144,7 @@ pub returns-then-not-field_ok : goal.returns-then-not-field_ok
 returns-then-not-field_ok c =
     let e = c in
     let a = e in
-    walk_cut (s8 (goal.at.returns-then-not-field_ok c).After-next_after-times) 8 _ (walked (s8 (goal.at.returns-then-not-field_ok c).After-next_after-times) 8 _ (walk8 (goal.at.returns-then-not-field_ok c).After-next_after-times) e.if-times-eq0.false) refl (sym (last (goal.at.returns-then-not-field_ok c).After-field_ok) ∙ c.if-not-field_ok.true)
+    walk_cut (s8 (goal.at.returns-then-not-field_ok c).After-next_after-times) 8 _ (walked (s8 (goal.at.returns-then-not-field_ok c).After-next_after-times) 8 _ (walk8 (goal.at.returns-then-not-field_ok c).After-next_after-times) e.if-times-eq0.false) refl (sym (last (goal.at.returns-then-not-field_ok c).After-field_ok) ∙ not-true _ c.if-not-field_ok.true-raw)
 
 pub field_end-requires : goal.field_end-requires
 field_end-requires c = (fitting (row_of 8) _ _ (fits c)).end

@@ -28,20 +28,20 @@ pub loop-k-init : goal.loop-k-init
 loop-k-init c = (search rules, search rules, end-start _)
 
 pub returns-then-not-field_ok : goal.returns-then-not-field_ok
-returns-then-not-field_ok c = sym (turn (goal.at.returns-then-not-field_ok c).After-field_ok ∙ rw c.if-not-field_ok.true)
+returns-then-not-field_ok c = sym (turn (goal.at.returns-then-not-field_ok c).After-field_ok ∙ rw (not-true c.field_ok.result c.if-not-field_ok.true-raw))
 
 pub field_end-at-requires : goal.field_end-at-requires
 field_end-at-requires c =
     let f = c in
     let l = f in
-    (fitting _ l.args.s.now l.loop-k.at (sym f.field_ok.ensures ∙ c.if-not-field_ok.false)).end
+    (fitting _ l.args.s.now l.loop-k.at (sym f.field_ok.ensures ∙ not-false _ c.if-not-field_ok.false-raw)).end
 
 pub loop-k-preserved : goal.loop-k-preserved
 loop-k-preserved c =
     let f = c in
     let l = f in
     let s = l.args.s.now in
-    (search rules, omega (arith, next-within s l.loop-k.at, c.field_end-at.ensures), turn (goal.at.loop-k-preserved c).After-field_ok ∙ rw (c.if-not-field_ok.false, c.field_end-at.ensures))
+    (search rules, omega (arith, next-within s l.loop-k.at, c.field_end-at.ensures), turn (goal.at.loop-k-preserved c).After-field_ok ∙ rw (not-false f.field_ok.result c.if-not-field_ok.false-raw, c.field_end-at.ensures))
 
 pub returns : goal.returns
 returns c =

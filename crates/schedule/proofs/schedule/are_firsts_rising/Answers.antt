@@ -16,18 +16,18 @@ pub returns-then-b-a : goal.returns-then-b-a
 returns-then-b-a c =
     let l = c in
     let st = l in
-    let n : length st.args.t1 ≡ 4 = omega arith in
-    sym (l.loop-i.invariant.1 ∙ firsts_fall st.args.t1 st.args.count l.loop-i.i (omega arith) (omega arith) (omega (arith, st.requires)) (omega arith))
+    let n : length st.args.spans ≡ 4 = omega arith in
+    sym (l.loop-i.invariant.1 ∙ firsts_fall st.args.spans st.args.count l.loop-i.i (omega arith) (omega arith) (omega (arith, st.requires)) (omega arith))
 
 pub loop-i-preserved : goal.loop-i-preserved
 loop-i-preserved c =
     let l = c in
     let st = l in
-    let n : length st.args.t1 ≡ 4 = omega arith in
+    let n : length st.args.spans ≡ 4 = omega arith in
     let e : l.loop-i.i + 1 - 1 ≡ l.loop-i.i = omega arith in
-    (search rules, rw e (l.loop-i.invariant.1 ∙ firsts-rise st.args.t1 st.args.count l.loop-i.i (omega arith) (omega arith) (omega (arith, st.requires)) (omega arith)))
+    (search rules, rw e (l.loop-i.invariant.1 ∙ firsts-rise st.args.spans st.args.count l.loop-i.i (omega arith) (omega arith) (omega (arith, st.requires)) (omega arith)))
 
 pub returns : goal.returns
 returns c =
     let l = c in
-    sym (l.loop-i.invariant.1 ∙ firsts-end l.args.t1 l.args.count l.loop-i.i (omega arith) (omega arith))
+    sym (l.loop-i.invariant.1 ∙ firsts-end l.args.spans l.args.count l.loop-i.i (omega arith) (omega arith))

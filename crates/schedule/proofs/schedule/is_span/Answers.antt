@@ -19,7 +19,7 @@ at-Else-not-field_ok-from-After-content_at-content c = record { before = c.befor
 
 -- the field is a span's, so its content holds at least the first round
 shaped : (c : Else-not-field_ok) → let a = c.args in field_ok (field_row 34 4 8164) a.s.now a.at ≡ true
-shaped c = sym c.field_ok.ensures ∙ c.if-not-field_ok.false-raw
+shaped c = sym c.field_ok.ensures ∙ not-false c.field_ok.result c.if-not-field_ok.false-raw
 
 long : (c : After-content_at-content) → 4 ≤ length c.content_at-content.result.now
 long c =
@@ -29,7 +29,7 @@ long c =
 
 pub returns-then-not-field_ok : goal.returns-then-not-field_ok
 unfolding span_ok
-returns-then-not-field_ok c = simp (← c.field_ok.ensures, c.if-not-field_ok.true-raw)
+returns-then-not-field_ok c = simp (← c.field_ok.ensures, not-true c.field_ok.result c.if-not-field_ok.true-raw)
 
 pub slice_bounds-is_well_rowed-count : goal.slice_bounds-is_well_rowed-count
 slice_bounds-is_well_rowed-count c = omega (arith, long c)

@@ -13,7 +13,7 @@ use Rattle.schedule.proofs.schedule.peers_for.Goals as goal
 use Rattle.schedule.proofs.schedule.peers_for.Goals.{In-At, Start}
 
 four : (c : Start) → length c.args.c.spans ≡ 4
-four c = sym (length-map c.args.c.spans _) ∙ c.well_formed.1.0.1.1.0.1.0.1
+four c = omega arith
 
 found : (c : In-At) →
     let a = c.args in
@@ -47,7 +47,7 @@ unfolding peers_for peer_bytes
 returns-in-At c =
     let i = c in
     let a = i.args in
-    rw (found (goal.at.returns-in-At c).In-At) (ap (peers_of 32) c.part.ensures ∙ sym (spans_of-peers a.s.now a.c.spans a.c.count i.in-At.i (within (goal.at.returns-in-At c).In-At)), c.part.ensures)
+    rw (found (goal.at.returns-in-At c).In-At) (record { same = ap (peers_of 32) c.part.ensures ∙ sym (spans_of-peers a.s.now a.c.spans a.c.count i.in-At.i (within (goal.at.returns-in-At c).In-At)); bytes = c.part.ensures })
 
 pub returns-in-Outside : goal.returns-in-Outside
 unfolding peers_of peer_bytes
@@ -57,4 +57,4 @@ returns-in-Outside c =
     let a = f.args in
     let s = a.s.now in
     let outside = sym (f.span_for-index.ensures s) ∙ ap index_of e.in-Outside.is in
-    (sym (no_span_no_peers (schedule_of s a.c) a.round outside), rw outside)
+    record { same = sym (no_span_no_peers (schedule_of s a.c) a.round outside); bytes = rw outside }

@@ -20,28 +20,29 @@ filled : (c : Else-count-eq0) →
 filled c =
     let d = c in
     let r = d.read_spans-read.result in
-    let four : length r.spans ≡ 4 = sym (length-map r.spans _) ∙ d.read_spans-read.type-inv.1.1.0.1.0.1 in
+    let four : length r.spans ≡ 4 = omega arith in
     not_empty _ (take r.count r.spans) (omega (arith, length-take r.count r.spans))
 
 -- the bytes after the spans are the last known round
 known : (c : Else-not-is_last_known) →
     let d = c in
     last_ok d.args.s.now d.read_spans-read.result.end ≡ true
-known c = sym c.is_last_known.ensures ∙ c.if-not-is_last_known.false-raw
+known c = sym c.is_last_known.ensures ∙ not-false c.is_last_known.result c.if-not-is_last_known.false-raw
 
 pub returns-then-count-eq0 : goal.returns-then-count-eq0
 returns-then-count-eq0 c =
     let d = c in
     let r = d.read_spans-read.result in
-    unread _ _ c.unreadable.ensures (read_is _ (take r.count r.spans) r.end d.read_spans-read.ensures.read ∙ rw c.if-count-eq0.true)
+    let h = unread _ _ c.unreadable.ensures (read_is _ (take r.count r.spans) r.end d.read_spans-read.ensures.read ∙ rw c.if-count-eq0.true) in
+    record { same = h.0; handed = h.1 }
 
 pub returns-then-not-are_firsts_rising : goal.returns-then-not-are_firsts_rising
 returns-then-not-are_firsts_rising c =
     let f = c in
     let d = f in
     let r = d.read_spans-read.result in
-    unread _ _ c.unreadable-then-not-are_firsts_rising.ensures
-    (read_is _ (take r.count r.spans) r.end d.read_spans-read.ensures.read ∙ rw (filled (goal.at.returns-then-not-are_firsts_rising c).Else-count-eq0, ← f.are_firsts_rising.ensures, c.if-not-are_firsts_rising.true-raw))
+    let h = unread _ _ c.unreadable-then-not-are_firsts_rising.ensures (read_is _ (take r.count r.spans) r.end d.read_spans-read.ensures.read ∙ rw (filled (goal.at.returns-then-not-are_firsts_rising c).Else-count-eq0, ← f.are_firsts_rising.ensures, not-true f.are_firsts_rising.result c.if-not-are_firsts_rising.true-raw)) in
+    record { same = h.0; handed = h.1 }
 
 pub returns-then-not-is_last_known : goal.returns-then-not-is_last_known
 returns-then-not-is_last_known c =
@@ -49,8 +50,8 @@ returns-then-not-is_last_known c =
     let f = l in
     let d = f in
     let r = d.read_spans-read.result in
-    unread _ _ c.unreadable-then-not-is_last_known.ensures
-    (read_is _ (take r.count r.spans) r.end d.read_spans-read.ensures.read ∙ rw (filled (goal.at.returns-then-not-is_last_known c).Else-count-eq0, ← f.are_firsts_rising.ensures, l.if-not-are_firsts_rising.false-raw, ← l.is_last_known.ensures, c.if-not-is_last_known.true-raw))
+    let h = unread _ _ c.unreadable-then-not-is_last_known.ensures (read_is _ (take r.count r.spans) r.end d.read_spans-read.ensures.read ∙ rw (filled (goal.at.returns-then-not-is_last_known c).Else-count-eq0, ← f.are_firsts_rising.ensures, not-false f.are_firsts_rising.result l.if-not-are_firsts_rising.false-raw, ← l.is_last_known.ensures, not-true l.is_last_known.result c.if-not-is_last_known.true-raw)) in
+    record { same = h.0; handed = h.1 }
 
 pub u32_at-requires : goal.u32_at-requires
 u32_at-requires c = omega (arith, last_within _ _ (known c))
@@ -60,7 +61,8 @@ returns c =
     let l = c in
     let f = l in
     let d = f in
-    let r = d.read_spans-read.result in (
-      sym (read_is _ (take r.count r.spans) r.end d.read_spans-read.ensures.read ∙ rw (filled (goal.at.returns c).Else-count-eq0, ← f.are_firsts_rising.ensures, l.if-not-are_firsts_rising.false-raw, known (goal.at.returns c).Else-not-is_last_known, ← c.u32_at.ensures)),
-      record { few = d.read_spans-read.ensures.few; entries = λ g. d.read_spans-read.ensures.entries; nothing = λ g. clash true refl g },
-    )
+    let r = d.read_spans-read.result in
+    record {
+      same = sym (read_is _ (take r.count r.spans) r.end d.read_spans-read.ensures.read ∙ rw (filled (goal.at.returns c).Else-count-eq0, ← f.are_firsts_rising.ensures, not-false f.are_firsts_rising.result l.if-not-are_firsts_rising.false-raw, known (goal.at.returns c).Else-not-is_last_known, ← c.u32_at.ensures));
+      handed = record { few = d.read_spans-read.ensures.few; entries = λ g. d.read_spans-read.ensures.entries; nothing = λ g. clash true refl g };
+    }

@@ -33,7 +33,7 @@ loop-count-init c = (search rules, search rules, refl, refl, record { after = re
 pub returns-then-not-is_span : goal.returns-then-not-is_span
 returns-then-not-is_span c =
     let l = c in
-    let no_span = c.if-not-is_span.true-raw in
+    let no_span = not-true c.is_span.result c.if-not-is_span.true-raw in
     record {
       few = l.loop-count.invariant.0;
       inside = l.loop-count.invariant.1;
@@ -42,7 +42,7 @@ returns-then-not-is_span c =
     }
 
 pub span_at-requires : goal.span_at-requires
-span_at-requires c = let i = c in (search rules, sym i.is_span.ensures ∙ c.if-not-is_span.false-raw)
+span_at-requires c = let i = c in (search rules, sym i.is_span.ensures ∙ not-false i.is_span.result c.if-not-is_span.false-raw)
 
 pub loop-count-preserved : goal.loop-count-preserved
 loop-count-preserved c =
@@ -50,7 +50,7 @@ loop-count-preserved c =
     let i = x in
     let l = i in
     let s = l.args.s.now in
-    let yes = x.if-not-is_span.false-raw in
+    let yes = not-false i.is_span.result x.if-not-is_span.false-raw in
     let ok = sym i.is_span.ensures ∙ yes in (
       search rules,
       omega (arith, next-within s l.loop-count.at, c.next-at.ensures),

@@ -16,7 +16,7 @@ abbrev at-Start-from-At-loop-k : (c : At-loop-k) → Start
 at-Start-from-At-loop-k c = c.before.before.before.before.before
 
 four : (c : Start) → length c.args.c.spans ≡ 4
-four c = sym (length-map c.args.c.spans _) ∙ c.well_formed.0.1.1.0.1.0.1
+four c = omega arith
 
 -- the span of the round is the last of the first `k` that starts at or before it
 told : (c : At-loop-k) (s : List ℕ) →
@@ -31,13 +31,13 @@ told c s =
     span-known (schedule_of s a.c) a.round (omega arith) ∙ (ap (λ (l : List code.Span). last_started 0 (spans_of s l) a.round) (sym t) ∙ c.loop-k.invariant.1 s)
 
 pub returns-then-c-round : goal.returns-then-c-round
-returns-then-c-round c = let a = c.args in sym (span-past (schedule_of s a.c) a.round (omega arith))
+returns-then-c-round c s = let a = c.args in sym (span-past (schedule_of s a.c) a.round (omega arith))
 
 pub loop-k-init : goal.loop-k-init
 loop-k-init c = (omega (arith, c.at_most-k.ensures), λ s. refl)
 
 pub returns-then-span-round : goal.returns-then-span-round
-returns-then-span-round c =
+returns-then-span-round c s =
     let l = c in
     let st = l in
     sym (told (goal.at.returns-then-span-round c).At-loop-k s ∙ last-here s st.args.c.spans l.loop-k.k st.args.round (omega arith) (omega (arith, four (goal.at.returns-then-span-round c).Start)) (omega arith))
@@ -50,7 +50,7 @@ loop-k-preserved c =
 
 pub returns : goal.returns
 unfolding last_started
-returns c =
+returns c s =
     let l = c in
     let e : l.loop-k.k ≡ 0 = omega arith in
     sym (told (goal.at.returns c).At-loop-k s ∙ rw e)

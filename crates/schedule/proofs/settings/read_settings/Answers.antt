@@ -26,7 +26,7 @@ told c =
     let r = i in
     let f = r in
     let s = f.args.s.now in
-    rw c.are_in_limits.ensures (read_as s _ f.if-s-ne-SETTINGS_LENGTH.false (sym f.field_ok.ensures ∙ r.if-not-field_ok.false-raw)
+    rw c.are_in_limits.ensures (read_as s _ f.if-s-ne-SETTINGS_LENGTH.false (sym f.field_ok.ensures ∙ not-false f.field_ok.result r.if-not-field_ok.false-raw)
     (rw (r.u32_at.ensures, i.id_at.ensures, v.u32_at-2.ensures, u.u16_at.ensures)))
 
 pub returns-then-s-ne-SETTINGS_LENGTH : goal.returns-then-s-ne-SETTINGS_LENGTH
@@ -37,10 +37,10 @@ pub returns-then-not-field_ok : goal.returns-then-not-field_ok
 unfolding read_settings
 returns-then-not-field_ok c =
     let f = c in
-    simp (eq-eqb _ _ f.if-s-ne-SETTINGS_LENGTH.false, ← f.field_ok.ensures, c.if-not-field_ok.true-raw)
+    simp (eq-eqb _ _ f.if-s-ne-SETTINGS_LENGTH.false, ← f.field_ok.ensures, not-true f.field_ok.result c.if-not-field_ok.true-raw)
 
 pub returns-then-not-are_in_limits : goal.returns-then-not-are_in_limits
-returns-then-not-are_in_limits c = sym (told (goal.at.returns-then-not-are_in_limits c).After-are_in_limits ∙ rw c.if-not-are_in_limits.true-raw)
+returns-then-not-are_in_limits c = sym (told (goal.at.returns-then-not-are_in_limits c).After-are_in_limits ∙ rw (not-true _ c.if-not-are_in_limits.true-raw))
 
 pub returns : goal.returns
-returns c = sym (told (goal.at.returns c).After-are_in_limits ∙ rw c.if-not-are_in_limits.false-raw)
+returns c = sym (told (goal.at.returns c).After-are_in_limits ∙ rw (not-false _ c.if-not-are_in_limits.false-raw))
