@@ -17,7 +17,7 @@ returns-in-IllFormed c =
 
 pub returns-in-Invalid : goal.returns-in-Invalid
 returns-in-Invalid c =
-    let v = c.of-invalid in
+    let v = c.of_invalid in
     let i = c in
     let n = i in
     c.named.ensures

@@ -109,13 +109,13 @@ pub overflow_add-result-2 : goal.overflow_add-result-2
 overflow_add-result-2 c =
     let k = c in
     let a = k in
-    omega (arith, (inside (goal.at.overflow_add-result-2 c).In-Stated).0, (inside (goal.at.overflow_add-result-2 c).In-Stated).1, a.requires, a.good)
+    omega (arith, (inside (goal.at.overflow_add-result-2 c).In-Stated).0, (inside (goal.at.overflow_add-result-2 c).In-Stated).1, a.requires, a.well_formed)
 
 pub overflow_add-result-4 : goal.overflow_add-result-4
 overflow_add-result-4 c =
     let k = c in
     let a = k in
-    omega (arith, (inside (goal.at.overflow_add-result-4 c).In-Stated).1, a.requires, a.good)
+    omega (arith, (inside (goal.at.overflow_add-result-4 c).In-Stated).1, a.requires, a.well_formed)
 
 pub returns : goal.returns
 returns c =

@@ -21,17 +21,11 @@ pub returns-in_default : goal.returns-in_default
 returns-in_default c =
     let r = c in
     let a = r.args in
-    let s = a.s.now in (
-      sym (state-invalid s a.reason (counted (goal.at.returns-in_default c).Else-not-is_reason) ∙ back_none s s 0 r.read_record.result refl r.read_record.ensures.same c.in_default.is (λ q. Invalid q a.reason)),
-      tt,
-    )
+    let s = a.s.now in record { same = sym (state-invalid s a.reason (counted (goal.at.returns-in_default c).Else-not-is_reason) ∙ back_none s s 0 r.read_record.result refl r.read_record.ensures.same c.in_default.is (λ q. Invalid q a.reason)); placed = tt }
 
 pub returns : goal.returns
 returns c =
     let r = c in
     let a = r.args in
     let s = a.s.now in
-    let b = back s s 0 r.read_record.result refl r.read_record.ensures.same c.in-Record.n c.in-Record.n c.in-Record.info c.in-Record.is r.read_record.ensures.placed (omega arith) (omega arith) in (
-      sym (state-invalid s a.reason (counted (goal.at.returns c).Else-not-is_reason) ∙ b.states (λ q. Invalid q a.reason)),
-      record { ordered = b.ordered; inside = b.inside; read = b.from },
-    )
+    let b = back s s 0 r.read_record.result refl r.read_record.ensures.same c.in-Record.n c.in-Record.n c.in-Record.info c.in-Record.is r.read_record.ensures.placed (omega arith) (omega arith) in record { same = sym (state-invalid s a.reason (counted (goal.at.returns c).Else-not-is_reason) ∙ b.states (λ q. Invalid q a.reason)); placed = record { ordered = b.ordered; inside = b.inside; read = b.from } }

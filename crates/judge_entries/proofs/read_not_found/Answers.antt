@@ -25,7 +25,4 @@ point_id_at-requires c = field-length 17 68 c.args.s.now (fits c)
 
 pub returns : goal.returns
 returns c =
-    let s = c.args.s.now in (
-      sym (state_not_found s ∙ id-read s NotFound (point_id_of c.point_id_at.result) c.point_id_at.ensures (fits (goal.at.returns c).Else-not-field_ok)),
-      record { ordered = omega arith; inside = field-length 17 68 s (fits (goal.at.returns c).Else-not-field_ok); read = tt },
-    )
+    let s = c.args.s.now in record { same = sym (state_not_found s ∙ id-read s NotFound (point_id_of c.point_id_at.result) c.point_id_at.ensures (fits (goal.at.returns c).Else-not-field_ok)); placed = record { ordered = omega arith; inside = field-length 17 68 s (fits (goal.at.returns c).Else-not-field_ok); read = tt } }

@@ -53,10 +53,7 @@ read_shaped-requires c =
 pub returns-in_default-read_shaped : goal.returns-in_default-read_shaped
 returns-in_default-read_shaped c =
     let r = c in
-    let k = r in (
-      sym (front-unread (slice (goal.at.returns-in_default-read_shaped c).In-At) (part (goal.at.returns-in_default-read_shaped c).In-At) (end (goal.at.returns-in_default-read_shaped c).In-At) (ended (goal.at.returns-in_default-read_shaped c).In-At) (up_to (end (goal.at.returns-in_default-read_shaped c).In-At) (slice (goal.at.returns-in_default-read_shaped c).In-At)) (subst (PointRead (part (goal.at.returns-in_default-read_shaped c).In-At)) c.in_default-read_shaped.is r.read_shaped.ensures)),
-      tt,
-    )
+    let k = r in record { same = sym (front-unread (slice (goal.at.returns-in_default-read_shaped c).In-At) (part (goal.at.returns-in_default-read_shaped c).In-At) (end (goal.at.returns-in_default-read_shaped c).In-At) (ended (goal.at.returns-in_default-read_shaped c).In-At) (up_to (end (goal.at.returns-in_default-read_shaped c).In-At) (slice (goal.at.returns-in_default-read_shaped c).In-At)) (subst (PointRead (part (goal.at.returns-in_default-read_shaped c).In-At)) c.in_default-read_shaped.is r.read_shaped.ensures)); placed = tt }
 
 pub is_listable-requires : goal.is_listable-requires
 is_listable-requires c = read c
@@ -64,10 +61,7 @@ is_listable-requires c = read c
 pub returns-then-not-is_listable : goal.returns-then-not-is_listable
 returns-then-not-is_listable c =
     let l = c in
-    let k = l in (
-      sym (front_unlisted (slice (goal.at.returns-then-not-is_listable c).In-At) (part (goal.at.returns-then-not-is_listable c).In-At) (end (goal.at.returns-then-not-is_listable c).In-At) (ended (goal.at.returns-then-not-is_listable c).In-At) (up_to (end (goal.at.returns-then-not-is_listable c).In-At) (slice (goal.at.returns-then-not-is_listable c).In-At)) (info (goal.at.returns-then-not-is_listable c).In-Point) (read (goal.at.returns-then-not-is_listable c).In-Point) (sym l.is_listable.ensures ∙ not-true _ c.if-not-is_listable.true-raw)),
-      tt,
-    )
+    let k = l in record { same = sym (front_unlisted (slice (goal.at.returns-then-not-is_listable c).In-At) (part (goal.at.returns-then-not-is_listable c).In-At) (end (goal.at.returns-then-not-is_listable c).In-At) (ended (goal.at.returns-then-not-is_listable c).In-At) (up_to (end (goal.at.returns-then-not-is_listable c).In-At) (slice (goal.at.returns-then-not-is_listable c).In-At)) (info (goal.at.returns-then-not-is_listable c).In-Point) (read (goal.at.returns-then-not-is_listable c).In-Point) (sym l.is_listable.ensures ∙ not-true _ c.if-not-is_listable.true-raw)); placed = tt }
 
 pub returns : goal.returns
 returns c =
@@ -75,7 +69,4 @@ returns c =
     let k = l in
     let p = up_to (end (goal.at.returns c).In-At) (slice (goal.at.returns c).In-At) in
     let i = info (goal.at.returns c).In-Point in
-    let r = read (goal.at.returns c).In-Point in (
-      sym (front-listed (slice (goal.at.returns c).In-At) (part (goal.at.returns c).In-At) (end (goal.at.returns c).In-At) (ended (goal.at.returns c).In-At) p i r (sym l.is_listable.ensures ∙ not-false _ c.if-not-is_listable.false-raw)),
-      (end-within (slice (goal.at.returns c).In-At) (end (goal.at.returns c).In-At) (ended (goal.at.returns c).In-At), front-from (slice (goal.at.returns c).In-At) (part (goal.at.returns c).In-At) (end (goal.at.returns c).In-At) (ended (goal.at.returns c).In-At) p i r),
-    )
+    let r = read (goal.at.returns c).In-Point in record { same = sym (front-listed (slice (goal.at.returns c).In-At) (part (goal.at.returns c).In-At) (end (goal.at.returns c).In-At) (ended (goal.at.returns c).In-At) p i r (sym l.is_listable.ensures ∙ not-false _ c.if-not-is_listable.false-raw)); placed = (end-within (slice (goal.at.returns c).In-At) (end (goal.at.returns c).In-At) (ended (goal.at.returns c).In-At), front-from (slice (goal.at.returns c).In-At) (part (goal.at.returns c).In-At) (end (goal.at.returns c).In-At) (ended (goal.at.returns c).In-At) p i r) }

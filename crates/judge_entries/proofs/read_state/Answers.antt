@@ -24,10 +24,7 @@ pub returns-in-4 : goal.returns-in-4
 returns-in-4 c = record { same = c.read_not_found.ensures.same ∙ sym (state-by _ _ 4 0 _ c.in-4.is c.if-reason-ne0.false); placed = c.read_not_found.ensures.placed }
 
 pub returns-in-5 : goal.returns-in-5
-returns-in-5 c = (
-  sym (state-by _ _ 5 0 _ c.in-5.is c.if-reason-ne0.false ∙ state-dropped _),
-  record { ordered = omega arith; inside = omega arith; read = tt },
-)
+returns-in-5 c = record { same = sym (state-by _ _ 5 0 _ c.in-5.is c.if-reason-ne0.false ∙ state-dropped _); placed = record { ordered = omega arith; inside = omega arith; read = tt } }
 
 pub returns-in_default : goal.returns-in_default
 returns-in_default c =

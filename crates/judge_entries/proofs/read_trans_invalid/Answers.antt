@@ -30,8 +30,7 @@ long c = root-length (slice c) (rooted c)
 
 -- the record after the root cause
 read : (c : In-Record) →
-    let i = c.info.given.0 in
-    Back (slice (at-Else-not-is_root-from-In-Record c)) 72 (72 + c.in-Record.is.0) c.info.given.0
+    Back (slice (at-Else-not-is_root-from-In-Record c)) 72 (72 + c.in-Record.n) c.in-Record.info
 read c =
     let r = c in
     let e = r in
@@ -59,11 +58,8 @@ returns-in_default c =
     let r = c in
     let p = r in
     let s = slice (goal.at.returns-in_default c).Else-not-is_root in
-    let i = point_id_of p.point_id_at-root.result in (
-      sym (state_trans s i (rooted (goal.at.returns-in_default c).Else-not-is_root) p.point_id_at-root.ensures
-          ∙ back_none s (take (length s - 72) (drop 72 s)) 72 r.read_record.result (rest 72 s) r.read_record.ensures.same c.in_default.is (λ q. TransInvalid q i (get_or s 71 0))),
-      tt,
-    )
+    let i = point_id_of p.point_id_at-root.result in record { same = sym (state_trans s i (rooted (goal.at.returns-in_default c).Else-not-is_root) p.point_id_at-root.ensures
+          ∙ back_none s (take (length s - 72) (drop 72 s)) 72 r.read_record.result (rest 72 s) r.read_record.ensures.same c.in_default.is (λ q. TransInvalid q i (get_or s 71 0))); placed = tt }
 
 pub overflow_add-result : goal.overflow_add-result
 overflow_add-result c =
@@ -75,7 +71,4 @@ returns c =
     let p = c in
     let s = slice (goal.at.returns c).Else-not-is_root in
     let i = point_id_of p.point_id_at-root.result in
-    let b = read c in (
-      sym (state_trans s i (rooted (goal.at.returns c).Else-not-is_root) p.point_id_at-root.ensures ∙ b.states (λ q. TransInvalid q i (get_or s 71 0))),
-      record { ordered = b.ordered; inside = b.inside; read = b.from },
-    )
+    let b = read c in record { same = sym (state_trans s i (rooted (goal.at.returns c).Else-not-is_root) p.point_id_at-root.ensures ∙ b.states (λ q. TransInvalid q i (get_or s 71 0))); placed = record { ordered = b.ordered; inside = b.inside; read = b.from } }

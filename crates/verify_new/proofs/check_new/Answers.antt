@@ -18,11 +18,50 @@ use Rattle.reasons.specs.Code.{verified_of}
 use Rattle.verify_new.proofs.check_new.Goals as goal
 use Rattle.verify_new.proofs.check_new.Goals.{After-check_vset-includes, After-check_vset-same_round, After-check_vset-witness, Else-is_unknown_target, Else-is_unknown_target-2, Else-round-conf, In-At, In-Passed, In-Passed-includes, In-Passed-witness, Start}
 
+abbrev at-Start-from-In-At : (c : In-At) → Start
+at-Start-from-In-At c = c.before.before.before.before.before.before.before.before.before.before.before
+
+abbrev at-Start-from-Else-is_unknown_target : (c : Else-is_unknown_target) → Start
+at-Start-from-Else-is_unknown_target c = c.before.before.before.before.before.before.before.before.before.before.before.before.before.before.before.before.before.before.before
+
 abbrev at-In-Passed-includes-from-In-Passed-witness : (c : In-Passed-witness) → In-Passed-includes
 at-In-Passed-includes-from-In-Passed-witness c = record { before = c.before.before.before.before; type_inv = record { rec = c.type_inv.rec; schedule = c.type_inv.schedule } }
 
+abbrev at-Else-is_unknown_target-from-Else-is_unknown_target-2 : (c : Else-is_unknown_target-2) → Else-is_unknown_target
+at-Else-is_unknown_target-from-Else-is_unknown_target-2 c = record { before = c.before.before.before; type_inv = record { rec = c.type_inv.rec; schedule = c.type_inv.schedule } }
+
+abbrev at-After-check_vset-includes-from-In-Passed-includes : (c : In-Passed-includes) → After-check_vset-includes
+at-After-check_vset-includes-from-In-Passed-includes c = record { before = c.before.before; type_inv = record { rec = c.type_inv.rec; schedule = c.type_inv.schedule } }
+
+abbrev at-After-check_vset-witness-from-In-Passed-witness : (c : In-Passed-witness) → After-check_vset-witness
+at-After-check_vset-witness-from-In-Passed-witness c = record { before = c.before.before; type_inv = record { rec = c.type_inv.rec; schedule = c.type_inv.schedule } }
+
+abbrev at-Start-from-In-Passed-includes : (c : In-Passed-includes) → Start
+at-Start-from-In-Passed-includes c = c.before.before.before.before.before.before.before.before.before.before.before.before.before.before
+
 abbrev at-Start-from-After-check_vset-witness : (c : After-check_vset-witness) → Start
 at-Start-from-After-check_vset-witness c = c.before.before.before.before.before.before.before.before.before.before.before.before.before.before.before.before
+
+abbrev at-Start-from-Else-is_unknown_target-2 : (c : Else-is_unknown_target-2) → Start
+at-Start-from-Else-is_unknown_target-2 c = c.before.before.before.before.before.before.before.before.before.before.before.before.before.before.before.before.before.before.before.before.before
+
+abbrev at-Start-from-In-Passed : (c : In-Passed) → Start
+at-Start-from-In-Passed c = c.before.before.before.before.before.before.before.before
+
+abbrev at-Start-from-Else-round-conf : (c : Else-round-conf) → Start
+at-Start-from-Else-round-conf c = c.before.before.before.before.before.before
+
+abbrev at-Else-round-conf-from-In-Passed : (c : In-Passed) → Else-round-conf
+at-Else-round-conf-from-In-Passed c = record { before = c.before.before.before; type_inv = record { rec = c.type_inv.rec; schedule = c.type_inv.schedule } }
+
+abbrev at-After-check_vset-same_round-from-In-Passed : (c : In-Passed) → After-check_vset-same_round
+at-After-check_vset-same_round-from-In-Passed c = record { before = c.before.before; type_inv = record { rec = c.type_inv.rec; schedule = c.type_inv.schedule } }
+
+abbrev at-In-Passed-from-In-At : (c : In-At) → In-Passed
+at-In-Passed-from-In-At c = record { before = c.before.before.before.before; type_inv = record { rec = c.type_inv.rec; schedule = c.type_inv.schedule } }
+
+abbrev at-Start-from-In-Passed-witness : (c : In-Passed-witness) → Start
+at-Start-from-In-Passed-witness c = c.before.before.before.before.before.before.before.before.before.before.before.before.before.before.before.before.before
 
 abbrev at-Start-from-After-check_vset-includes : (c : After-check_vset-includes) → Start
 at-Start-from-After-check_vset-includes c = c.before.before.before.before.before.before.before.before.before.before.before.before.before
@@ -30,29 +69,11 @@ at-Start-from-After-check_vset-includes c = c.before.before.before.before.before
 abbrev at-Start-from-After-check_vset-same_round : (c : After-check_vset-same_round) → Start
 at-Start-from-After-check_vset-same_round c = c.before.before.before.before.before.before.before
 
-abbrev at-Else-is_unknown_target-from-Else-is_unknown_target-2 : (c : Else-is_unknown_target-2) → Else-is_unknown_target
-at-Else-is_unknown_target-from-Else-is_unknown_target-2 c = record { before = c.before.before.before; type_inv = record { rec = c.type_inv.rec; schedule = c.type_inv.schedule } }
-
-abbrev at-Else-round-conf-from-In-Passed : (c : In-Passed) → Else-round-conf
-at-Else-round-conf-from-In-Passed c = record { before = c.before.before.before; type_inv = record { rec = c.type_inv.rec; schedule = c.type_inv.schedule } }
-
-abbrev at-After-check_vset-includes-from-In-Passed-includes : (c : In-Passed-includes) → After-check_vset-includes
-at-After-check_vset-includes-from-In-Passed-includes c = record { before = c.before.before; type_inv = record { rec = c.type_inv.rec; schedule = c.type_inv.schedule } }
-
 abbrev at-In-Passed-witness-from-Else-is_unknown_target : (c : Else-is_unknown_target) → In-Passed-witness
 at-In-Passed-witness-from-Else-is_unknown_target c = record { before = c.before.before.before; type_inv = record { rec = c.type_inv.rec; schedule = c.type_inv.schedule } }
 
-abbrev at-After-check_vset-witness-from-In-Passed-witness : (c : In-Passed-witness) → After-check_vset-witness
-at-After-check_vset-witness-from-In-Passed-witness c = record { before = c.before.before; type_inv = record { rec = c.type_inv.rec; schedule = c.type_inv.schedule } }
-
 abbrev at-In-At-from-In-Passed-includes : (c : In-Passed-includes) → In-At
 at-In-At-from-In-Passed-includes c = record { before = c.before.before.before.before; type_inv = record { rec = c.type_inv.rec; schedule = c.type_inv.schedule } }
-
-abbrev at-After-check_vset-same_round-from-In-Passed : (c : In-Passed) → After-check_vset-same_round
-at-After-check_vset-same_round-from-In-Passed c = record { before = c.before.before; type_inv = record { rec = c.type_inv.rec; schedule = c.type_inv.schedule } }
-
-abbrev at-In-Passed-from-In-At : (c : In-At) → In-Passed
-at-In-Passed-from-In-At c = record { before = c.before.before.before.before; type_inv = record { rec = c.type_inv.rec; schedule = c.type_inv.schedule } }
 
 abbrev rows : Start → List (List VerifyError)
 rows c =
@@ -77,41 +98,41 @@ unfolding new_rows
 witness c = rw (← c.rounds_back-before_prev.ensures) (sym c.check_vset-witness.ensures)
 
 -- what is left of the table at those places
-left1 : (c : Else-round-conf) → Left 1 c
+left1 : (c : Else-round-conf) → Left 1 (at-Start-from-Else-round-conf c)
 unfolding new_rows
 left1 c = row_after _ _ _ (le-ltb _ _ c.if-round-conf.false)
 
-left2 : (c : In-Passed) → Left 2 c
+left2 : (c : In-Passed) → Left 2 (at-Start-from-In-Passed c)
 unfolding new_rows
 left2 c =
     let d = c in
     left1 (at-Else-round-conf-from-In-Passed c) ∙ first-after _ _ (same-round (at-After-check_vset-same_round-from-In-Passed c) ∙ ap verified_of c.in-Passed.is)
 
-left3 : (c : In-At) → Left 3 c
+left3 : (c : In-At) → Left 3 (at-Start-from-In-At c)
 unfolding new_rows
 left3 c =
     let d = c in
     left2 (at-In-Passed-from-In-At c) ∙ row_after _ _ _ (ap (λ (o : Option ℕ). not (is_some o)) (sym d.scheduled_at.ensures ∙ ap position_of c.in-At.is))
 
-left4 : (c : In-Passed-includes) → Left 4 c
+left4 : (c : In-Passed-includes) → Left 4 (at-Start-from-In-Passed-includes c)
 unfolding new_rows
 left4 c =
     let d = c in
     left3 (at-In-At-from-In-Passed-includes c) ∙ first-after _ _ (includes (at-After-check_vset-includes-from-In-Passed-includes c) ∙ ap verified_of c.in-Passed-includes.is)
 
-left5 : (c : In-Passed-witness) → Left 5 c
+left5 : (c : In-Passed-witness) → Left 5 (at-Start-from-In-Passed-witness c)
 unfolding new_rows
 left5 c =
     let d = c in
     left4 (at-In-Passed-includes-from-In-Passed-witness c) ∙ first-after _ _ (witness (at-After-check_vset-witness-from-In-Passed-witness c) ∙ ap verified_of c.in-Passed-witness.is)
 
-left6 : (c : Else-is_unknown_target) → Left 6 c
+left6 : (c : Else-is_unknown_target) → Left 6 (at-Start-from-Else-is_unknown_target c)
 unfolding new_rows
 left6 c =
     let d = c in
     left5 (at-In-Passed-witness-from-Else-is_unknown_target c) ∙ row_after _ _ _ (sym d.is_unknown_target.ensures ∙ c.if-is_unknown_target.false)
 
-left7 : (c : Else-is_unknown_target-2) → Left 7 c
+left7 : (c : Else-is_unknown_target-2) → Left 7 (at-Start-from-Else-is_unknown_target-2 c)
 unfolding new_rows
 left7 c =
     let d = c in

@@ -70,4 +70,6 @@ pub shape_of-out : goal.shape_of-out
 shape_of-out c = c.loop-i.invariant.2.same
 
 pub returns : goal.returns
-returns c = walked-done _ _ _ _ _ _ _ c.loop-i.invariant.2 (omega arith)
+returns c =
+    let h = walked-done _ _ _ _ _ _ _ c.loop-i.invariant.2 (omega arith) in
+    record { count = h.0; written = h.1 }

@@ -25,7 +25,7 @@ abbrev at-Start-from-After-equal : (c : After-equal) → Start
 at-Start-from-After-equal c = c.before.before.before.before.before.before.before.before.before.before
 
 abbrev at-Else-equal-from-In-Absent : (c : In-Absent) → Else-equal
-at-Else-equal-from-In-Absent c = record { before = c.before.before.before.before; type_inv = record { evidence = c.type_inv.evidence; rec = c.type_inv.rec } }
+at-Else-equal-from-In-Absent c = record { before = c.before.before.before.before; type_inv = record { evidence = c.evidence-evidence.items_fit; rec = c.type_inv.rec } }
 
 abbrev at-Start-from-After-lacks_prev_point : (c : After-lacks_prev_point) → Start
 at-Start-from-After-lacks_prev_point c = c.before.before.before.before.before.before
@@ -37,7 +37,7 @@ abbrev at-After-search-from-In-Absent : (c : In-Absent) → After-search
 at-After-search-from-In-Absent c = record { before = c.before.before; type_inv = record { rec = c.type_inv.rec } }
 
 abbrev at-After-equal-from-Else-equal : (c : Else-equal) → After-equal
-at-After-equal-from-Else-equal c = record { before = c.before.before; type_inv = record { evidence = c.type_inv.evidence; rec = c.type_inv.rec } }
+at-After-equal-from-Else-equal c = record { before = c.before.before; type_inv = record { evidence = c.evidence-evidence.items_fit; rec = c.type_inv.rec } }
 
 abbrev at-Start-from-After-search-2 : (c : After-search-2) → Start
 at-Start-from-After-search-2 c = c.before.before.before.before.before.before.before.before.before.before.before.before.before.before.before.before.before
@@ -52,7 +52,7 @@ abbrev at-Start-from-After-witness : (c : After-witness) → Start
 at-Start-from-After-witness c = c.before.before.before.before.before.before.before.before.before.before.before.before.before.before.before
 
 abbrev at-After-evidence-evidence-from-After-equal : (c : After-equal) → After-evidence-evidence
-at-After-evidence-evidence-from-After-equal c = record { before = c.before.before.before; type_inv = record { rec = c.type_inv.rec } }
+at-After-evidence-evidence-from-After-equal c = record { before = c.before.before.before; type_inv = record { evidence = c.evidence-evidence.items_fit; rec = c.type_inv.rec } }
 
 abbrev at-Start-from-After-evidence-evidence : (c : After-evidence-evidence) → Start
 at-Start-from-After-evidence-evidence c = c.before.before.before.before.before.before.before.before
@@ -61,7 +61,7 @@ abbrev at-After-is_found-has_prev_point-from-After-equal : (c : After-equal) →
 at-After-is_found-has_prev_point-from-After-equal c = record { before = c.before.before.before.before.before.before; type_inv = record { rec = c.type_inv.rec } }
 
 abbrev at-After-evidence-evidence-from-After-search : (c : After-search) → After-evidence-evidence
-at-After-evidence-evidence-from-After-search c = record { before = c.before.before.before.before.before.before; type_inv = record { rec = c.type_inv.rec } }
+at-After-evidence-evidence-from-After-search c = record { before = c.before.before.before.before.before.before; type_inv = record { evidence = c.evidence-evidence.items_fit; rec = c.type_inv.rec } }
 
 abbrev at-After-is_found-has_prev_point-from-After-lacks_prev_point : (c : After-lacks_prev_point) → After-is_found-has_prev_point
 at-After-is_found-has_prev_point-from-After-lacks_prev_point c = record { before = c.before.before; type_inv = record { rec = c.type_inv.rec } }

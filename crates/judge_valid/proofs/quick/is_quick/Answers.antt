@@ -13,7 +13,7 @@ use Rattle.judge_valid.proofs.quick.is_quick.Goals.{Else-is_linked, Else-is_newe
 not_own : (c : Else-is_own) →
     let b = c.brief_of-b.result in
     let q = c.args.q in
-    (eqb b.round q && eqb b.author q.author) ≡ false
+    (eqb b.round q.before && eqb b.author q.author) ≡ false
 not_own c = sym c.is_own.ensures ∙ c.if-is_own.false
 
 not-linked : (c : Else-is_linked) →

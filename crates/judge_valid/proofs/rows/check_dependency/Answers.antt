@@ -90,20 +90,20 @@ unfolding point_rows
 time c = sym c.check_time-time.ensures
 
 -- what is left of the table at those places
-left4 : (c : In-NoReason) → Left 4 c
+left4 : (c : In-NoReason) → Left 4 (at-Start-from-In-NoReason c)
 unfolding point_rows
 left4 c =
     let t = rows (at-Start-from-In-NoReason c) in
     last_row_before (take 4 t) (get_or t 4 []) (links (at-After-check_links-links-from-In-NoReason c) ∙ ap option_of c.in-NoReason.is)
 
-left3 : (c : In-NoReason-trigger) → Left 3 c
+left3 : (c : In-NoReason-trigger) → Left 3 (at-Start-from-In-NoReason-trigger c)
 unfolding point_rows
 left3 c =
     let d = c in
     let t = rows (at-Start-from-In-NoReason-trigger c) in
     left4 (at-In-NoReason-from-In-NoReason-trigger c) ∙ last_row_before (take 3 t) (get_or t 3 []) (trigger (at-After-check_newer-trigger-from-In-NoReason-trigger c) ∙ ap option_of c.in-NoReason-trigger.is)
 
-left2 : (c : In-NoReason-proof) → Left 2 c
+left2 : (c : In-NoReason-proof) → Left 2 (at-Start-from-In-NoReason-proof c)
 unfolding point_rows
 left2 c =
     let d = c in

@@ -26,7 +26,7 @@ inherited : (c : After-check_inherited-carried) → last_of (get_or (rows (at-St
 unfolding indirect_point_rows
 inherited c =
     let s = c in
-    rw (← s.is_anchor_stage.ensures, not-false s.is_anchor_stage.result c.if-not-is_anchor_stage.false-raw) (sym c.check_inherited-carried.ensures)
+    rw (sym s.is_anchor_stage.ensures ∙ not-false s.is_anchor_stage.result c.if-not-is_anchor_stage.false-raw) (sym c.check_inherited-carried.ensures)
 
 pub returns-then-not-is_anchor_stage : goal.returns-then-not-is_anchor_stage
 unfolding last_of indirect_point_rows

@@ -56,19 +56,19 @@ unfolding anchor_rows
 trigger-source c = sym c.check_source-trigger_source.ensures
 
 -- what is left of the table there
-left3 : (c : In-NoReason) → Left 3 c
+left3 : (c : In-NoReason) → Left 3 (at-After-check_source-trigger_source-from-In-NoReason c)
 unfolding anchor_rows
 left3 c =
     let t = rows (at-After-check_source-trigger_source-from-In-NoReason c) in
     last_row_before (take 3 t) (get_or t 3 []) (trigger-source (at-After-check_source-trigger_source-from-In-NoReason c) ∙ ap option_of c.in-NoReason.is)
 
-left2 : (c : In-NoReason-proof_source) → Left 2 c
+left2 : (c : In-NoReason-proof_source) → Left 2 (at-After-check_source-trigger_source-from-In-NoReason-proof_source c)
 unfolding anchor_rows
 left2 c =
     let t = rows (at-After-check_source-trigger_source-from-In-NoReason-proof_source c) in
     left3 (at-In-NoReason-from-In-NoReason-proof_source c) ∙ last_row_before (take 2 t) (get_or t 2 []) (proof-source (at-After-check_source-trigger_source-from-In-NoReason-proof_source c) ∙ ap option_of c.in-NoReason-proof_source.is)
 
-left1 : (c : In-NoReason-trigger_target) → Left 1 c
+left1 : (c : In-NoReason-trigger_target) → Left 1 (at-After-check_source-trigger_source-from-In-NoReason-trigger_target c)
 unfolding anchor_rows
 left1 c =
     let t = rows (at-After-check_source-trigger_source-from-In-NoReason-trigger_target c) in
