@@ -1,9 +1,9 @@
 -- Laws of links that are tested and not read: whether a direct one names a peer of its map.
 use Prim.Native.Nat.{ℕ, ◌≤◌}
 use native.Mathlib.Omega.{arith}
-use mathlib.Core.Path.{◌≡◌, refl, ap, sym, ◌∙◌}
+use mathlib.Core.Path.{◌≡◌, refl}
 use mathlib.Core.Bool.{Bool, true, false, ◌&&◌}
-use mathlib.Core.Option.{Option, none, some}
+use mathlib.Core.Option.{none, some}
 use mathlib.Core.List.{List}
 use lib.ListN.{length, get_or}
 use lib.Dec.{eqb}
@@ -12,7 +12,7 @@ use Rattle.base.specs.Base.{pick, is_some}
 use Rattle.base.proofs.Bool.{clash, last-false}
 use Rattle.base.proofs.Option.{picked, and_then_lem, none-some}
 use Rattle.parts.specs.Bytes.{id_at}
-use Rattle.map.specs.Rows.{Pair, pairs_of, peers_of, peers, rising, find}
+use Rattle.map.specs.Rows.{Pair, pairs_of, peers_of, rising, find}
 use Rattle.map.proofs.Laws.{peers-pairs_of, peers-length, find-get}
 use Rattle.point.specs.Point.{PointId, Through, Includes, Witness, AnchorLink, Direct, Indirect, PointInfo, digest_safe}
 use Rattle.point.specs.Reading.{point_id_at, read_through, read_link}

@@ -9,7 +9,6 @@ use Rattle.books.specs.Layout.{status_bytes, kept_bytes}
 use Rattle.book_layout.specs.Code.{status_of}
 use Rattle.books.proofs.RoundTrip.{status-length}
 use Rattle.book_layout.proofs.Laws.{put_right}
-use borrow.Author.Rules.{rules}
 use Rattle.book_layout.proofs.put.put_kept.Goals as goal
 
 pub returns : goal.returns

@@ -8,7 +8,6 @@ use Rattle.parts.specs.Bytes.{big_bytes}
 use Rattle.parts.specs.Code.{number}
 use Rattle.write.proofs.Laws.{bytes-length, put_put}
 use Rattle.book_layout.proofs.Laws.{two_stores}
-use borrow.Author.Rules.{rules}
 use Rattle.book_layout.proofs.put.put_peer.Goals as goal
 
 pub bounds-out-at-2 : goal.bounds-out-at-2

@@ -6,7 +6,6 @@ use Rattle.parts.specs.Bytes.{little_bytes, big_bytes}
 use Rattle.parts.specs.Code.{number}
 use Rattle.write.proofs.Laws.{bytes-length}
 use Rattle.book_layout.proofs.Laws.{put_right}
-use borrow.Author.Rules.{rules}
 use Rattle.book_layout.proofs.put.put_point_id.Goals as goal
 
 pub returns : goal.returns

@@ -7,7 +7,6 @@ use Rattle.reasons.specs.Code.{dependency_of}
 use Rattle.books.specs.Layout.{id_bytes, through_bytes, status_bytes}
 use Rattle.books.proofs.RoundTrip.{through-length}
 use Rattle.book_layout.proofs.Laws.{put_right, id-length}
-use borrow.Author.Rules.{rules}
 use Rattle.book_layout.proofs.put.put_root.Goals as goal
 
 pub returns : goal.returns

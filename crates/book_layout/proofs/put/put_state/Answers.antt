@@ -5,7 +5,6 @@ use mathlib.Core.Path.{refl}
 use mathlib.Core.List.{[], ◌∷◌}
 use lib.ListN.{replicate}
 use Rattle.write.proofs.Laws.{put_put}
-use borrow.Author.Rules.{rules}
 use Rattle.book_layout.proofs.put.put_state.Goals as goal
 
 pub returns : goal.returns

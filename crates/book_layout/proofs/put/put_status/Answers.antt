@@ -1,6 +1,5 @@
 -- `put_status` meets its contract: each case by its equation.
 use Rattle.books.specs.Layout.{status_bytes}
-use borrow.Author.Rules.{rules}
 use Rattle.book_layout.proofs.put.put_status.Goals as goal
 
 pub returns-in-Valid : goal.returns-in-Valid

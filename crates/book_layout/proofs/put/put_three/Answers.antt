@@ -2,7 +2,6 @@
 use native.Mathlib.Omega.{arith}
 use lib.ListN.{length-set}
 use Rattle.book_layout.proofs.Laws.{three_stores}
-use borrow.Author.Rules.{rules}
 use Rattle.book_layout.proofs.put.put_three.Goals as goal
 
 pub bounds-out-at-2 : goal.bounds-out-at-2

@@ -1,5 +1,4 @@
 -- `put_through` meets its contract: each case by its equation.
-use borrow.Author.Rules.{rules}
 use Rattle.book_layout.proofs.put.put_through.Goals as goal
 
 pub returns-in-Includes : goal.returns-in-Includes

@@ -1,6 +1,6 @@
 -- `are_named` meets its contract: both links, the first where it is direct.
 use native.Mathlib.Omega.{arith}
-use Prim.Native.Nat.{ℕ, ◌≤◌}
+use Prim.Native.Nat.{◌≤◌}
 use mathlib.Core.Path.{◌≡◌, ap, sym, ◌∙◌}
 use mathlib.Core.Bool.{true}
 use mathlib.Core.Option.{some}
@@ -16,12 +16,14 @@ use Rattle.point.specs.Reading.{read_link, read_point}
 use Rattle.point.proofs.Laws.{readable, parts-of}
 use Rattle.rules.specs.List.{is_named}
 use Rattle.book_layout.proofs.Named.{indirect-named}
-use borrow.Author.Rules.{rules}
 use Rattle.book_layout.proofs.read.are_named.Goals as goal
 use Rattle.book_layout.proofs.read.are_named.Goals.{After-content_from-trigger, After-peer_position, Start}
 
 abbrev at-Start-from-After-content_from-trigger : (c : After-content_from-trigger) → Start
 at-Start-from-After-content_from-trigger c = c.before.before.before.before
+
+abbrev at-After-content_from-trigger-from-After-peer_position : (c : After-peer_position) → After-content_from-trigger
+at-After-content_from-trigger-from-After-peer_position c = record { before = c.before.before.before.before; type_inv = record { rec = c.type_inv.rec; proof = c.content_from-proof.items_fit; trigger = c.content_from-trigger.items_fit } }
 
 shaped : (c : Start) → well_shaped c.args.rec.now ≡ true
 shaped c = let q = some_of (read_point c.args.rec.now) c.requires.0 in (readable _ q.0 q.1).shaped
@@ -34,12 +36,13 @@ long c = (
   rw c.content_from-trigger.ensures (content-least _ (shaped (at-Start-from-After-content_from-trigger c)) 6 (omega arith)),
 )
 
-module _ (c : tie.After-content-from2) (q : PointInfo) (h : read_point (start c).args.rec.now ≡ some q) where
-  proof : read_link c.before.content-from.result.now ≡ some q.anchor_proof
-  proof = ap read_link c.before.content-from.ensures ∙ (parts-of _ q h).proof
+proof : (c : After-content_from-trigger) (q : PointInfo) → read_point c.args.rec.now ≡ some q →
+    read_link c.content_from-proof.result.now ≡ some q.anchor_proof
+proof c q h = ap read_link c.content_from-proof.ensures ∙ (parts-of _ q h).proof
 
-  trigger : read_link c.content-from2.result.now ≡ some q.anchor_trigger
-  trigger = ap read_link c.content-from2.ensures ∙ (parts-of _ q h).trigger
+trigger : (c : After-content_from-trigger) (q : PointInfo) → read_point c.args.rec.now ≡ some q →
+    read_link c.content_from-trigger.result.now ≡ some q.anchor_trigger
+trigger c q h = ap read_link c.content_from-trigger.ensures ∙ (parts-of _ q h).trigger
 
 pub content_from-proof-requires : goal.content_from-proof-requires
 content_from-proof-requires c =
@@ -63,7 +66,7 @@ pub returns-then-proof-eq1 : goal.returns-then-proof-eq1
 returns-then-proof-eq1 c = λ q h.
     let t = c in
     let l = t in
-    c.is_named.ensures q q.anchor_trigger h (trigger l q h) ∙ sym (rw (indirect-named _ q.anchor_proof (proof l q h) q t.if-proof-eq1.true))
+    c.is_named.ensures q q.anchor_trigger h (trigger (goal.at.returns-then-proof-eq1 c).After-content_from-trigger q h) ∙ sym (rw (indirect-named _ q.anchor_proof (proof (goal.at.returns-then-proof-eq1 c).After-content_from-trigger q h) q t.if-proof-eq1.true))
 
 pub peer_position-requires : goal.peer_position-requires
 peer_position-requires c =
@@ -79,8 +82,7 @@ is_named-requires-2 c =
 named : (c : After-peer_position) (q : PointInfo) → read_point c.args.rec.now ≡ some q →
     (x : Position) → c.peer_position.result ≡ x → is_named q q.anchor_proof ≡ is_some (position_of x)
 named c q h x e =
-    let l = c in
-    sym (c.peer_position.ensures q q.anchor_proof h (proof l q h)) ∙ ap (λ (z : Position). is_some (position_of z)) e
+    sym (c.peer_position.ensures q q.anchor_proof h (proof (at-After-content_from-trigger-from-After-peer_position c) q h)) ∙ ap (λ (z : Position). is_some (position_of z)) e
 
 pub returns-in_default : goal.returns-in_default
 returns-in_default c = λ q h. sym (rw (named (goal.at.returns-in_default c).After-peer_position q h _ c.in_default.is))
@@ -89,4 +91,4 @@ pub returns : goal.returns
 returns c = λ q h.
     let t = c in
     let n = t in
-    c.is_named-2.ensures q q.anchor_trigger h (trigger n q h) ∙ sym (rw (named (goal.at.returns c).After-peer_position q h _ t.in-At.is))
+    c.is_named-2.ensures q q.anchor_trigger h (trigger (goal.at.returns c).After-content_from-trigger q h) ∙ sym (rw (named (goal.at.returns c).After-peer_position q h _ t.in-At.is))

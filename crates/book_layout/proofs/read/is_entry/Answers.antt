@@ -7,7 +7,6 @@ use Rattle.base.proofs.Option.{some_of, unfound}
 use Rattle.point.proofs.Laws.{readable}
 use Rattle.books.specs.Layout.{read_status}
 use Rattle.book_layout.proofs.Laws.{entry_unflagged, entry_statusless, entry-outside, entry-ill-formed, entry_listed}
-use borrow.Author.Rules.{rules}
 use Rattle.book_layout.proofs.read.is_entry.Goals as goal
 use Rattle.book_layout.proofs.read.is_entry.Goals.{Else-not-is_status}
 

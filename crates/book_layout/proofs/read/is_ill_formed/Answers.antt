@@ -2,7 +2,6 @@
 use mathlib.Core.Path.{sym, ◌∙◌}
 use borrow.Author.Tests.{le-leb, lt-leb}
 use Rattle.book_layout.proofs.Laws.{ill-formed-some}
-use borrow.Author.Rules.{rules}
 use Rattle.book_layout.proofs.read.is_ill_formed.Goals as goal
 
 pub returns-then-t-lt1 : goal.returns-then-t-lt1

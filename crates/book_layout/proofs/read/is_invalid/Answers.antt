@@ -2,7 +2,6 @@
 use mathlib.Core.Path.{sym, ◌∙◌}
 use borrow.Author.Tests.{not-true, not-false}
 use Rattle.book_layout.proofs.Laws.{invalid-some}
-use borrow.Author.Rules.{rules}
 use Rattle.book_layout.proofs.read.is_invalid.Goals as goal
 
 pub returns-then-not-is_reason : goal.returns-then-not-is_reason

@@ -4,7 +4,6 @@ use Rattle.base.specs.Base.{is_some}
 use Rattle.map.specs.Code.{position_of}
 use Rattle.map.specs.declared.Position.{Position}
 use Rattle.book_layout.proofs.Named.{indirect-named}
-use borrow.Author.Rules.{rules}
 use Rattle.book_layout.proofs.read.is_named.Goals as goal
 
 pub returns-then-link-eq1 : goal.returns-then-link-eq1

@@ -1,6 +1,5 @@
 -- `is_root` meets its contract: each `return` by the tests that led there.
 use mathlib.Core.Path.{sym, ◌∙◌}
-use borrow.Author.Rules.{rules}
 use borrow.Author.Tests.{not-true, not-false}
 use Rattle.book_layout.proofs.Laws.{root-low, root_high, root_reasonless, root-last}
 use Rattle.book_layout.proofs.read.is_root.Goals as goal

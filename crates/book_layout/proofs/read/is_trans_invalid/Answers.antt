@@ -2,7 +2,6 @@
 use mathlib.Core.Path.{sym, ◌∙◌}
 use borrow.Author.Tests.{eq-eqb, ne_eqb}
 use Rattle.book_layout.proofs.Laws.{trans_some}
-use borrow.Author.Rules.{rules}
 use Rattle.book_layout.proofs.read.is_trans_invalid.Goals as goal
 
 pub returns-then-t-ne0 : goal.returns-then-t-ne0

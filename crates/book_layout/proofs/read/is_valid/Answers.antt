@@ -3,7 +3,6 @@ use native.Mathlib.Omega.{arith}
 use mathlib.Core.Path.{sym, ◌∙◌}
 use borrow.Author.Tests.{eq-eqb, ne_eqb}
 use Rattle.book_layout.proofs.Laws.{valid-some}
-use borrow.Author.Rules.{rules}
 use Rattle.book_layout.proofs.read.is_valid.Goals as goal
 
 pub returns-then-t-ne0 : goal.returns-then-t-ne0

@@ -18,7 +18,6 @@ use Rattle.record.proofs.Laws.{end-within, front-shaped, front-places}
 use Rattle.point.specs.Point.{PointInfo}
 use Rattle.point.specs.Reading.{read_point}
 use Rattle.book_layout.proofs.Laws.{walk-told, walk_untold, front_endless, front-unread, front_tagless, tag-inside, tag_part, tag-length, front_no_entry, front-entry-to}
-use borrow.Author.Rules.{rules}
 use Rattle.book_layout.proofs.read.kept_end.Goals as goal
 use Rattle.book_layout.proofs.read.kept_end.Goals.{After-at-1, Else-not-field_ok, Else-not-is_point}
 

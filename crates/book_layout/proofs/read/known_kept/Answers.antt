@@ -3,7 +3,6 @@ use Prim.Native.Nat.{ℕ, ◌+◌, ◌-◌, ◌≤◌}
 use native.Mathlib.Omega.{arith}
 use mathlib.Core.List.{List}
 use lib.ListN.{length, take, drop}
-use borrow.Author.Rules.{rules}
 use Rattle.base.proofs.Lists.{up_to}
 use Rattle.record.proofs.Laws.{end-within}
 use Rattle.book_layout.proofs.Laws.{tag_part, tag-length, known-end, known-point, known-inside, known-status, known_kept}

@@ -1,14 +1,12 @@
 -- `peer_position` meets its contract: the peer has a position in the link's map exactly if the link is named.
 use native.Mathlib.Omega.{arith}
-use Prim.Native.Nat.{ℕ}
-use mathlib.Core.Path.{◌≡◌, sym, ◌∙◌}
+use mathlib.Core.Path.{◌≡◌}
 use mathlib.Core.Option.{some}
 use Rattle.base.proofs.Option.{some_of}
 use Rattle.point.specs.Point.{PointInfo}
 use Rattle.point.specs.Reading.{read_point}
 use Rattle.point.proofs.Laws.{Readable, readable}
 use Rattle.book_layout.proofs.Named.{map-rises, map-few, includes-named, witness-named}
-use borrow.Author.Rules.{rules}
 use Rattle.book_layout.proofs.read.peer_position.Goals as goal
 use Rattle.book_layout.proofs.read.peer_position.Goals.{After-id_at-peer}
 

@@ -1,6 +1,5 @@
 -- `status_of` meets its contract: each state says its status.
 use Rattle.book_layout.proofs.Laws.{valid, trans_invalid_lem, invalid, ill-formed, state-three}
-use borrow.Author.Rules.{rules}
 use Rattle.book_layout.proofs.read.status_of.Goals as goal
 
 pub returns-in-0 : goal.returns-in-0

@@ -1,7 +1,6 @@
 -- `through_at` meets its contract: the map by its byte.
 use mathlib.Core.Path.{sym}
 use Rattle.book_layout.proofs.Laws.{through-includes, through-witness}
-use borrow.Author.Rules.{rules}
 use Rattle.book_layout.proofs.read.through_at.Goals as goal
 
 pub returns-then-t-at-eq0 : goal.returns-then-t-at-eq0

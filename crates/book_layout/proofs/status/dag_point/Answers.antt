@@ -1,5 +1,4 @@
 -- `dag_point` meets its contract: each case by its equation.
-use borrow.Author.Rules.{rules}
 use Rattle.book_layout.proofs.status.dag_point.Goals as goal
 
 pub returns-in-Valid : goal.returns-in-Valid

@@ -1,5 +1,4 @@
 -- `of_verdict` meets its contract: each case by its equation.
-use borrow.Author.Rules.{rules}
 use Rattle.book_layout.proofs.status.of_verdict.Goals as goal
 
 pub returns-in-Fail : goal.returns-in-Fail

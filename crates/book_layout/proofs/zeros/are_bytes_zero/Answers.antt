@@ -1,10 +1,7 @@
 -- `are_bytes_zero` meets its contract. The invariant: the bytes from `at` on decide.
-use Prim.Native.Nat.{◌-◌, ◌≤◌}
 use native.Mathlib.Omega.{arith}
-use mathlib.Core.Path.{◌≡◌, refl, sym, ◌∙◌}
-use lib.ListN.{length, drop}
+use mathlib.Core.Path.{refl, sym, ◌∙◌}
 use borrow.Author.Rules.{rules}
-use Rattle.books.specs.Layout.{is_zeros}
 use Rattle.book_layout.proofs.Laws.{byte_not, byte_zero, none_left}
 use Rattle.book_layout.proofs.zeros.are_bytes_zero.Goals as goal
 

@@ -1,11 +1,8 @@
 -- `are_bytes_zero` meets its contract. The invariant: the bytes from `at` on decide.
 use Prim.Native.Nat.{◌-◌, ◌≤◌}
-use native.Mathlib.Omega.{arith}
-use mathlib.Core.Path.{◌≡◌, refl, sym, ◌∙◌}
+use mathlib.Core.Path.{◌≡◌}
 use lib.ListN.{length, drop}
-use borrow.Author.Rules.{rules}
 use Rattle.books.specs.Layout.{is_zeros}
-use Rattle.book_layout.proofs.Laws.{byte_not, byte_zero, none_left}
 use Rattle.book_layout.proofs.zeros.are_bytes_zero.Given as goal
 
 abbrev pub invariant-loop-at : goal.invariant-loop-at

@@ -5,7 +5,6 @@ use mathlib.Core.Path.{◌≡◌, refl, sym, ◌∙◌}
 use Rattle.parts.specs.Bytes.{bytes_at}
 use Rattle.books.specs.Layout.{is_zeros}
 use Rattle.book_layout.proofs.Laws.{front_zero, front_not, word_is}
-use borrow.Author.Rules.{rules}
 use Rattle.book_layout.proofs.zeros.is_line_zero.Goals as goal
 use Rattle.book_layout.proofs.zeros.is_line_zero.Goals.{After-u64_at-2, After-u64_at-3, After-u64_at-4, After-u64_at-5, After-u64_at-6, After-u64_at-7, After-u64_at-8}
 

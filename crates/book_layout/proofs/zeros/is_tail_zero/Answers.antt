@@ -7,7 +7,6 @@ use lib.ListN.{drop}
 use borrow.Author.Tests.{not-true, not-false}
 use Rattle.books.specs.Layout.{is_zeros}
 use Rattle.book_layout.proofs.Laws.{line_zero, line_not, word_zero, word_not, word_last}
-use borrow.Author.Rules.{rules}
 use Rattle.book_layout.proofs.zeros.is_tail_zero.Goals as goal
 use Rattle.book_layout.proofs.zeros.is_tail_zero.Goals.{Else-not-is_line_zero, Else-u32_at-ne0, Else-u64_at-ne0, Else-u64_at-ne0-2, Else-u64_at-ne0-3, Else-u64_at-ne0-4}
 

@@ -1,11 +1,8 @@
 -- `is_zeros` meets its contract. The invariant: the bytes from `at` on decide.
-use Prim.Native.Nat.{◌-◌, ◌≤◌}
 use native.Mathlib.Omega.{arith}
-use mathlib.Core.Path.{◌≡◌, refl, sym, ◌∙◌}
-use lib.ListN.{length, drop}
+use mathlib.Core.Path.{refl, sym, ◌∙◌}
 use borrow.Author.Rules.{rules}
 use borrow.Author.Tests.{not-true, not-false}
-use Rattle.books.specs.Layout.{is_zeros}
 use Rattle.book_layout.proofs.Laws.{line_not, line_zero}
 use Rattle.book_layout.proofs.zeros.is_zeros.Goals as goal
 
