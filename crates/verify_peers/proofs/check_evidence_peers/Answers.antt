@@ -26,7 +26,7 @@ abbrev at-After-count-len-from-Else-len-eq0 : (c : Else-len-eq0) → After-count
 at-After-count-len-from-Else-len-eq0 c = record { before = c.before.before; type_inv = record { evidence = c.evidence-evidence.items_fit; peers = c.type_inv.peers; known = c.type_inv.known; rec = c.type_inv.rec } }
 
 abbrev at-After-evidence-evidence-from-After-unknown_peers-unknown : (c : After-unknown_peers-unknown) → After-evidence-evidence
-at-After-evidence-evidence-from-After-unknown_peers-unknown c = record { before = c.before.before.before.before.before.before.before.before; type_inv = record { evidence = c.evidence-evidence.items_fit; peers = c.type_inv.peers; known = c.type_inv.known; rec = c.type_inv.rec } }
+at-After-evidence-evidence-from-After-unknown_peers-unknown c = record { before = c.before.before.before.before.before.before.before.before; type_inv = record { evidence = c.evidence-evidence.items_fit; peers = c.slice_known-1.given; known = c.type_inv.known; rec = c.type_inv.rec } }
 
 abbrev at-Start-from-After-count-len : (c : After-count-len) → Start
 at-Start-from-After-count-len c = c.before.before.before.before.before.before.before

@@ -25,7 +25,7 @@ abbrev at-Start-from-After-includes-includes : (c : After-includes-includes) →
 at-Start-from-After-includes-includes c = c.before.before.before.before.before
 
 abbrev at-After-includes-includes-from-After-unknown_peers-unknown : (c : After-unknown_peers-unknown) → After-includes-includes
-at-After-includes-includes-from-After-unknown_peers-unknown c = record { before = c.before.before.before; type_inv = record { includes = c.includes-includes.items_fit; peers = c.type_inv.peers; known = c.type_inv.known; rec = c.type_inv.rec } }
+at-After-includes-includes-from-After-unknown_peers-unknown c = record { before = c.before.before.before; type_inv = record { includes = c.includes-includes.items_fit; peers = c.slice_known-1.given; known = c.type_inv.known; rec = c.type_inv.rec } }
 
 -- the point, and where its includes were compared
 abbrev point : Start → PointInfo

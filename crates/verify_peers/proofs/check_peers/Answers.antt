@@ -84,8 +84,9 @@ unfolding peer_rows
 returns-in_default c =
     let e = c in
     let b = e in
-    told-first (sets (goal.at.returns-in_default c).Start) (point (goal.at.returns-in_default c).Start) (evidence_rows (settings (goal.at.returns-in_default c).Start) (sets (goal.at.returns-in_default c).Start) (point (goal.at.returns-in_default c).Start)) (includes_rows (sets (goal.at.returns-in_default c).Start) (point (goal.at.returns-in_default c).Start)) (witness_rows (settings (goal.at.returns-in_default c).Start) (sets (goal.at.returns-in_default c).Start) (point (goal.at.returns-in_default c).Start))
-    _ c.in_default.field-0 _ _ (ap verified_of c.in_default.is) (evidence (goal.at.returns-in_default c).After-check_evidence_peers-first)
+    let h = told-first (sets (goal.at.returns-in_default c).Start) (point (goal.at.returns-in_default c).Start) (evidence_rows (settings (goal.at.returns-in_default c).Start) (sets (goal.at.returns-in_default c).Start) (point (goal.at.returns-in_default c).Start)) (includes_rows (sets (goal.at.returns-in_default c).Start) (point (goal.at.returns-in_default c).Start)) (witness_rows (settings (goal.at.returns-in_default c).Start) (sets (goal.at.returns-in_default c).Start) (point (goal.at.returns-in_default c).Start))
+    _ c.in_default.field-0 _ _ (ap verified_of c.in_default.is) (evidence (goal.at.returns-in_default c).After-check_evidence_peers-first) in
+    record { checked = h.0; buffer = h.1 }
 
 pub check_includes_peers-second-requires : goal.check_includes_peers-second-requires
 check_includes_peers-second-requires c =
@@ -99,8 +100,9 @@ unfolding peer_rows
 returns-in_default-second c =
     let i = c in
     let b = i in
-    told-second (sets (goal.at.returns-in_default-second c).Start) (point (goal.at.returns-in_default-second c).Start) (evidence_rows (settings (goal.at.returns-in_default-second c).Start) (sets (goal.at.returns-in_default-second c).Start) (point (goal.at.returns-in_default-second c).Start)) (includes_rows (sets (goal.at.returns-in_default-second c).Start) (point (goal.at.returns-in_default-second c).Start)) (witness_rows (settings (goal.at.returns-in_default-second c).Start) (sets (goal.at.returns-in_default-second c).Start) (point (goal.at.returns-in_default-second c).Start))
-    _ _ _ (passed (goal.at.returns-in_default-second c).After-check_includes_peers-second) (evidence (goal.at.returns-in_default-second c).After-check_evidence_peers-first) _ c.in_default-second.field-0 _ (ap verified_of c.in_default-second.is) (includes (goal.at.returns-in_default-second c).After-check_includes_peers-second)
+    let h = told-second (sets (goal.at.returns-in_default-second c).Start) (point (goal.at.returns-in_default-second c).Start) (evidence_rows (settings (goal.at.returns-in_default-second c).Start) (sets (goal.at.returns-in_default-second c).Start) (point (goal.at.returns-in_default-second c).Start)) (includes_rows (sets (goal.at.returns-in_default-second c).Start) (point (goal.at.returns-in_default-second c).Start)) (witness_rows (settings (goal.at.returns-in_default-second c).Start) (sets (goal.at.returns-in_default-second c).Start) (point (goal.at.returns-in_default-second c).Start))
+    _ _ _ (passed (goal.at.returns-in_default-second c).After-check_includes_peers-second) (evidence (goal.at.returns-in_default-second c).After-check_evidence_peers-first) _ c.in_default-second.field-0 _ (ap verified_of c.in_default-second.is) (includes (goal.at.returns-in_default-second c).After-check_includes_peers-second) in
+    record { checked = h.0; buffer = h.1 }
 
 pub check_witness_peers-requires : goal.check_witness_peers-requires
 check_witness_peers-requires c =
@@ -115,5 +117,6 @@ returns c =
     let w = c in
     let i = w in
     let b = i in
-    told-third (sets (goal.at.returns c).Start) (point (goal.at.returns c).Start) (evidence_rows (settings (goal.at.returns c).Start) (sets (goal.at.returns c).Start) (point (goal.at.returns c).Start)) (includes_rows (sets (goal.at.returns c).Start) (point (goal.at.returns c).Start)) (witness_rows (settings (goal.at.returns c).Start) (sets (goal.at.returns c).Start) (point (goal.at.returns c).Start))
-    _ _ _ (passed (goal.at.returns c).After-check_includes_peers-second) (evidence (goal.at.returns c).After-check_evidence_peers-first) _ _ _ _ (passed2 (goal.at.returns c).After-check_witness_peers) (includes (goal.at.returns c).After-check_includes_peers-second) (witness (goal.at.returns c).After-check_witness_peers)
+    let h = told-third (sets (goal.at.returns c).Start) (point (goal.at.returns c).Start) (evidence_rows (settings (goal.at.returns c).Start) (sets (goal.at.returns c).Start) (point (goal.at.returns c).Start)) (includes_rows (sets (goal.at.returns c).Start) (point (goal.at.returns c).Start)) (witness_rows (settings (goal.at.returns c).Start) (sets (goal.at.returns c).Start) (point (goal.at.returns c).Start))
+    _ _ _ (passed (goal.at.returns c).After-check_includes_peers-second) (evidence (goal.at.returns c).After-check_evidence_peers-first) _ _ _ _ (passed2 (goal.at.returns c).After-check_witness_peers) (includes (goal.at.returns c).After-check_includes_peers-second) (witness (goal.at.returns c).After-check_witness_peers) in
+    record { checked = h.0; buffer = h.1 }

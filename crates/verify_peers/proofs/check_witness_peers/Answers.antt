@@ -22,7 +22,7 @@ abbrev at-Start-from-Else-count-eq0 : (c : Else-count-eq0) → Start
 at-Start-from-Else-count-eq0 c = c.before.before.before.before.before.before.before.before
 
 abbrev at-After-witness-witness-from-After-unknown_peers-unknown : (c : After-unknown_peers-unknown) → After-witness-witness
-at-After-witness-witness-from-After-unknown_peers-unknown c = record { before = c.before.before.before.before.before.before.before.before; type_inv = record { witness = c.witness-witness.items_fit; peers = c.type_inv.peers; known = c.type_inv.known; rec = c.type_inv.rec } }
+at-After-witness-witness-from-After-unknown_peers-unknown c = record { before = c.before.before.before.before.before.before.before.before; type_inv = record { witness = c.witness-witness.items_fit; peers = c.slice_known-1.given; known = c.type_inv.known; rec = c.type_inv.rec } }
 
 abbrev at-After-witness-witness-from-Else-count-eq0 : (c : Else-count-eq0) → After-witness-witness
 at-After-witness-witness-from-Else-count-eq0 c = record { before = c.before.before.before; type_inv = record { witness = c.witness-witness.items_fit; peers = c.type_inv.peers; known = c.type_inv.known; rec = c.type_inv.rec } }

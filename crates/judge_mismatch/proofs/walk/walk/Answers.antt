@@ -56,13 +56,13 @@ direct : (c : Else-not-is_direct) → aim_of c.head_of-head.result.aim ≡ none
 direct c = direct-told c.is_direct.result _ c.is_direct.ensures c.if-not-is_direct.false-raw
 
 abbrev point : At-loop-m → PointInfo
-point c = let a = (c).args in point_of a.rec.now a.info
+point c = let a = c.args in point_of a.rec.now a.info
 
 direct-in : (c : At-loop-m) → aim_of c.head_of-head.result.aim ≡ none
 direct-in c = direct (at-Else-not-is_direct-from-At-loop-m c)
 
 below : (c : In-loop-m) →
-    let n = maps_in (c).args.presence in
+    let n = maps_in c.args.presence in
     (c.loop-m.m < 2) × (n ≤ 2) × (c.loop-m.m < n)
 below c =
     let e = c in
@@ -72,7 +72,7 @@ below c =
     (omega arith, few, omega arith)
 
 maps : (c : After-row_of) → Maps (point (at-At-loop-m-from-After-row_of c))
-maps c = maps_of _ _ (readable _ _ (c).requires.0.read)
+maps c = maps_of _ _ (readable _ _ c.requires.reads.read)
 
 row : (c : In-At) →
     let l = c in
@@ -92,8 +92,8 @@ room c = c.loop-m.invariant.1.room
 -- after the maps
 whole : (c : After-loop-m) →
     let l = c in
-    let n = maps_in (l).args.presence in
-    Marking n (point (at-At-loop-m-from-After-loop-m c)) (point_id_of l.head_of-head.result.id) l.loop-m.invariant.0 n l.loop-m.found l.loop-m.seen
+    let n = maps_in l.args.presence in
+    Marking n (point (at-At-loop-m-from-After-loop-m c)) (point_id_of l.head_of-head.result.id) l.loop-m.invariant.0.before n l.loop-m.found l.loop-m.seen
 whole c =
     let l = c in
     let e = l in
@@ -202,7 +202,7 @@ returns-then-not-is_direct c =
     going_target h.entries.invariant (front (goal.at.returns-then-not-is_direct c).After-head_of-head) (target_told c.is_direct.result (aim_of h.head_of-head.result.aim) c.is_direct.ensures c.if-not-is_direct.true-raw)
 
 pub shape_of-seen-then-seen-mark-ne0 : goal.shape_of-seen-then-seen-mark-ne0
-shape_of-seen-then-seen-mark-ne0 c = let l = c in l.loop-m.invariant.1.room ∙ same-room 510 _ (l).requires.1.1
+shape_of-seen-then-seen-mark-ne0 c = let l = c in l.loop-m.invariant.1.room ∙ same-room 510 _ l.requires.seen_value
 
 pub returns-then-seen-mark-ne0 : goal.returns-then-seen-mark-ne0
 returns-then-seen-mark-ne0 c =
@@ -214,7 +214,7 @@ returns-then-seen-mark-ne0 c =
     going_twice h.entries.invariant (front (goal.at.returns-then-seen-mark-ne0 c).After-head_of-head) (direct-in (goal.at.returns-then-seen-mark-ne0 c).At-loop-m) l.if-head.false i.0 (marked-stood i.1 (maps (goal.at.returns-then-seen-mark-ne0 c).After-row_of) (below (goal.at.returns-then-seen-mark-ne0 c).In-loop-m).1 (below (goal.at.returns-then-seen-mark-ne0 c).In-loop-m).2 _ (row (goal.at.returns-then-seen-mark-ne0 c).In-At).0 (row (goal.at.returns-then-seen-mark-ne0 c).In-At).1 c.if-seen-mark-ne0.true)
 
 pub shape_of-seen-then-not-has_place : goal.shape_of-seen-then-not-has_place
-shape_of-seen-then-not-has_place c = let l = c in l.loop-m.invariant.1.room ∙ same-room 510 _ (l).requires.1.1
+shape_of-seen-then-not-has_place c = let l = c in l.loop-m.invariant.1.room ∙ same-room 510 _ l.requires.seen_value
 
 pub returns-then-not-has_place : goal.returns-then-not-has_place
 returns-then-not-has_place c =
