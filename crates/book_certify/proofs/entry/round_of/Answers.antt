@@ -1,0 +1,24 @@
+-- `round_of` meets its contract.
+use Prim.Native.Nat.{ℕ, ◌+◌}
+use native.Mathlib.Omega.{arith}
+use mathlib.Core.Path.{ap, sym, ◌∙◌}
+use Rattle.parts.specs.Bytes.{little_at}
+use Rattle.id_index.specs.Code.{place_in}
+use Rattle.book_certify.proofs.Entries.{id-round}
+use Rattle.book_certify.proofs.entry.round_of.Goals as goal
+
+pub overflow_add-place_at : goal.overflow_add-place_at
+overflow_add-place_at c =
+    let st = c in
+    omega (arith, c.place_at.ensures, st.requires.0.inside st.args.j st.requires.1, st.well_formed.0.0)
+
+pub u32_at-requires : goal.u32_at-requires
+u32_at-requires c =
+    let st = c in
+    omega (arith, c.place_at.ensures, st.requires.0.inside st.args.j st.requires.1)
+
+pub returns : goal.returns
+returns c =
+    let st = c in
+    let s = st.args.book.now in
+    c.u32_at.ensures ∙ (ap (λ (p : ℕ). little_at 4 s (p + 3)) c.place_at.ensures ∙ sym (id-round s (place_in st.args.index.now st.args.j)))
