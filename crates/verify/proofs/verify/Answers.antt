@@ -48,28 +48,32 @@ all c = tested c.args.settings.now c.args.schedule.now c.args.rec.now true (leng
 pub returns-in_default : goal.returns-in_default
 returns-in_default c =
     let r = c in
-    answer-number (all (goal.at.returns-in_default c).Start) 1 _ (no_settings _ _ _ _ _ (sym r.read_settings.ensures ∙ ap read_settings_of c.in_default.is))
+    let h = answer-number (all (goal.at.returns-in_default c).Start) 1 _ (no_settings _ _ _ _ _ (sym r.read_settings.ensures ∙ ap read_settings_of c.in_default.is)) in
+    record { same = h.0; buffer = h.1 }
 
 pub returns-then-not-read : goal.returns-then-not-read
 returns-then-not-read c =
     let r = c in
     let k = r in
-    answer-number (all (goal.at.returns-then-not-read c).Start) 2 _ (no_schedule _ _ _ _ _ _ (has-settings (goal.at.returns-then-not-read c).In-Settings) (schedule-unread _ r.read_schedule-read.result r.read_schedule-read.ensures.same c.if-not-read.true))
+    let h = answer-number (all (goal.at.returns-then-not-read c).Start) 2 _ (no_schedule _ _ _ _ _ _ (has-settings (goal.at.returns-then-not-read c).In-Settings) (schedule-unread _ r.read_schedule-read.result r.read_schedule-read.ensures.same c.if-not-read.true)) in
+    record { same = h.0; buffer = h.1 }
 
 pub returns-in_default-read_point : goal.returns-in_default-read_point
 returns-in_default-read_point c =
     let r = c in
     let s = r in
     let k = s in
-    answer-number (all (goal.at.returns-in_default-read_point c).Start) 3 _ (no_point_lem _ _ _ _ _ _ (has-settings (goal.at.returns-in_default-read_point c).In-Settings) _ (has-schedule (goal.at.returns-in_default-read_point c).After-spans-1) (subst (PointRead _) c.in_default-read_point.is r.read_point.ensures))
+    let h = answer-number (all (goal.at.returns-in_default-read_point c).Start) 3 _ (no_point_lem _ _ _ _ _ _ (has-settings (goal.at.returns-in_default-read_point c).In-Settings) _ (has-schedule (goal.at.returns-in_default-read_point c).After-spans-1) (subst (PointRead _) c.in_default-read_point.is r.read_point.ensures)) in
+    record { same = h.0; buffer = h.1 }
 
 pub returns-then-not-is_in_domain : goal.returns-then-not-is_in_domain
 returns-then-not-is_in_domain c =
     let p = c in
     let s = p in
     let k = s in
-    answer-number (all (goal.at.returns-then-not-is_in_domain c).Start) 4 _
-    (no_domain _ _ _ _ _ _ (has-settings (goal.at.returns-then-not-is_in_domain c).In-Settings) _ (has-schedule (goal.at.returns-then-not-is_in_domain c).After-spans-1) _ (has-point (goal.at.returns-then-not-is_in_domain c).In-Point).read (ap (λ (b : Bool). b && true) (sym c.is_in_domain.ensures ∙ not-true _ c.if-not-is_in_domain.true-raw)))
+    let h = answer-number (all (goal.at.returns-then-not-is_in_domain c).Start) 4 _
+    (no_domain _ _ _ _ _ _ (has-settings (goal.at.returns-then-not-is_in_domain c).In-Settings) _ (has-schedule (goal.at.returns-then-not-is_in_domain c).After-spans-1) _ (has-point (goal.at.returns-then-not-is_in_domain c).In-Point).read (ap (λ (b : Bool). b && true) (sym c.is_in_domain.ensures ∙ not-true _ c.if-not-is_in_domain.true-raw))) in
+    record { same = h.0; buffer = h.1 }
 
 pub returns-then-peers-lt-PEERS_ROOM : goal.returns-then-peers-lt-PEERS_ROOM
 returns-then-peers-lt-PEERS_ROOM c =
@@ -77,7 +81,8 @@ returns-then-peers-lt-PEERS_ROOM c =
     let p = d in
     let s = p in
     let k = s in
-    answer-number (all (goal.at.returns-then-peers-lt-PEERS_ROOM c).Start) 5 _ (no_room _ _ _ _ _ _ (has-settings (goal.at.returns-then-peers-lt-PEERS_ROOM c).In-Settings) _ (has-schedule (goal.at.returns-then-peers-lt-PEERS_ROOM c).After-spans-1) _ (has-point (goal.at.returns-then-peers-lt-PEERS_ROOM c).In-Point).read (in_domain_lem (goal.at.returns-then-peers-lt-PEERS_ROOM c).Else-not-is_in_domain) (omega (arith, c.if-peers-lt-PEERS_ROOM.true)))
+    let h = answer-number (all (goal.at.returns-then-peers-lt-PEERS_ROOM c).Start) 5 _ (no_room _ _ _ _ _ _ (has-settings (goal.at.returns-then-peers-lt-PEERS_ROOM c).In-Settings) _ (has-schedule (goal.at.returns-then-peers-lt-PEERS_ROOM c).After-spans-1) _ (has-point (goal.at.returns-then-peers-lt-PEERS_ROOM c).In-Point).read (in_domain_lem (goal.at.returns-then-peers-lt-PEERS_ROOM c).Else-not-is_in_domain) (omega (arith, c.if-peers-lt-PEERS_ROOM.true))) in
+    record { same = h.0; buffer = h.1 }
 
 pub verify_point-requires : goal.verify_point-requires
 verify_point-requires c =
@@ -91,4 +96,5 @@ returns c =
     let p = d in
     let s = p in
     let k = s in
-    answer-verdict (all (goal.at.returns c).Start) _ _ _ _ (all-taken _ _ _ _ _ _ (has-settings (goal.at.returns c).In-Settings) _ (has-schedule (goal.at.returns c).After-spans-1) _ (has-point (goal.at.returns c).In-Point).read (in_domain_lem (goal.at.returns c).Else-not-is_in_domain) (omega (arith, v.if-peers-lt-PEERS_ROOM.false))) v.verify_point.ensures.same v.verify_point.ensures.buffer
+    let h = answer-verdict (all (goal.at.returns c).Start) _ _ _ _ (all-taken _ _ _ _ _ _ (has-settings (goal.at.returns c).In-Settings) _ (has-schedule (goal.at.returns c).After-spans-1) _ (has-point (goal.at.returns c).In-Point).read (in_domain_lem (goal.at.returns c).Else-not-is_in_domain) (omega (arith, v.if-peers-lt-PEERS_ROOM.false))) v.verify_point.ensures.same v.verify_point.ensures.buffer in
+    record { same = h.0; buffer = h.1 }

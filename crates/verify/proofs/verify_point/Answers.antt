@@ -55,16 +55,18 @@ unfolding verify faults
 returns-in_default c =
     let n = c in
     let b = n in
-    told-first (sets (goal.at.returns-in_default c).Start) (point (goal.at.returns-in_default c).Start) (new_rows (settings (goal.at.returns-in_default c).Start) (schedule (goal.at.returns-in_default c).Start) (point (goal.at.returns-in_default c).Start)) (well_formed_rows (settings (goal.at.returns-in_default c).Start) (point (goal.at.returns-in_default c).Start)) (peer_rows (settings (goal.at.returns-in_default c).Start) (sets (goal.at.returns-in_default c).Start) (point (goal.at.returns-in_default c).Start))
-    _ c.in_default.field-0 _ _ (ap verified_of c.in_default.is) (new (goal.at.returns-in_default c).After-check_new-new)
+    let h = told-first (sets (goal.at.returns-in_default c).Start) (point (goal.at.returns-in_default c).Start) (new_rows (settings (goal.at.returns-in_default c).Start) (schedule (goal.at.returns-in_default c).Start) (point (goal.at.returns-in_default c).Start)) (well_formed_rows (settings (goal.at.returns-in_default c).Start) (point (goal.at.returns-in_default c).Start)) (peer_rows (settings (goal.at.returns-in_default c).Start) (sets (goal.at.returns-in_default c).Start) (point (goal.at.returns-in_default c).Start))
+    _ c.in_default.field-0 _ _ (ap verified_of c.in_default.is) (new (goal.at.returns-in_default c).After-check_new-new) in
+    record { same = h.0; buffer = h.1 }
 
 pub returns-in_default-well_formed : goal.returns-in_default-well_formed
 unfolding verify faults
 returns-in_default-well_formed c =
     let w = c in
     let b = w in
-    told-second (sets (goal.at.returns-in_default-well_formed c).Start) (point (goal.at.returns-in_default-well_formed c).Start) (new_rows (settings (goal.at.returns-in_default-well_formed c).Start) (schedule (goal.at.returns-in_default-well_formed c).Start) (point (goal.at.returns-in_default-well_formed c).Start)) (well_formed_rows (settings (goal.at.returns-in_default-well_formed c).Start) (point (goal.at.returns-in_default-well_formed c).Start)) (peer_rows (settings (goal.at.returns-in_default-well_formed c).Start) (sets (goal.at.returns-in_default-well_formed c).Start) (point (goal.at.returns-in_default-well_formed c).Start))
-    _ _ _ (passed (goal.at.returns-in_default-well_formed c).After-check_well_formed-well_formed) (new (goal.at.returns-in_default-well_formed c).After-check_new-new) _ c.in_default-well_formed.field-0 _ (ap verified_of c.in_default-well_formed.is) (formed (goal.at.returns-in_default-well_formed c).After-check_well_formed-well_formed)
+    let h = told-second (sets (goal.at.returns-in_default-well_formed c).Start) (point (goal.at.returns-in_default-well_formed c).Start) (new_rows (settings (goal.at.returns-in_default-well_formed c).Start) (schedule (goal.at.returns-in_default-well_formed c).Start) (point (goal.at.returns-in_default-well_formed c).Start)) (well_formed_rows (settings (goal.at.returns-in_default-well_formed c).Start) (point (goal.at.returns-in_default-well_formed c).Start)) (peer_rows (settings (goal.at.returns-in_default-well_formed c).Start) (sets (goal.at.returns-in_default-well_formed c).Start) (point (goal.at.returns-in_default-well_formed c).Start))
+    _ _ _ (passed (goal.at.returns-in_default-well_formed c).After-check_well_formed-well_formed) (new (goal.at.returns-in_default-well_formed c).After-check_new-new) _ c.in_default-well_formed.field-0 _ (ap verified_of c.in_default-well_formed.is) (formed (goal.at.returns-in_default-well_formed c).After-check_well_formed-well_formed) in
+    record { same = h.0; buffer = h.1 }
 
 pub check_peers-requires : goal.check_peers-requires
 check_peers-requires c =
@@ -77,5 +79,6 @@ returns c =
     let k = c in
     let w = k in
     let b = w in
-    told-third (sets (goal.at.returns c).Start) (point (goal.at.returns c).Start) (new_rows (settings (goal.at.returns c).Start) (schedule (goal.at.returns c).Start) (point (goal.at.returns c).Start)) (well_formed_rows (settings (goal.at.returns c).Start) (point (goal.at.returns c).Start)) (peer_rows (settings (goal.at.returns c).Start) (sets (goal.at.returns c).Start) (point (goal.at.returns c).Start))
-    _ _ _ (passed (goal.at.returns c).After-check_well_formed-well_formed) (new (goal.at.returns c).After-check_new-new) _ _ _ _ (ap verified_of k.in-Passed-well_formed.is) (formed (goal.at.returns c).After-check_well_formed-well_formed) k.check_peers.ensures
+    let h = told-third (sets (goal.at.returns c).Start) (point (goal.at.returns c).Start) (new_rows (settings (goal.at.returns c).Start) (schedule (goal.at.returns c).Start) (point (goal.at.returns c).Start)) (well_formed_rows (settings (goal.at.returns c).Start) (point (goal.at.returns c).Start)) (peer_rows (settings (goal.at.returns c).Start) (sets (goal.at.returns c).Start) (point (goal.at.returns c).Start))
+    _ _ _ (passed (goal.at.returns c).After-check_well_formed-well_formed) (new (goal.at.returns c).After-check_new-new) _ _ _ _ (ap verified_of k.in-Passed-well_formed.is) (formed (goal.at.returns c).After-check_well_formed-well_formed) (k.check_peers.ensures.checked, k.check_peers.ensures.buffer) in
+    record { same = h.0; buffer = h.1 }

@@ -13,30 +13,17 @@ use Rattle.judge_entries.specs.Code.{dag_point_of, entry_of}
 use Rattle.judge_valid.specs.Code.{point_view_of}
 use Rattle.judge_step.proofs.Laws.{all_found}
 use borrow.Author.Rules.{rules}
-use Rattle.judge_step.proofs.step.dependency_gives.Statement.{statement}
-use Rattle.judge_step.proofs.step.dependency_gives.Tie as tie
+use Rattle.judge_step.proofs.step.dependency_gives.Goals as goal
 
 -- what it came through goes by the id
 recorded : (c : Settings) (round : ℕ) (certified : Bool) (d : DagPoint) (t : Through) (i : PointId) (o : Option InvalidDependency) →
     o ≡ record_of c round certified t d → t ≡ direct_through round i → i ≡ entry_id d → o ≡ record_of c round certified (direct_through round (entry_id d)) d
 recorded c round certified d t i o h g e = h ∙ ap (λ (x : Through). record_of c round certified x d) (g ∙ ap (direct_through round) e)
 
-id-requires : tie.Need-id-requires
-id-requires c κs = search rules
-
-direct-through-requires : tie.Need-direct-through-requires
-direct-through-requires c κs = search rules
-
-dependency-reason-requires : tie.Need-dependency-reason-requires
-dependency-reason-requires c κs = search rules
-
-record-of-requires : tie.Need-record-of-requires
-record-of-requires c κs = search rules
-
-returns : tie.Need-returns
+pub returns : goal.returns
 returns c = λ first.
-    let t = c.before.before in
-    let a = t.before.before.before.before.args in
+    let t = c in
+    let a = t.args in
     let s = a.rec.now in
     let conf = settings_of a.conf in
     let p = point_view_of a.p in
@@ -44,14 +31,9 @@ returns c = λ first.
     conf
     p.id.round
     (direct_through p.id.round (entry_id (dag_point_of s a.point)))
-    (point_rows conf a.required a.is-prev-point p)
+    (point_rows conf a.required a.is_prev_point p)
     (entry_of s a.point a.certified first)
     _
     _
-    c.before.dependency-reason.ensures
-    (recorded conf p.id.round a.certified (dag_point_of s a.point) _ _ _ (c.record_of.ensures s) t.direct-through.ensures (t.before.id.ensures s))
-
-pub dependency-gives-spec : {M : Type 1} → statement M
-dependency-gives-spec =
-    tie.close
-    (tie.spec id-requires direct-through-requires dependency-reason-requires record-of-requires returns)
+    c.dependency_reason.ensures
+    (recorded conf p.id.round a.certified (dag_point_of s a.point) _ _ _ (c.record_of.ensures s) t.direct_through-through.ensures (t.id.ensures s))

@@ -8,19 +8,12 @@ use Rattle.judge_valid.specs.Code.{point_view_of}
 use Rattle.judge_step.specs.Code.{Gives, with_indirect, indirect_step}
 use Rattle.judge_step.proofs.Laws.{all_found}
 use borrow.Author.Rules.{rules}
-use Rattle.judge_step.proofs.step.indirect_gives.Statement.{statement}
-use Rattle.judge_step.proofs.step.indirect_gives.Tie as tie
+use Rattle.judge_step.proofs.step.indirect_gives.Goals as goal
 
-indirect-reason-requires : tie.Need-indirect-reason-requires
-indirect-reason-requires c κs = search rules
-
-record-of-requires : tie.Need-record-of-requires
-record-of-requires c κs = search rules
-
-returns : tie.Need-returns
+pub returns : goal.returns
 unfolding indirect_step
 returns c = λ first j.
-    let a = c.before.before.before.before.args in
+    let a = c.args in
     let s = a.rec.now in
     let p = point_view_of a.p in
     ap (λ (g : Gives). with_indirect j g)
@@ -32,8 +25,5 @@ returns c = λ first j.
     (entry_of s a.point a.certified first)
     _
     _
-    c.before.indirect-reason.ensures
+    c.indirect_reason.ensures
     (c.record_of.ensures s))
-
-pub indirect-gives-spec : {M : Type 1} → statement M
-indirect-gives-spec = tie.close (tie.spec indirect-reason-requires record-of-requires returns)
