@@ -21,7 +21,7 @@ use reasons::{
 };
 
 // What a reason carries beside its number.
-#[derive(Drop)]
+#[derive(Clone, Copy)]
 pub struct Values {
     pub map: u8,
     pub role: u8,
@@ -30,7 +30,7 @@ pub struct Values {
     pub unknown: u8,
 }
 
-#[derive(Drop)]
+#[derive(Clone, Copy)]
 pub struct Answer {
     pub kind: u8,
     pub reason: u8,

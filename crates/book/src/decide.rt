@@ -17,7 +17,7 @@ use point::{PointId, PointInfo, ReadPoint};
 use schedule::{Schedule, Settings};
 
 // What was read of an offer to a book with these settings.
-#[derive(Drop)]
+#[derive(Clone, Copy)]
 struct Input {
     conf: Settings,
     spans: Schedule,
@@ -25,7 +25,7 @@ struct Input {
 }
 
 // What judging by the list needs: the settings, the point, whether regular points are required, and where the entries end.
-#[derive(Drop)]
+#[derive(Clone, Copy)]
 pub struct Needs {
     pub conf: Settings,
     pub info: PointInfo,
@@ -34,7 +34,7 @@ pub struct Needs {
 }
 
 // An answer and where the entries end, or that the list is needed.
-#[derive(Drop)]
+#[derive(Clone, Copy)]
 pub enum Decided {
     Answered(JudgeAnswer, usize),
     Needed(Needs),

@@ -34,7 +34,7 @@ const LINKS: usize = 4096;
 const HEADS: usize = 8192;
 
 // The settings, where the entries end, and the previous point, from which the certificate spreads.
-#[derive(Drop)]
+#[derive(Clone, Copy)]
 struct Spread {
     conf: Settings,
     end: usize,

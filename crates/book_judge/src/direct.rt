@@ -20,7 +20,7 @@ use point::{PointId, PointInfo};
 use schedule::Settings;
 
 // What every entry is judged by: the settings, whether regular points are required, and the view of the point.
-#[derive(Drop)]
+#[derive(Clone, Copy)]
 struct By {
     conf: Settings,
     required: bool,
@@ -28,7 +28,7 @@ struct By {
 }
 
 // What the versions of an author have given so far; seen says that one was Valid.
-#[derive(Drop)]
+#[derive(Clone, Copy)]
 struct Versions {
     judging: Judging,
     seen: bool,

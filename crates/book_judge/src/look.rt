@@ -12,7 +12,7 @@ use judge_valid::PointView;
 use point::PointId;
 
 // An entry whose record stands from `place` to `end`.
-#[derive(Drop)]
+#[derive(Clone, Copy)]
 pub struct Looked {
     pub state: DagPoint,
     pub certified: bool,

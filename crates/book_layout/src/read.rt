@@ -20,7 +20,7 @@ use reasons::InvalidDependency;
 use record::{End, Places, ReadShape, Row};
 
 // An entry whose record takes `len` bytes; tag 33 takes 108 after them.
-#[derive(Drop)]
+#[derive(Clone, Copy)]
 pub struct Kept {
     pub info: PointInfo,
     pub status: Status,

@@ -13,7 +13,7 @@ use point::PointInfo;
 use reasons::{InvalidDependency, Verdict};
 
 // A reason is its number.
-#[derive(Drop)]
+#[derive(Clone, Copy)]
 pub enum Status {
     Valid,
     TransInvalid(InvalidDependency),
@@ -22,7 +22,7 @@ pub enum Status {
 }
 
 // What a verdict leaves in the book.
-#[derive(Drop)]
+#[derive(Clone, Copy)]
 pub enum Left {
     Entry(Status),
     Nothing,

@@ -9,14 +9,14 @@ use record::End;
 use schedule::{ReadSettings, Settings};
 
 // What a book says: its settings, and where its entries end.
-#[derive(Drop)]
+#[derive(Clone, Copy)]
 pub enum ReadBook {
     Book(Settings, usize),
     Unreadable,
 }
 
 // Where an entry, or all of them, end.
-#[derive(Drop)]
+#[derive(Clone, Copy)]
 enum ReadEntries {
     Ends(usize),
     Unreadable,

@@ -6,7 +6,7 @@ ghost use Rattle.std.specs.Prelude.{◌≡◌, ◌≤◌, length};
 ghost use Rattle.case_files.specs.Code.{head_of, HeadRead, BlobRead};
 
 // What stands in front of a case's blobs, if there is another case.
-#[derive(Drop)]
+#[derive(Clone, Copy)]
 pub struct Head {
     pub kind: u8,
     pub blobs: u8,
@@ -14,7 +14,7 @@ pub struct Head {
 }
 
 // Where a blob ends in the buffer that it was read into, if it was.
-#[derive(Drop)]
+#[derive(Clone, Copy)]
 pub struct Blob {
     pub end: usize,
     pub is_there: bool,

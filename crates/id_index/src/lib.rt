@@ -30,14 +30,14 @@ const HEADS: usize = 12290;
 const LONGEST_CHAIN: usize = 16;
 
 // The number of an id in the index.
-#[derive(Drop)]
+#[derive(Clone, Copy)]
 pub enum Place {
     At(usize),
     Absent,
 }
 
 // The same; where it is absent how many ids were passed in its chain, or how many are below it.
-#[derive(Drop)]
+#[derive(Clone, Copy)]
 enum Sought {
     At(usize),
     Absent(usize),

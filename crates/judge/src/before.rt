@@ -17,14 +17,14 @@ use reasons::{Verdict, Verified, VerifyError, WaveChecked};
 use schedule::{Schedule, Settings};
 
 // Document 01's number in place of a verdict, or the verdict.
-#[derive(Drop)]
+#[derive(Clone, Copy)]
 pub enum JudgeAnswer {
     Number(u8),
     Verdict(Verdict),
 }
 
 // An answer, or that the list is needed if presence is 2 or 3, regular points required or not.
-#[derive(Drop)]
+#[derive(Clone, Copy)]
 pub enum Before {
     Answered(JudgeAnswer),
     Needed(bool),

@@ -15,7 +15,7 @@ use reasons::InvalidDependency;
 use schedule::Settings;
 
 // Option<InvalidDependency>
-#[derive(Drop)]
+#[derive(Clone, Copy)]
 pub enum Recorded {
     Recorded(InvalidDependency),
     Nothing,

@@ -17,7 +17,7 @@ use record::{End, Row};
 
 // What a list says of a dependency: its point or its id, the id of its root cause, the number of a reason, in this order. A point's
 // maps stay in its record.
-#[derive(Drop)]
+#[derive(Clone, Copy)]
 pub enum DagPoint {
     Valid(PointInfo),
     TransInvalid(PointInfo, PointId, u8),
@@ -28,28 +28,28 @@ pub enum DagPoint {
 }
 
 // What an entry is for: a dependency, or the target of an indirect link.
-#[derive(Drop)]
+#[derive(Clone, Copy)]
 pub enum Aim {
     Dependency,
     Target(AnchorStageRole),
 }
 
 // What stands after an entry's flags: the point, where its record starts, and where that ends.
-#[derive(Drop)]
+#[derive(Clone, Copy)]
 pub struct Stated {
     pub point: DagPoint,
     pub place: usize,
     pub end: usize,
 }
 
-#[derive(Drop)]
+#[derive(Clone, Copy)]
 pub enum ReadStated {
     Stated(Stated),
     Unreadable,
 }
 
 // An entry at the front of a slice: its record stands from `place` to `end`, where the entry ends.
-#[derive(Drop)]
+#[derive(Clone, Copy)]
 pub struct Listed {
     pub aim: Aim,
     pub state: DagPoint,
@@ -59,7 +59,7 @@ pub struct Listed {
     pub end: usize,
 }
 
-#[derive(Drop)]
+#[derive(Clone, Copy)]
 pub enum ReadListed {
     Listed(Listed),
     Unreadable,
@@ -90,7 +90,7 @@ const TARGET: Row = Row {
 };
 
 // A point record at the front of a slice, and where it ends.
-#[derive(Drop)]
+#[derive(Clone, Copy)]
 pub enum ReadRecord {
     Record(PointInfo, usize),
     Unreadable,

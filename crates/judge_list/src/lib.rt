@@ -27,20 +27,20 @@ use reasons::Verdict;
 use schedule::Settings;
 
 // What a walk over a list has found so far; uncovered says that the previous point stood there without a certificate.
-#[derive(Drop)]
+#[derive(Clone, Copy)]
 struct Walk {
     judging: Judging,
     uncovered: bool,
 }
 
-#[derive(Drop)]
+#[derive(Clone, Copy)]
 enum WalkedList {
     Walked(Walk),
     Unreadable,
 }
 
 // The verdict over a list that can be read, and whether the previous point stood there without a certificate.
-#[derive(Drop)]
+#[derive(Clone, Copy)]
 pub enum JudgedList {
     Judged { verdict: Verdict, uncovered: bool },
     Unreadable,

@@ -11,7 +11,7 @@ use judge_entries::Aim;
 use point::{AnchorStageRole, PointId};
 
 // An entry without its point.
-#[derive(Drop)]
+#[derive(Clone, Copy)]
 pub struct Head {
     pub aim: Aim,
     pub is_dropped: bool,

@@ -19,7 +19,7 @@ use point::{PointId, PointInfo};
 const FARTHEST: usize = 4000000000;
 
 // An entry: whether it is a version, where the field of its id stands, and its size.
-#[derive(Drop)]
+#[derive(Clone, Copy)]
 struct Version {
     is_own: bool,
     place: usize,
@@ -27,7 +27,7 @@ struct Version {
 }
 
 // What a block of versions gives: whether one of them stands twice, and where it ends.
-#[derive(Drop)]
+#[derive(Clone, Copy)]
 struct Block {
     is_twice: bool,
     end: usize,

@@ -13,7 +13,7 @@ use map::Position;
 use point::{PointId, PointInfo};
 
 // What the walk over the direct entries finds: that one of them fails, or how many were dropped and where the walk ended.
-#[derive(Drop)]
+#[derive(Clone, Copy)]
 struct Walked {
     is_mismatch: bool,
     dropped: usize,

@@ -19,7 +19,7 @@ use reasons::InvalidReason;
 use schedule::Settings;
 
 // How a direct entry is taken.
-#[derive(Drop)]
+#[derive(Clone, Copy)]
 pub enum Taken {
     AsDependency { is_prev_point: bool },
     AsVersion,
@@ -50,7 +50,7 @@ pub fn how_taken(p: PointView, id: PointId) -> Taken
 }
 
 // What was read of an entry's point, if it is there.
-#[derive(Drop)]
+#[derive(Clone, Copy)]
 enum Read {
     Info(PointInfo),
     Nothing,

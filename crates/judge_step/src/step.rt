@@ -16,7 +16,7 @@ use reasons::InvalidReason;
 use schedule::Settings;
 
 // What judging has found so far.
-#[derive(Drop)]
+#[derive(Clone, Copy)]
 pub struct Judging {
     pub direct: Reason,
     pub indirect: Reason,
@@ -32,7 +32,7 @@ pub const START: Judging = Judging {
 };
 
 // What an entry gives: its last reason, the root cause that it would have recorded, and that it is dropped with its round.
-#[derive(Drop)]
+#[derive(Clone, Copy)]
 pub struct Gives {
     pub reason: Reason,
     pub recorded: Recorded,

@@ -9,7 +9,7 @@ ghost use Rattle.point.specs.declared.data.PointRole.{PointRole};
 ghost use Rattle.judge_valid.specs.Code.{BriefOf};
 
 // Of digest and author the first eight bytes, of both tops the round.
-#[derive(Drop)]
+#[derive(Clone, Copy)]
 pub struct Brief {
     pub round: u32,
     pub digest: u64,

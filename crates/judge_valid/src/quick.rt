@@ -12,7 +12,7 @@ use parts::Id;
 use schedule::Settings;
 
 // What the test asks of the judged point and the settings. Ids are told apart by the first eight bytes of a digest or an author.
-#[derive(Drop)]
+#[derive(Clone, Copy)]
 pub struct Quick {
     pub before: u32,
     pub author: u64,

@@ -16,7 +16,7 @@ use reasons::{InvalidReason, PrevSeqNo};
 use schedule::Settings;
 
 // Option<InvalidReason>
-#[derive(Drop)]
+#[derive(Clone, Copy)]
 pub enum Reason {
     Reason(InvalidReason),
     NoReason,

@@ -9,14 +9,14 @@ use map::Found;
 use point::{AnchorLink, AnchorStageRole, PointId, PointInfo, PointRole};
 
 // The target and the source of a link.
-#[derive(Drop)]
+#[derive(Clone, Copy)]
 pub struct LinkIds {
     pub target: PointId,
     pub source: PointId,
 }
 
 // Of the judged point.
-#[derive(Drop)]
+#[derive(Clone, Copy)]
 pub struct PointView {
     pub id: PointId,
     pub role: PointRole,
@@ -28,7 +28,7 @@ pub struct PointView {
 }
 
 // Of a dependency.
-#[derive(Drop)]
+#[derive(Clone, Copy)]
 pub struct DepView {
     pub id: PointId,
     pub role: PointRole,

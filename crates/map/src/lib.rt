@@ -11,14 +11,14 @@ ghost use Rattle.map.specs.Code.{position_of, found_of};
 use parts::{Id, Order};
 
 // Where a peer stands: a set or a map has at most 255 rows.
-#[derive(Drop)]
+#[derive(Clone, Copy)]
 pub enum Position {
     At(u16),
     Absent,
 }
 
 // The digest beside a peer.
-#[derive(Drop)]
+#[derive(Clone, Copy)]
 pub enum Found {
     Digest(Id),
     Absent,

@@ -8,7 +8,7 @@ ghost use Rattle.parts.specs.Parts.{order, order_then, peer_count, full, majorit
 
 // A peer or a digest: its 32 bytes as four numbers, the first byte highest, so that comparing the
 // numbers in turn compares the byte strings.
-#[derive(Drop)]
+#[derive(Clone, Copy)]
 pub struct Id {
     pub a: u64,
     pub b: u64,
@@ -45,7 +45,7 @@ pub const MOST_KEPT: usize = 4096;
 pub const LONGEST_BOOK: usize = 16777216;
 
 // How one id stands to another.
-#[derive(Drop)]
+#[derive(Clone, Copy)]
 pub enum Order {
     Less,
     Same,
@@ -226,10 +226,10 @@ pub fn compare_to(s: &[u8], at: usize, id: Id) -> Order
 }
 
 // F of a count of peers 3F+1.
-#[derive(Drop)]
+#[derive(Clone, Copy)]
 pub struct PeerCount(pub u8);
 
-#[derive(Drop)]
+#[derive(Clone, Copy)]
 pub enum PeerCountAnswer {
     Count(PeerCount),
     NotEnough,

@@ -3,20 +3,20 @@ ghost use Rattle.std.specs.Prelude.{◌≡◌};
 ghost use Rattle.point.specs.Point.{is_anchor_proof, is_anchor_trigger, is_anchor_stage, requires_prev_point};
 
 // Evidence is at r, includes at r-1, witness at r-2.
-#[derive(Drop)]
+#[derive(Clone, Copy)]
 pub enum PointMap {
     Evidence,
     Includes,
     Witness,
 }
 
-#[derive(Drop)]
+#[derive(Clone, Copy)]
 pub enum AnchorStageRole {
     Proof,
     Trigger,
 }
 
-#[derive(Drop)]
+#[derive(Clone, Copy)]
 pub enum PointRole {
     Regular,
     AnchorProof { seq_no: u8, is_last: bool },

@@ -13,7 +13,7 @@ use crate::link::{AnchorLink, Through};
 use map::Found;
 use parts::Id;
 
-#[derive(Drop)]
+#[derive(Clone, Copy)]
 pub struct PointId {
     pub round: u32,
     pub digest: Id,
@@ -21,7 +21,7 @@ pub struct PointId {
 }
 
 // What a record says, and where the fields of its maps end in it: they start one after the other.
-#[derive(Drop)]
+#[derive(Clone, Copy)]
 pub struct PointInfo {
     pub id: PointId,
     pub payload_len: u32,
@@ -36,20 +36,20 @@ pub struct PointInfo {
     pub evidence_end: u16,
 }
 
-#[derive(Drop)]
+#[derive(Clone, Copy)]
 pub enum StickyAnchors {
     Sticky { seq_no: u8, is_last: bool },
     NoSticky,
 }
 
-#[derive(Drop)]
+#[derive(Clone, Copy)]
 pub enum ThroughId {
     Id(PointId),
     Absent,
 }
 
 // AnchorView, which borrows in the Rust, by value.
-#[derive(Drop)]
+#[derive(Clone, Copy)]
 pub struct AnchorView {
     pub top: PointId,
     pub target: PointId,

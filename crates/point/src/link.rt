@@ -7,19 +7,19 @@ ghost use Rattle.point.specs.Code.{through_of, link_of};
 use crate::info::PointId;
 use parts::Id;
 
-#[derive(Drop)]
+#[derive(Clone, Copy)]
 pub enum Through {
     Includes(Id),
     Witness(Id),
 }
 
-#[derive(Drop)]
+#[derive(Clone, Copy)]
 pub struct IndirectLink {
     pub to: PointId,
     pub through: Through,
 }
 
-#[derive(Drop)]
+#[derive(Clone, Copy)]
 pub enum AnchorLink {
     Direct(Through),
     Indirect(IndirectLink),

@@ -13,7 +13,7 @@ use crate::info::{PointId, PointInfo};
 use crate::link::{AnchorLink, IndirectLink, Through};
 use record::Places;
 
-#[derive(Drop)]
+#[derive(Clone, Copy)]
 pub enum ReadPoint {
     Point(PointInfo),
     Unreadable,

@@ -11,7 +11,7 @@ const RECORDS_DAMAGED: u64 = 20;
 
 const LONGEST_DAMAGED: usize = 700;
 
-#[derive(Drop)]
+#[derive(Clone, Copy)]
 pub struct Counts {
     pub cases: u64,
     pub too_long: u64,
@@ -33,7 +33,7 @@ const NONE: Counts = Counts {
 };
 
 // What a blob of a case is.
-#[derive(Drop)]
+#[derive(Clone, Copy)]
 enum Blob {
     Settings,
     Schedule,

@@ -5,7 +5,7 @@ use crate::schedule_sum::{sum_of_schedule, sum_of_settings};
 use point::ReadPoint;
 use schedule::ReadSettings;
 
-#[derive(Drop)]
+#[derive(Clone, Copy)]
 pub struct Tally {
     pub readable: u64,
     pub unreadable: u64,

@@ -5,7 +5,7 @@ ghost use Rattle.reasons.specs.IllFormed.{ill_formed_number};
 use parts::PeerCount;
 use point::{AnchorStageRole, PointMap};
 
-#[derive(Drop)]
+#[derive(Clone, Copy)]
 pub enum StructureIssue {
     ExpectedGenesis(bool),
     BadGenesisPrevPoint,
@@ -22,7 +22,7 @@ pub enum StructureIssue {
 // The Rust's AfterLoadFromDb and EvidenceSigError, numbers 1 and 2, are never given by verifying or judging: they have no
 // case here.
 // The unknown peers themselves stand in the peer buffer; the reason has their count. No map and no set has over 255 peers.
-#[derive(Drop)]
+#[derive(Clone, Copy)]
 pub enum IllFormedReason {
     BeforeGenesis,
     UnknownAuthor,
@@ -48,35 +48,35 @@ pub enum IllFormedReason {
 }
 
 // Result<(), StructureIssue>
-#[derive(Drop)]
+#[derive(Clone, Copy)]
 pub enum Checked {
     Sound,
     Issue(StructureIssue),
 }
 
 // A peer set of a length that verification can't use, at a round, for a map.
-#[derive(Drop)]
+#[derive(Clone, Copy)]
 pub struct UninitVset {
     pub len: u8,
     pub round: u32,
     pub map: PointMap,
 }
 
-#[derive(Drop)]
+#[derive(Clone, Copy)]
 pub enum VerifyError {
     Fail(UninitVset),
     IllFormed(IllFormedReason),
 }
 
 // Result<(), VerifyError>
-#[derive(Drop)]
+#[derive(Clone, Copy)]
 pub enum Verified {
     Passed,
     Failed(VerifyError),
 }
 
 // What Verifier::check_ill_formed finds: a round outside the schedule's horizon, a fault, or sound; then whether regular points are required.
-#[derive(Drop)]
+#[derive(Clone, Copy)]
 pub enum WaveChecked {
     Horizon,
     IllFormed(IllFormedReason),
@@ -84,7 +84,7 @@ pub enum WaveChecked {
 }
 
 // Document 01's number in place of a verdict, or what verification found.
-#[derive(Drop)]
+#[derive(Clone, Copy)]
 pub enum VerifyAnswer {
     Number(u8),
     Verdict(Verified),

@@ -6,7 +6,7 @@ ghost use Rattle.reasons.specs.Code.{reason_of, dag_round_of};
 use point::{AnchorStageRole, PointId, PointMap, Through};
 
 // The seq_no of the proof before, if it has one.
-#[derive(Drop)]
+#[derive(Clone, Copy)]
 pub enum PrevSeqNo {
     SeqNo(u8),
     NoSeqNo,
@@ -14,7 +14,7 @@ pub enum PrevSeqNo {
 
 // The Rust's AfterLoadFromDb, numbers 1 and 20, is never given by judging: it has no case here. A dependency's own reason
 // is its number.
-#[derive(Drop)]
+#[derive(Clone, Copy)]
 pub enum InvalidReason {
     NoRoundInDag(PointMap),
     DependencyRoundDropped,
@@ -59,7 +59,7 @@ pub enum InvalidReason {
 }
 
 // A root cause, the number of its reason, and what it came through.
-#[derive(Drop)]
+#[derive(Clone, Copy)]
 pub struct InvalidDependency {
     pub to: PointId,
     pub reason: u8,
@@ -67,7 +67,7 @@ pub struct InvalidDependency {
 }
 
 // Whether a reason has a DAG round, by its number.
-#[derive(Drop)]
+#[derive(Clone, Copy)]
 pub enum DagRound {
     Has,
     HasNot,

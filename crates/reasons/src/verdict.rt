@@ -2,7 +2,7 @@
 use crate::ill_formed::{IllFormedReason, UninitVset};
 use crate::invalid::{InvalidDependency, InvalidReason};
 
-#[derive(Drop)]
+#[derive(Clone, Copy)]
 pub enum Verdict {
     Fail(UninitVset),
     IllFormed(IllFormedReason),

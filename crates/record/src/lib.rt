@@ -8,7 +8,7 @@ ghost use Rattle.record.specs.Record.{length_at, field_ok, next_at, content_at, 
 ghost use Rattle.record.specs.Code.{end_of, PlacesOf, next_if, next_after, ShapeOf};
 
 // A row of the table of fields: the tag, and the least and the greatest length of the content.
-#[derive(Drop)]
+#[derive(Clone, Copy)]
 pub struct Row {
     pub tag: u8,
     pub least: usize,
@@ -64,7 +64,7 @@ const ROWS: [Row; 9] = [
 ];
 
 // Where the fields of a record after the first start.
-#[derive(Drop)]
+#[derive(Clone, Copy)]
 pub struct Places {
     pub payload: usize,
     pub includes: usize,
@@ -77,20 +77,20 @@ pub struct Places {
 }
 
 // Where a record at the front of a slice ends.
-#[derive(Drop)]
+#[derive(Clone, Copy)]
 pub enum End {
     At(usize),
     Unreadable,
 }
 
 // Where the fields of a record at the front of a slice start, and where it ends.
-#[derive(Drop)]
+#[derive(Clone, Copy)]
 pub struct Shape {
     pub at: Places,
     pub end: usize,
 }
 
-#[derive(Drop)]
+#[derive(Clone, Copy)]
 pub enum ReadShape {
     Shape(Shape),
     Unreadable,

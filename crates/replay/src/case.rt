@@ -2,7 +2,7 @@
 use case_files::Head;
 
 // Blob i stands from ends[i] to ends[i + 1].
-#[derive(Drop)]
+#[derive(Clone, Copy)]
 pub struct Case {
     pub ends: [usize; 9],
     pub is_whole: bool,

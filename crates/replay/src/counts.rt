@@ -1,6 +1,6 @@
 // How many cases there were of each kind, how many of them were answered otherwise, for how many there was no room, the
 // place of the last, from 1, and the length of the book that offers go to.
-#[derive(Drop)]
+#[derive(Clone, Copy)]
 pub struct Counts {
     pub place: u64,
     pub verify: u64,

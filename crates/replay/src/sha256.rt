@@ -2,7 +2,7 @@
 ghost use Rattle.std.specs.Prelude.{◌<◌, ◌≤◌, length};
 ghost use Rattle.parts.specs.Limits.{longest_book};
 
-#[derive(Drop)]
+#[derive(Clone, Copy)]
 struct State {
     a: u32,
     b: u32,

@@ -8,14 +8,14 @@ ghost use Rattle.schedule.specs.Code.{firsts_of, code_span_at, SpansRead, schedu
 use record::Row;
 
 // A span of rounds: the first, and where in the schedule's bytes its peers stand, and how many.
-#[derive(Drop)]
+#[derive(Clone, Copy)]
 pub struct Span {
     pub first: u32,
     pub place: usize,
     pub peers: u8,
 }
 
-#[derive(Drop)]
+#[derive(Clone, Copy)]
 pub struct Schedule {
     pub spans: [Span; 4],
     pub count: usize,
@@ -23,14 +23,14 @@ pub struct Schedule {
 }
 
 // A schedule, where it is readable. (An enum can't hold the array.)
-#[derive(Drop)]
+#[derive(Clone, Copy)]
 pub struct ReadSchedule {
     pub readable: bool,
     pub schedule: Schedule,
 }
 
 // The spans at the front of a schedule's bytes, and where they end.
-#[derive(Drop)]
+#[derive(Clone, Copy)]
 struct ReadSpans {
     spans: [Span; 4],
     count: usize,
@@ -38,14 +38,14 @@ struct ReadSpans {
 }
 
 // The span that a round belongs to.
-#[derive(Drop)]
+#[derive(Clone, Copy)]
 pub enum SpanIndex {
     At(usize),
     Outside,
 }
 
 // Whether only regular points may stand at a round; unknown where the round or the one four later is in no span.
-#[derive(Drop)]
+#[derive(Clone, Copy)]
 pub enum RequireRegularPoints {
     Required,
     NotRequired,

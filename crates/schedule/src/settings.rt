@@ -6,7 +6,7 @@ ghost use Rattle.schedule.specs.Code.{settings_of, read_settings_of};
 use parts::Id;
 use record::Row;
 
-#[derive(Drop)]
+#[derive(Clone, Copy)]
 pub struct Settings {
     pub genesis_round: u32,
     pub genesis_digest: Id,
@@ -16,7 +16,7 @@ pub struct Settings {
     pub commit_history_rounds: u8,
 }
 
-#[derive(Drop)]
+#[derive(Clone, Copy)]
 pub enum ReadSettings {
     Settings(Settings),
     Unusable,

@@ -10,7 +10,7 @@ use tally_feed::Next;
 use tally_line::Line;
 
 // Where the program stands: what is at hand, the place of the next line, and how many bytes of the schedule's buffer are the schedule.
-#[derive(Drop)]
+#[derive(Clone, Copy)]
 pub struct State {
     pub window: Window,
     pub place: u64,
@@ -18,7 +18,7 @@ pub struct State {
 }
 
 // What a turn gives: nothing, at the feed's end; the last line; or a line, and where the next turn stands.
-#[derive(Drop)]
+#[derive(Clone, Copy)]
 pub enum Turn {
     Over,
     Last(Line),

@@ -12,7 +12,7 @@ pub const ROOM: usize = 65536;
 
 // What was read and not used yet stands in a buffer from a start to an end. Nothing follows it if it is all; what follows it
 // could not be read if reading failed.
-#[derive(Drop)]
+#[derive(Clone, Copy)]
 pub struct Window {
     pub start: usize,
     pub end: usize,
@@ -21,7 +21,7 @@ pub struct Window {
 }
 
 // What one call gave: a number of bytes, at least one; nothing, at the input's end; or an error.
-#[derive(Drop)]
+#[derive(Clone, Copy)]
 enum Got {
     Bytes(usize),
     Nothing,

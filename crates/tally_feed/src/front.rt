@@ -9,7 +9,7 @@ use record::{End, Row};
 use schedule::ReadSettings;
 
 // A number in place of the points, or where they begin.
-#[derive(Drop)]
+#[derive(Clone, Copy)]
 pub enum Front {
     Number(u8),
     Points(usize),

@@ -10,7 +10,7 @@ use record::End;
 use tally_line::Line;
 
 // What comes next: nothing, the line of a record that can't be read, or a line and how many bytes its point takes.
-#[derive(Drop)]
+#[derive(Clone, Copy)]
 pub enum Next {
     Over,
     Last(Line),

@@ -6,7 +6,7 @@ ghost use Rattle.io.specs.Counts.{IsPrefixLen};
 ghost use Rattle.tally_line.specs.Text.{decimal, space, line_bytes, end_bytes};
 ghost use Rattle.tally_line.specs.Code.{Put};
 
-#[derive(Drop)]
+#[derive(Clone, Copy)]
 pub struct Line {
     pub place: u64,
     pub round: u32,

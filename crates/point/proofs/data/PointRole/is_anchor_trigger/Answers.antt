@@ -1,0 +1,6 @@
+-- `PointRole::is_anchor_trigger` meets its contract.
+use borrow.Author.Rules.{rules}
+use Rattle.point.proofs.data.PointRole.is_anchor_trigger.Goals as goal
+
+pub returns-in-AnchorProof : goal.returns-in-AnchorProof
+returns-in-AnchorProof c = rw c.in-AnchorProof.is

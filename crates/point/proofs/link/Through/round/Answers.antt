@@ -1,0 +1,9 @@
+-- `Through::round` meets its contract.
+use borrow.Author.Rules.{rules}
+use Rattle.point.proofs.link.Through.round.Goals as goal
+
+pub returns-in-Includes : goal.returns-in-Includes
+returns-in-Includes c = rw c.in-Includes.is c.rounds_back.ensures
+
+pub returns-in-Witness : goal.returns-in-Witness
+returns-in-Witness c = rw c.in-Witness.is c.rounds_back-in-Witness.ensures
