@@ -1,0 +1,18 @@
+-- `put_answer` meets its contract: its three parts stand one after the other.
+use mathlib.Core.Path.{refl}
+use Rattle.answer.specs.Code.{answer_of}
+use Rattle.rules.specs.Answer.{head_bytes, number_bytes, root_bytes, answer_bytes}
+use Rattle.write.proofs.Laws.{put_three}
+use borrow.Author.Rules.{rules}
+use Rattle.answer.proofs.put_answer.Goals as goal
+
+pub returns : goal.returns
+unfolding answer_bytes
+returns c =
+    let r = c in
+    let n = r in
+    let h = n in
+    let s = h in
+    let a = answer_of s.args.a in
+    rw (r.put_root.ensures, n.put_numbers.ensures, h.put_head.ensures)
+    (put_three s.args.out.now 0 (head_bytes a) (number_bytes a) (root_bytes a) 70 80 refl refl s.requires)

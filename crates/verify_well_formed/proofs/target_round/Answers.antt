@@ -1,0 +1,6 @@
+-- `target_round` meets its contract.
+use borrow.Author.Rules.{rules}
+use Rattle.verify_well_formed.proofs.target_round.Goals as goal
+
+pub returns-in-Direct : goal.returns-in-Direct
+returns-in-Direct c = rw c.in-Direct.is c.round.ensures
