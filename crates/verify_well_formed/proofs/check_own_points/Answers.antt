@@ -105,7 +105,7 @@ unequal c =
     let e = c in
     let f = e in
     let p = point (at-Start-from-After-equal c) in
-    let empty : eqb c.count.result 0 ≡ is_empty p.evidence = rw (c.count.ensures, evidence (at-After-evidence-evidence-from-After-equal c)) (sym (empty-length p.evidence)) in
+    let empty : eqb c.count.result 0 ≡ is_empty p.evidence = simp (c.count.ensures, evidence (at-After-evidence-evidence-from-After-equal c)) (sym (empty-length p.evidence)) in
     sym (c.equal.ensures ∙ (ap (λ (b : Bool). equal b f.is_found-has_prev_point.result) empty ∙ ap (equal (is_empty p.evidence)) (prev (at-After-is_found-has_prev_point-from-After-equal c))))
 
 in-evidence : (c : After-search) →

@@ -1,0 +1,10 @@
+-- `version_at` meets its contract.
+use mathlib.Core.Path.{refl}
+use borrow.Author.Rules.{rules}
+use Rattle.judge_mismatch.proofs.Own.{version-is}
+use Rattle.judge_mismatch.proofs.versions.version_at.Goals as goal
+
+pub returns : goal.returns
+returns c =
+    let h = c in
+    version-is _ _ _ _ h.requires h.head_of-head.ensures refl c.is_own.ensures c.id_field.ensures
