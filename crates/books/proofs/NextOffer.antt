@@ -4,7 +4,6 @@ use native.Mathlib.Omega.{arith}
 use mathlib.Core.Path.{◌≡◌, refl, ap, sym, ◌∙◌}
 use mathlib.Core.Logic.{◌↔◌}
 use mathlib.Core.Bool.{Bool, true, false}
-use lib.ListN.{length}
 use Rattle.base.specs.Base.{is_some}
 use Rattle.base.proofs.Bool.{never, clash}
 use Rattle.base.proofs.Impossible.{impossible}

@@ -1,5 +1,5 @@
 -- What the code's values stand for, and what its functions promise each other.
-use Rattle.std.specs.Prelude.{ℕ, ◌-◌, ◌≤◌, ◌<◌, ◌≡◌, Bool, List, length, take}
+use Rattle.std.specs.Prelude.{ℕ, ◌-◌, ◌≤◌, ◌<◌, Bool, List, length, take}
 use Rattle.std.proofs.Math.Option.{Option, none, some}
 use Rattle.parts.specs.Bytes.{bytes_at}
 use Rattle.point.specs.Code.{point_id_of, point_of, Reads}

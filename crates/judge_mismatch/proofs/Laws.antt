@@ -24,7 +24,7 @@ use Rattle.point.proofs.Ids.{same_sym, same_refl}
 use Rattle.rules.specs.DagPoint.{DagPoint, Entry, IndirectEntry, entry_id, is_dropped, is_by}
 use Rattle.rules.specs.List.{Listed, read_list, directs, indirects}
 use Rattle.judge_mismatch.specs.Code.{Head, listed, round_in, pairs_in, maps_in, no_pair, own_ids, is_twice_in, is_version_twice, is_new_version, is_target_with, AllPlaced, DirectsFound, Marked, zeros_in, zeros}
-use Rattle.judge_mismatch.proofs.Heads.{Front, Reads, next_of, listed-is, directs-here, indirects-here, reads-start, reads-next, reads_end, directs-after, directs-next, directs-last, indirects-same, indirects-next, listed_next}
+use Rattle.judge_mismatch.proofs.Heads.{Front, Reads, next_of, listed-is, directs-here, indirects-here, reads-start, reads-next, reads_end, directs-next, directs-last, indirects-same, indirects-next}
 use Rattle.rules.specs.Mismatch.{is_target_of, same_role, stood_before, all_targets, mismatch, has_id, pair_id, is_among, is_version, has_place, all_placed, ids_of, dropped_in, lacking_in, lacking}
 use Rattle.judge_mismatch.proofs.Rows.{among_to, Maps, among-at, among_not, among-to-same, has_same, row_once, stood}
 use Rattle.judge_mismatch.proofs.Own.{own-here, own-passed, none-twice, twice-next, own-has, once_tail, version-once}

@@ -12,14 +12,14 @@ use lib.Seq.{get_or-append_seam, drop-drop}
 use lib.Dec.{eqb}
 use borrow.Author.Tests.{eqb-false, not-true}
 use Rattle.base.specs.Base.{pick, is_some}
-use Rattle.base.proofs.Bool.{clash, cases, never, and_left, and_right, or_left, or_right, or_first, or_second, or_none, or_rest}
+use Rattle.base.proofs.Bool.{clash, never, and_left, and_right, or_left, or_right, or_first, or_second, or_none, or_rest}
 use Rattle.base.proofs.Option.{some_of}
 use Rattle.base.proofs.Lists.{rest}
 use Rattle.point.specs.Point.{PointId, PointInfo, no_point, prev_digest, same_id}
 use Rattle.point.specs.Reading.{point_id_at}
 use Rattle.point.specs.declared.data.AnchorStageRole.{AnchorStageRole}
 use Rattle.point.proofs.Ids.{same_sym, same_eq, id_shift}
-use Rattle.id_index.specs.Code.{count_of, place_in, field_id, id_in, added, Places, Noted, IsAt, NoneIs, Once, Twice, Built, FoundAt}
+use Rattle.id_index.specs.Code.{count_of, field_id, id_in, added, Places, Noted, IsAt, NoneIs, Once, Twice, Built, FoundAt}
 use Rattle.id_index.specs.declared.Place.{Place}
 use Rattle.id_index.specs.declared.Place.TheVariants as case-place
 use Rattle.id_index.proofs.Laws.{added-count, added-old, added_new, added-noted, none-noted}

@@ -6,7 +6,6 @@ use Rattle.map.specs.Rows.{peers_of, pairs_of}
 use Rattle.record.specs.Record.{start_of, content_of}
 use Rattle.point.specs.Point.{PointId, Through, Includes, Witness, AnchorLink, Direct, Indirect, PointInfo, Sticky, AnchorView}
 use Rattle.point.specs.Reading.{read_point}
-use Rattle.point.specs.declared.data.PointRole.{PointRole}
 use Rattle.point.specs.declared.data.AnchorStageRole.{AnchorStageRole}
 use Rattle.point.specs.declared.data.AnchorStageRole.TheVariants.{Proof, Trigger}
 use Rattle.point.specs.declared.info.PointId as code-id

@@ -21,7 +21,7 @@ use Rattle.rules.specs.Told.{Call, judged}
 use Rattle.rules.specs.AnyOrder.{IsEntry, AllEntries, with_entries, Alike, NoneBrings, Earliest, AnyOrder}
 use Rattle.rules.proofs.Joins.{rank_of, newer-higher, higher-newer}
 use Rattle.rules.proofs.Perms.{members_all}
-use Rattle.rules.proofs.Greatest.{join_all, greatest, all-absent, EarliestIn, earliest, member-rank}
+use Rattle.rules.proofs.Greatest.{join_all, all-absent, EarliestIn, earliest, member-rank}
 use Rattle.rules.proofs.Orders.{alike_self, entries-alike}
 use Rattle.rules.proofs.All.{all-member}
 use Rattle.rules.proofs.Arranged.{Arranged, split_list, flag-outside, lists_arranged, directs_perm, indirects_perm}

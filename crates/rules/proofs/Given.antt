@@ -20,7 +20,6 @@ use Rattle.point.specs.declared.data.AnchorStageRole.{AnchorStageRole}
 use Rattle.schedule.specs.Settings.{Settings, read_settings}
 use Rattle.schedule.specs.Schedule.{Schedule, read_schedule}
 use Rattle.reasons.specs.Invalid.{InvalidReason, InvalidDependency}
-use Rattle.reasons.specs.Verdict as verdict
 use Rattle.reasons.specs.Verdict.{Verdict}
 use Rattle.reasons.specs.declared.ill_formed.VerifyError.{VerifyError}
 use Rattle.reasons.specs.declared.ill_formed.VerifyError.TheVariants as case-error

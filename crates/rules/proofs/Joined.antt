@@ -9,10 +9,8 @@ use Rattle.base.specs.Base.{concat, last_of}
 use Rattle.base.proofs.Impossible.{impossible}
 use Rattle.map.specs.Rows.{get, find, find_from, peers, digests}
 use Rattle.point.specs.Point.{PointInfo, digest_safe, prev_digest, source, target, top, same_id}
-use Rattle.point.specs.declared.data.PointMap.TheVariants as map
 use Rattle.schedule.specs.Settings.{Settings}
 use Rattle.reasons.specs.Invalid.{InvalidReason, InvalidDependency, dag_round}
-use Rattle.reasons.specs.Verdict as verdict
 use Rattle.rules.specs.DagPoint.{link_ids, point_view, dep_view}
 use Rattle.rules.specs.List.{Listed, read_list, directs, indirects}
 use Rattle.rules.specs.Validate.{proof_row, trigger_proof_row, time_row, newer_row, sticky_row, reached_row, target_row, anchor_time_row, carried_row, source_row, anchor_rows, point_rows, taken, dependency_trail, record_of, is_newer, join, dependency, entry_findings, check_valid, check_indirect_links, result_with, over_lists, validate}

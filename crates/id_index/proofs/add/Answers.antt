@@ -1,10 +1,8 @@
 -- `add` meets its contract.
 use native.Mathlib.Omega.{arith}
-use mathlib.Core.Path.{refl}
 use Prim.Native.Nat.{◌+◌, ◌*◌, ◌%◌}
 use lib.ListN.{length-set}
 use Rattle.id_index.specs.Code.{added}
-use borrow.Author.Rules.{rules}
 use Rattle.id_index.proofs.add.Goals as goal
 
 pub bounds-index-n-2 : goal.bounds-index-n-2

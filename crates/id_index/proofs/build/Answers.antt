@@ -1,11 +1,9 @@
 -- `build` meets its contract: the ids are chained, or else sorted.
-use native.Mathlib.Omega.{arith}
 use mathlib.Core.Path.{◌≡◌, subst}
 use mathlib.Core.Bool.{Bool}
 use borrow.Author.Tests.{not-true, not-false}
 use Rattle.id_index.specs.Code.{SameFront, AllSorted}
 use Rattle.id_index.proofs.Laws.{same-places, front_then_lem, built_chained, built-sorted, built-twice}
-use borrow.Author.Rules.{rules}
 use Rattle.id_index.proofs.build.Goals as goal
 use Rattle.id_index.proofs.build.Goals.{After-sort}
 

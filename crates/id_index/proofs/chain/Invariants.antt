@@ -1,13 +1,6 @@
 -- `chain` meets its contract: the ids before j are chained.
-use native.Mathlib.Omega.{arith}
-use Prim.Native.Nat.{◌+◌, ◌-◌, ◌≤◌, ◌<◌}
-use mathlib.Core.Path.{◌≡◌, refl, sym, subst, ◌∙◌}
-use mathlib.Core.Bool.{Bool, false}
-use borrow.Author.Tests.{not-true, not-false}
-use Rattle.base.proofs.Bool.{clash}
-use Rattle.id_index.specs.Code.{count_of, SameFront, Places, Chains, Chained, Once}
-use Rattle.id_index.proofs.Laws.{same_count, same-places, front_same, front_then_lem, none_chained}
-use borrow.Author.Rules.{rules}
+use Prim.Native.Nat.{◌-◌, ◌≤◌}
+use Rattle.id_index.specs.Code.{SameFront, Chains, Once}
 use Rattle.id_index.proofs.chain.Given as goal
 
 abbrev pub invariant-loop-j : goal.invariant-loop-j

@@ -3,11 +3,9 @@ use native.Mathlib.Omega.{arith}
 use mathlib.Core.Path.{◌≡◌, refl, ap, subst, ◌∙◌}
 use mathlib.Core.Bool.{false}
 use Rattle.base.proofs.Bool.{clash}
-use Rattle.point.specs.Point.{PointId}
 use Rattle.point.specs.Code.{point_id_of}
 use Rattle.id_index.specs.Code.{field_id, id_in, bucket_of, NoneIs, InChain}
 use Rattle.id_index.proofs.Laws.{front_same, next_chained}
-use borrow.Author.Rules.{rules}
 use Rattle.id_index.proofs.chain_next.Goals as goal
 use Rattle.id_index.proofs.chain_next.Goals.{After-point_id_at-id, In-Absent}
 

@@ -1,9 +1,8 @@
 -- `compare` meets its contract: digests decide, or else the rest.
-use mathlib.Core.Path.{◌≡◌, sym, ◌∙◌}
+use mathlib.Core.Path.{sym, ◌∙◌}
 use Rattle.parts.proofs.Laws.{order-less, order_same, order-more}
 use Rattle.point.specs.Reading.{point_id_at}
 use Rattle.id_index.specs.Code.{by-digest}
-use borrow.Author.Rules.{rules}
 use Rattle.id_index.proofs.compare.Goals as goal
 
 pub returns-in-Less : goal.returns-in-Less

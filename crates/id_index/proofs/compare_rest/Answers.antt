@@ -1,13 +1,11 @@
 -- `compare_rest` meets its contract: authors decide, or else rounds.
-use native.Mathlib.Omega.{arith}
 use Prim.Native.Nat.{ℕ}
-use mathlib.Core.Path.{◌≡◌, sym, ap, ◌∙◌}
+use mathlib.Core.Path.{sym, ap, ◌∙◌}
 use Rattle.parts.specs.Parts.{order}
 use Rattle.parts.proofs.Laws.{order-less, order_same, order-more}
 use Rattle.point.specs.Reading.{point_id_at}
 use Rattle.id_index.specs.Code.{by-author}
 use Rattle.id_index.proofs.Laws.{by_rounds}
-use borrow.Author.Rules.{rules}
 use Rattle.id_index.proofs.compare_rest.Goals as goal
 
 pub returns-in-Less : goal.returns-in-Less

@@ -1,6 +1,5 @@
 -- `count` meets its contract.
 use native.Mathlib.Omega.{arith}
-use borrow.Author.Rules.{rules}
 use Rattle.id_index.proofs.count.Goals as goal
 
 pub overflow_cast-result : goal.overflow_cast-result

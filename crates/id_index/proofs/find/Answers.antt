@@ -1,11 +1,10 @@
 -- `find` meets its contract.
 use native.Mathlib.Omega.{arith}
 use Prim.Native.Nat.{ℕ}
-use mathlib.Core.Path.{◌≡◌, sym, subst}
+use mathlib.Core.Path.{sym, subst}
 use Rattle.point.specs.Code.{point_id_of}
-use Rattle.id_index.specs.Code.{count_of, Chains, Sorted, InChain, InOrder, FoundAt}
+use Rattle.id_index.specs.Code.{Chains, Sorted, InChain, InOrder, FoundAt}
 use Rattle.id_index.proofs.Laws.{found-chain, found-order}
-use borrow.Author.Rules.{rules}
 use Rattle.id_index.proofs.find.Goals as goal
 
 pub walk_chain-requires : goal.walk_chain-requires

@@ -1,7 +1,6 @@
 -- `found` meets its contract.
 use mathlib.Core.Path.{ap, sym}
 use Rattle.id_index.specs.Code.{found_of}
-use borrow.Author.Rules.{rules}
 use Rattle.id_index.proofs.found.Goals as goal
 
 pub returns-in-At : goal.returns-in-At

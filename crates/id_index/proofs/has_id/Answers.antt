@@ -1,6 +1,5 @@
 -- `has_id` meets its contract.
 use mathlib.Core.Path.{sym}
-use borrow.Author.Rules.{rules}
 use Rattle.id_index.proofs.has_id.Goals as goal
 
 pub returns : goal.returns

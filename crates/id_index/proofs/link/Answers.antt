@@ -4,7 +4,6 @@ use mathlib.Core.Path.{refl}
 use Prim.Native.Nat.{◌+◌}
 use lib.ListN.{length-set, get_or}
 use Rattle.id_index.specs.Code.{linked}
-use borrow.Author.Rules.{rules}
 use Rattle.id_index.proofs.link.Goals as goal
 
 pub bounds-index-bucket-2 : goal.bounds-index-bucket-2

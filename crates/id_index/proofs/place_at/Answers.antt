@@ -3,7 +3,6 @@ use native.Mathlib.Omega.{arith}
 use mathlib.Core.Path.{refl}
 use Prim.Native.Nat.{◌+◌, ◌*◌}
 use Rattle.id_index.specs.Code.{place_in}
-use borrow.Author.Rules.{rules}
 use Rattle.id_index.proofs.place_at.Goals as goal
 
 pub overflow_cast-result : goal.overflow_cast-result

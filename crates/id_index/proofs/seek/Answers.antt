@@ -5,9 +5,8 @@ use mathlib.Core.Path.{◌≡◌, subst}
 use lib.ListN.{get_or}
 use Rattle.parts.specs.declared.Order.{Order}
 use Rattle.point.specs.Code.{point_id_of}
-use Rattle.id_index.specs.Code.{field_id, nth_in, Between, Compared}
+use Rattle.id_index.specs.Code.{field_id, nth_in, Compared}
 use Rattle.id_index.proofs.Laws.{between-all, between-above, between-below, between-met}
-use borrow.Author.Rules.{rules}
 use Rattle.id_index.proofs.seek.Goals as goal
 use Rattle.id_index.proofs.seek.Goals.{After-compare-by, At-loop-low, In-loop-low}
 

@@ -1,7 +1,6 @@
 -- `shift` meets its contract: from k on the links are moved (`Shifting`).
 use native.Mathlib.Omega.{arith}
-use Rattle.id_index.proofs.Laws.{Shifting, shift_start, shift_step, shift_end}
-use borrow.Author.Rules.{rules}
+use Rattle.id_index.proofs.Laws.{shift_start, shift_step, shift_end}
 use Rattle.id_index.proofs.shift.Goals as goal
 
 pub loop-k-init : goal.loop-k-init

@@ -1,7 +1,5 @@
 -- `shift` meets its contract: from k on the links are moved (`Shifting`).
-use native.Mathlib.Omega.{arith}
-use Rattle.id_index.proofs.Laws.{Shifting, shift_start, shift_step, shift_end}
-use borrow.Author.Rules.{rules}
+use Rattle.id_index.proofs.Laws.{Shifting}
 use Rattle.id_index.proofs.shift.Given as goal
 
 abbrev pub invariant-loop-k : goal.invariant-loop-k

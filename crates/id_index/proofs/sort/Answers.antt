@@ -1,12 +1,10 @@
 -- `sort` meets its contract: the ids before j are sorted.
 use native.Mathlib.Omega.{arith}
-use Prim.Native.Nat.{◌-◌, ◌≤◌, ◌<◌}
-use mathlib.Core.Path.{◌≡◌, sym, subst, ◌∙◌}
+use mathlib.Core.Path.{◌≡◌, subst}
 use mathlib.Core.Bool.{Bool}
 use borrow.Author.Tests.{not-true, not-false}
-use Rattle.id_index.specs.Code.{count_of, SameFront, Places, Sorted, SortedNext}
+use Rattle.id_index.specs.Code.{count_of, SameFront, Sorted, SortedNext}
 use Rattle.id_index.proofs.Laws.{same_count, same-places, front_same, front_then_lem, none-sorted}
-use borrow.Author.Rules.{rules}
 use Rattle.id_index.proofs.sort.Goals as goal
 use Rattle.id_index.proofs.sort.Goals.{After-sort_next}
 

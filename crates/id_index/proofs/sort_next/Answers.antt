@@ -3,10 +3,9 @@ use native.Mathlib.Omega.{arith}
 use mathlib.Core.Path.{◌≡◌, ap, subst, ◌∙◌}
 use Rattle.point.specs.Point.{PointId}
 use Rattle.point.specs.Code.{point_id_of}
-use Rattle.id_index.specs.Code.{field_id, id_in, Between, InOrder, IsAt}
+use Rattle.id_index.specs.Code.{field_id, id_in, Between, InOrder}
 use Rattle.id_index.specs.declared.Sought.{Sought}
 use Rattle.id_index.proofs.Laws.{front_same, front_shifted, one-sorted, at-twice}
-use borrow.Author.Rules.{rules}
 use Rattle.id_index.proofs.sort_next.Goals as goal
 use Rattle.id_index.proofs.sort_next.Goals.{After-point_id_at-id, After-seek, In-Absent}
 

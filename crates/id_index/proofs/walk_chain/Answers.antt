@@ -1,12 +1,11 @@
 -- `walk_chain` meets its contract: the chain goes down through the ids of the id's bucket, and from k on none is the id (`Search`).
 use native.Mathlib.Omega.{arith}
-use Prim.Native.Nat.{ℕ, ◌+◌, ◌-◌, ◌≤◌}
+use Prim.Native.Nat.{ℕ, ◌+◌, ◌-◌}
 use mathlib.Core.Path.{◌≡◌, ap, sym, ◌∙◌}
 use Rattle.point.specs.Point.{same_id}
 use Rattle.point.specs.Code.{point_id_of}
 use Rattle.id_index.specs.Code.{field_id, id_in}
-use Rattle.id_index.proofs.Laws.{Search, search_start, search_next, next-below}
-use borrow.Author.Rules.{rules}
+use Rattle.id_index.proofs.Laws.{search_start, search_next, next-below}
 use Rattle.id_index.proofs.walk_chain.Goals as goal
 use Rattle.id_index.proofs.walk_chain.Goals.{After-has_id}
 

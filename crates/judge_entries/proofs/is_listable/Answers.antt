@@ -1,7 +1,6 @@
 -- `is_listable` meets its contract: each `return` by the tests that led there.
 use mathlib.Core.Path.{◌≡◌, sym, ◌∙◌}
 use mathlib.Core.Bool.{true}
-use borrow.Author.Rules.{rules}
 use borrow.Author.Tests.{not-true, not-false}
 use Rattle.point.specs.Code.{point_of}
 use Rattle.point.specs.Point.{in_domain}

@@ -1,6 +1,5 @@
 -- `is_named` meets its contract: each case by its equation.
 use mathlib.Core.Path.{◌≡◌, sym, ◌∙◌}
-use borrow.Author.Rules.{rules}
 use Rattle.base.specs.Base.{is_some}
 use Rattle.map.specs.Code.{found_of}
 use Rattle.point.specs.Code.{link_of, point_of}

@@ -1,6 +1,5 @@
 -- `is_own_before` meets its contract: each `return` is one part of the id.
 use Rattle.judge_entries.proofs.Laws.{equal-given, unequal_given}
-use borrow.Author.Rules.{rules}
 use Rattle.judge_entries.proofs.is_own_before.Goals as goal
 
 pub returns-then-id-rounds_back : goal.returns-then-id-rounds_back

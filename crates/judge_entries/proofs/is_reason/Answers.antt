@@ -1,6 +1,5 @@
 -- `is_reason` meets its contract: each case by its equation.
 use mathlib.Core.Path.{ap, sym, ◌∙◌}
-use borrow.Author.Rules.{rules}
 use Rattle.reasons.specs.Code.{dag_round_of}
 use Rattle.judge_entries.proofs.is_reason.Goals as goal
 

@@ -2,7 +2,6 @@
 use native.Mathlib.Omega.{arith}
 use mathlib.Core.Path.{◌≡◌, sym, ◌∙◌}
 use mathlib.Core.Bool.{true}
-use borrow.Author.Rules.{rules}
 use borrow.Author.Tests.{not-true, not-false}
 use Rattle.record.specs.Record.{field_row, field_ok}
 use Rattle.record.proofs.Laws.{field-length}
@@ -24,8 +23,11 @@ returns-then-reason-gt16 c = record { same = sym (state_high _ _ c.if-reason-lt1
 pub returns-then-not-field_ok : goal.returns-then-not-field_ok
 returns-then-not-field_ok c =
     let e = c in
-    let a = e.args in record { same = sym (state-ill-formed a.s.now a.reason e.if-reason-lt1.false e.if-reason-gt16.false
-          ∙ id_unfit a.s.now (λ i. IllFormed i a.reason) (sym c.field_ok.ensures ∙ not-true _ c.if-not-field_ok.true-raw)); placed = tt }
+    let a = e.args in record {
+      same = sym (state-ill-formed a.s.now a.reason e.if-reason-lt1.false e.if-reason-gt16.false
+          ∙ id_unfit a.s.now (λ i. IllFormed i a.reason) (sym c.field_ok.ensures ∙ not-true _ c.if-not-field_ok.true-raw));
+      placed = tt;
+    }
 
 pub point_id_at-requires : goal.point_id_at-requires
 point_id_at-requires c = field-length 17 68 c.args.s.now (fits c)
@@ -33,5 +35,8 @@ point_id_at-requires c = field-length 17 68 c.args.s.now (fits c)
 pub returns : goal.returns
 returns c =
     let e = c in
-    let a = e.args in record { same = sym (state-ill-formed a.s.now a.reason e.if-reason-lt1.false e.if-reason-gt16.false
-          ∙ id-read a.s.now (λ i. IllFormed i a.reason) (point_id_of c.point_id_at.result) c.point_id_at.ensures (fits (goal.at.returns c).Else-not-field_ok)); placed = record { ordered = omega arith; inside = field-length 17 68 a.s.now (fits (goal.at.returns c).Else-not-field_ok); read = tt } }
+    let a = e.args in record {
+      same = sym (state-ill-formed a.s.now a.reason e.if-reason-lt1.false e.if-reason-gt16.false
+          ∙ id-read a.s.now (λ i. IllFormed i a.reason) (point_id_of c.point_id_at.result) c.point_id_at.ensures (fits (goal.at.returns c).Else-not-field_ok));
+      placed = record { ordered = omega arith; inside = field-length 17 68 a.s.now (fits (goal.at.returns c).Else-not-field_ok); read = tt };
+    }

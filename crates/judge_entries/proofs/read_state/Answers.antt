@@ -1,7 +1,6 @@
 -- `read_state` meets its contract: each `return` by the state and the reason that led there.
 use native.Mathlib.Omega.{arith}
 use mathlib.Core.Path.{refl, sym, ◌∙◌}
-use borrow.Author.Rules.{rules}
 use Rattle.judge_entries.proofs.Laws.{state-by, state-numbered, state-dropped, state-unknown}
 use Rattle.judge_entries.proofs.read_state.Goals as goal
 

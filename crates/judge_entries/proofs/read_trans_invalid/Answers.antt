@@ -5,7 +5,6 @@ use mathlib.Core.Path.{◌≡◌, refl, sym, ◌∙◌}
 use mathlib.Core.Bool.{true}
 use mathlib.Core.List.{List}
 use lib.ListN.{length, get_or, take, drop}
-use borrow.Author.Rules.{rules}
 use borrow.Author.Tests.{not-true, not-false}
 use Rattle.base.proofs.Lists.{rest}
 use Rattle.point.specs.Code.{point_id_of}
@@ -58,8 +57,11 @@ returns-in_default c =
     let r = c in
     let p = r in
     let s = slice (goal.at.returns-in_default c).Else-not-is_root in
-    let i = point_id_of p.point_id_at-root.result in record { same = sym (state_trans s i (rooted (goal.at.returns-in_default c).Else-not-is_root) p.point_id_at-root.ensures
-          ∙ back_none s (take (length s - 72) (drop 72 s)) 72 r.read_record.result (rest 72 s) r.read_record.ensures.same c.in_default.is (λ q. TransInvalid q i (get_or s 71 0))); placed = tt }
+    let i = point_id_of p.point_id_at-root.result in record {
+      same = sym (state_trans s i (rooted (goal.at.returns-in_default c).Else-not-is_root) p.point_id_at-root.ensures
+          ∙ back_none s (take (length s - 72) (drop 72 s)) 72 r.read_record.result (rest 72 s) r.read_record.ensures.same c.in_default.is (λ q. TransInvalid q i (get_or s 71 0)));
+      placed = tt;
+    }
 
 pub overflow_add-result : goal.overflow_add-result
 overflow_add-result c =

@@ -1,7 +1,6 @@
 -- `read_valid` meets its contract: the state is that of the record.
 use native.Mathlib.Omega.{arith}
 use mathlib.Core.Path.{refl, sym, ◌∙◌}
-use borrow.Author.Rules.{rules}
 use Rattle.rules.specs.DagPoint.{Valid}
 use Rattle.judge_entries.proofs.Laws.{state-valid, back_none, back}
 use Rattle.judge_entries.proofs.read_valid.Goals as goal

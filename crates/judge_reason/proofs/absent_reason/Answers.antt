@@ -4,7 +4,6 @@ use Rattle.base.specs.Base.{last_of}
 use Rattle.base.proofs.Option.{some-none}
 use Rattle.rules.specs.Validate.{dependency_trail}
 use Rattle.judge_reason.specs.Code.{info_of}
-use borrow.Author.Rules.{rules}
 use Rattle.judge_reason.proofs.absent_reason.Goals as goal
 
 pub returns-in-Valid : goal.returns-in-Valid

@@ -4,7 +4,6 @@ use borrow.Author.Tests.{not-true, not-false}
 use Rattle.point.specs.Code.{point_id_of}
 use Rattle.rules.specs.Validate.{taken, taken_own}
 use Rattle.judge_valid.specs.Code.{point_view_of}
-use borrow.Author.Rules.{rules}
 use Rattle.judge_reason.proofs.how_taken.Goals as goal
 use Rattle.judge_reason.proofs.how_taken.Goals.{Else-not-is_own_before}
 

@@ -6,7 +6,6 @@ use Rattle.rules.specs.Validate.{indirect_point_rows}
 use Rattle.judge_valid.specs.Code.{point_view_of}
 use Rattle.judge_reason.specs.Code.{info_of, read_of}
 use Rattle.judge_reason.proofs.Laws.{read-from, at_hand_lem}
-use borrow.Author.Rules.{rules}
 use Rattle.judge_reason.proofs.indirect_reason.Goals as goal
 use Rattle.judge_reason.proofs.indirect_reason.Goals.{In-Info}
 

@@ -1,5 +1,4 @@
 -- `read_of` meets its contract.
-use borrow.Author.Rules.{rules}
 use Rattle.judge_reason.proofs.read_of.Goals as goal
 
 pub returns-in-Valid : goal.returns-in-Valid

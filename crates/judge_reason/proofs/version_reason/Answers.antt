@@ -1,6 +1,5 @@
 -- `version_reason` meets its contract: each case by its equation.
 use Rattle.base.specs.Base.{last_of}
-use borrow.Author.Rules.{rules}
 use Rattle.judge_reason.proofs.version_reason.Goals as goal
 
 pub returns-then-first_valid : goal.returns-then-first_valid

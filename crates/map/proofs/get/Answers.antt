@@ -2,7 +2,6 @@
 use native.Mathlib.Omega.{arith}
 use mathlib.Core.Path.{◌≡◌, ap, sym, ◌∙◌}
 use mathlib.Core.Option.{some}
-use borrow.Author.Rules.{rules}
 use Rattle.parts.specs.Code.{number}
 use Rattle.map.specs.Rows.{pairs_of, peers, find}
 use Rattle.map.specs.Code.{position_of}

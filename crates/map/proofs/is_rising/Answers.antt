@@ -1,5 +1,5 @@
 -- `map::is_rising` meets its contract. The invariant: what is left of the list, from `j` on, rises exactly if the whole does.
-use Prim.Native.Nat.{suc, ◌+◌, ◌-◌, ◌≤◌, ◌<◌}
+use Prim.Native.Nat.{suc, ◌+◌, ◌<◌}
 use native.Mathlib.Nat.{le_of_eq, le_of_lt}
 use native.Mathlib.Omega.{arith}
 use native.Mathlib.Numerals.{add-one}

@@ -1,5 +1,4 @@
 -- `map::is_well_rowed` meets its contract.
-use borrow.Author.Rules.{rules}
 use borrow.Author.Tests.{eq-eqb, ne_eqb}
 use Rattle.map.specs.Rows.{well_rowed}
 use Rattle.map.proofs.is_well_rowed.Goals as goal

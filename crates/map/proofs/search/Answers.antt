@@ -7,8 +7,7 @@ use Rattle.parts.specs.Code.{number}
 use Rattle.parts.specs.Parts.{order}
 use Rattle.parts.proofs.Laws.{order-less, order_same, order-more}
 use Rattle.map.specs.Rows.{peers_of}
-use Rattle.map.proofs.Laws.{peers_of-fits, find-rising, Bracket, bracket_start, bracket_up, bracket_down, bracket_none}
-use borrow.Author.Rules.{rules}
+use Rattle.map.proofs.Laws.{peers_of-fits, find-rising, bracket_start, bracket_up, bracket_down, bracket_none}
 use Rattle.map.proofs.search.Goals as goal
 use Rattle.map.proofs.search.Goals.{After-compare_row-o}
 

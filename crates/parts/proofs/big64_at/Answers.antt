@@ -2,7 +2,6 @@
 use native.Mathlib.Omega.{arith}
 use mathlib.Core.Path.{ap, ◌∙◌}
 use Prim.Native.Nat.{ℕ}
-use borrow.Author.Rules.{rules}
 use Rattle.parts.specs.Bytes.{big, little_bytes, Bytes}
 use Rattle.parts.proofs.Laws.{swapped_at}
 use Rattle.parts.proofs.big64_at.Goals as goal

@@ -1,7 +1,6 @@
 -- `parts::compare` meets its contract: the first words that differ decide, or else the last.
 use native.Mathlib.Omega.{arith}
 use mathlib.Core.Path.{◌≡◌, sym, ◌∙◌}
-use borrow.Author.Rules.{rules}
 use Rattle.parts.specs.Code.{number}
 use Rattle.parts.specs.Parts.{order, order_then}
 use Rattle.parts.specs.declared.Order.TheVariants.{Same}

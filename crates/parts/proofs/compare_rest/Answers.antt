@@ -1,6 +1,5 @@
 -- `parts::compare_rest` meets its contract: the first words that differ decide, or else the last.
 use mathlib.Core.Path.{sym, ◌∙◌}
-use borrow.Author.Rules.{rules}
 use Rattle.parts.specs.Code.{order_of_rest}
 use Rattle.parts.proofs.Laws.{then_any, then_same}
 use Rattle.parts.proofs.compare_rest.Goals as goal

@@ -2,7 +2,6 @@
 use Prim.Native.Nat.{ℕ, ◌+◌}
 use native.Mathlib.Omega.{arith}
 use mathlib.Core.Path.{◌≡◌, ap, sym, ◌∙◌}
-use borrow.Author.Rules.{rules}
 use Rattle.parts.specs.Bytes.{big_at, id_at, Bytes}
 use Rattle.parts.specs.Code.{number}
 use Rattle.parts.specs.Parts.{order, order_then}

@@ -1,7 +1,6 @@
 -- `parts::swapped` meets its contract: the bytes in turn, each with its weight.
 use native.Mathlib.Omega.{arith}
 use Rattle.parts.specs.Bytes.{big, little_bytes}
-use borrow.Author.Rules.{rules}
 use Rattle.parts.proofs.swapped.Goals as goal
 
 pub returns : goal.returns

@@ -1,7 +1,6 @@
 use Prim.Native.Nat.{◌+◌}
 use native.Mathlib.Omega.{arith}
 use Rattle.parts.proofs.Laws.{little_split, little-one}
-use borrow.Author.Rules.{rules}
 use Rattle.parts.proofs.u16_at.Goals as goal
 
 pub returns : goal.returns

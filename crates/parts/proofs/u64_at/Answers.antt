@@ -1,6 +1,5 @@
 use native.Mathlib.Omega.{arith}
 use Rattle.parts.proofs.Laws.{little_split}
-use borrow.Author.Rules.{rules}
 use Rattle.parts.proofs.u64_at.Goals as goal
 
 pub returns : goal.returns

@@ -2,7 +2,6 @@
 use Prim.Native.Nat.{◌+◌, ◌-◌}
 use native.Mathlib.Omega.{arith}
 use mathlib.Core.Path.{◌≡◌}
-use borrow.Author.Rules.{rules}
 use Rattle.record.specs.Record.{next_at, content_at}
 use Rattle.record.proofs.Laws.{next-within, next-after}
 use Rattle.record.proofs.content_at.Goals as goal

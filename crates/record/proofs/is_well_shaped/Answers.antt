@@ -1,6 +1,5 @@
 -- `record::is_well_shaped` meets its contract.
 use mathlib.Core.Path.{ap, sym, ◌∙◌}
-use borrow.Author.Rules.{rules}
 use Rattle.record.specs.Code.{end_of}
 use Rattle.record.specs.Record.{well_shaped}
 use Rattle.record.proofs.is_well_shaped.Goals as goal

@@ -1,6 +1,5 @@
 -- `record::next` meets its contract.
 use native.Mathlib.Omega.{arith}
-use borrow.Author.Rules.{rules}
 use Rattle.record.specs.Record.{next_at}
 use Rattle.record.proofs.next.Goals as goal
 

@@ -1,9 +1,8 @@
 -- `record::next_if_ok` meets its contract: the tests of `field_ok`, but for the last, which covers the next head too.
 use native.Mathlib.Omega.{arith}
-use Prim.Native.Nat.{◌+◌, ◌≤◌}
-use mathlib.Core.Path.{◌≡◌, sym, ◌∙◌}
+use Prim.Native.Nat.{◌+◌}
+use mathlib.Core.Path.{sym, ◌∙◌}
 use lib.ListN.{length}
-use borrow.Author.Rules.{rules}
 use borrow.Author.Tests.{le-leb, lt-leb, eq-eqb, ne_eqb}
 use Rattle.record.specs.Record.{length_at, field_ok}
 use Rattle.record.proofs.Laws.{field-last, next_unfit, next-short, next_fits}

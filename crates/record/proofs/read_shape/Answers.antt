@@ -1,11 +1,9 @@
 -- `record::read_shape` meets its contract: the walk is at each field in turn, or at 0.
 use native.Mathlib.Omega.{arith}
 use Prim.Native.Nat.{ℕ}
-use mathlib.Core.Path.{◌≡◌, refl, ap, sym, ◌∙◌}
-use mathlib.Core.Option.{some}
+use mathlib.Core.Path.{◌≡◌, refl, sym, ◌∙◌}
 use mathlib.Core.Bool.{true}
 use mathlib.Core.List.{List}
-use borrow.Author.Rules.{rules}
 use borrow.Author.Tests.{not-true, not-false}
 use Rattle.record.specs.Record.{rows, row_of, field_ok}
 use Rattle.record.proofs.Laws.{fitting, head_cut, Walk, walked, walk_first, walk-next, walk_none, walk-back, walk_end, walk_cut}

@@ -12,7 +12,6 @@ use Rattle.schedule.specs.Code.{settings_of, read_settings_of, schedule_of}
 use Rattle.schedule.specs.Schedule.{Schedule, read_schedule}
 use Rattle.rules.specs.Judge.{Tested, tested}
 use Rattle.verify.proofs.Laws.{schedule-read, schedule-unread, no_settings, no_schedule, no_point_lem, no_domain, no_room, all-taken, answer-number, answer-verdict}
-use borrow.Author.Rules.{rules}
 use Rattle.verify.proofs.verify.Goals as goal
 use Rattle.verify.proofs.verify.Goals.{After-spans-1, Else-not-is_in_domain, In-Point, In-Settings, Start}
 

@@ -10,7 +10,6 @@ use Rattle.rules.specs.Verify.{Scheduled, scheduled, new_rows, well_formed_rows,
 use Rattle.reasons.specs.Code.{verified_of}
 use Rattle.verify_peers.proofs.Laws.{Told, told-first, told-second, told-third}
 use Rattle.verify.proofs.Laws.{told-new, told_well_formed}
-use borrow.Author.Rules.{rules}
 use Rattle.verify.proofs.verify_point.Goals as goal
 use Rattle.verify.proofs.verify_point.Goals.{After-check_new-new, After-check_well_formed-well_formed, Start}
 

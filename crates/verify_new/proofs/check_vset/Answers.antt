@@ -2,7 +2,6 @@
 use native.Mathlib.Omega.{arith}
 use mathlib.Core.Path.{◌≡◌, ap, ◌∙◌}
 use lib.ListN.{length}
-use borrow.Author.Rules.{rules}
 use Rattle.base.specs.Base.{first_of}
 use Rattle.schedule.specs.Code.{schedule_of}
 use Rattle.schedule.specs.Schedule.{peers_for}

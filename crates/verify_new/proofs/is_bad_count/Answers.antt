@@ -10,7 +10,6 @@ use Rattle.base.proofs.Option.{some-none, none-some}
 use Rattle.parts.specs.Parts.{one_f, peer_count}
 use Rattle.parts.specs.Code.{peer_count_of}
 use Rattle.rules.specs.Verify.{bad_count}
-use borrow.Author.Rules.{rules}
 use Rattle.verify_new.proofs.is_bad_count.Goals as goal
 
 -- what a count, or none, tells of the test for it

@@ -1,5 +1,4 @@
 -- `check_new::is_unknown_target` meets its contract.
-use borrow.Author.Rules.{rules}
 use Rattle.rules.specs.Verify.{unknown_target}
 use Rattle.verify_new.proofs.is_unknown_target.Goals as goal
 

@@ -1,7 +1,6 @@
 -- `check_new::scheduled_at` meets its contract. The peers of a round rise, as looking one up asks.
 use native.Mathlib.Omega.{arith}
 use mathlib.Core.Path.{ap, ◌∙◌}
-use borrow.Author.Rules.{rules}
 use Rattle.map.specs.Rows.{rising}
 use Rattle.schedule.proofs.Laws.{peers-few}
 use Rattle.verify_new.proofs.scheduled_at.Goals as goal

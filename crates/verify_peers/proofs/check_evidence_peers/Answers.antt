@@ -12,7 +12,6 @@ use Rattle.rules.specs.Unknown.{unknown_in}
 use Rattle.verify_unknown.proofs.Laws.{unknown-few}
 use Rattle.rules.specs.Verify.{Scheduled}
 use Rattle.verify_peers.proofs.Laws.{Compared, compared, evidence-none, evidence-at-genesis, evidence-unknown, evidence_lacks, evidence-enough}
-use borrow.Author.Rules.{rules}
 use Rattle.verify_peers.proofs.check_evidence_peers.Goals as goal
 use Rattle.verify_peers.proofs.check_evidence_peers.Goals.{After-count-len, After-evidence-evidence, After-one_f-total, After-unknown_peers-unknown, Else-len-eq0, Start}
 

@@ -14,7 +14,6 @@ use Rattle.rules.specs.Unknown.{unknown_in}
 use Rattle.verify_unknown.proofs.Laws.{unknown-few}
 use Rattle.rules.specs.Verify.{Scheduled}
 use Rattle.verify_peers.proofs.Laws.{Compared, compared, includes-unknown, includes_lacks, includes-enough}
-use borrow.Author.Rules.{rules}
 use Rattle.verify_peers.proofs.check_includes_peers.Goals as goal
 use Rattle.verify_peers.proofs.check_includes_peers.Goals.{After-includes-includes, After-one_f-total, After-unknown_peers-unknown, Start}
 

@@ -14,7 +14,6 @@ use Rattle.schedule.proofs.Laws.{FewRising, peers-few}
 use Rattle.rules.specs.Verify.{Scheduled, scheduled, evidence_rows, includes_rows, witness_rows, peer_rows}
 use Rattle.reasons.specs.Code.{verified_of}
 use Rattle.verify_peers.proofs.Laws.{Told, told-first, told-second, told-third}
-use borrow.Author.Rules.{rules}
 use Rattle.verify_peers.proofs.check_peers.Goals as goal
 use Rattle.verify_peers.proofs.check_peers.Goals.{After-check_evidence_peers-first, After-check_includes_peers-second, After-check_witness_peers, Start}
 

@@ -14,7 +14,6 @@ use Rattle.rules.specs.Unknown.{unknown_in}
 use Rattle.verify_unknown.proofs.Laws.{unknown-few}
 use Rattle.rules.specs.Verify.{Scheduled}
 use Rattle.verify_peers.proofs.Laws.{Compared, compared, witness-none, witness_too_low, witness-unknown, witness-known}
-use borrow.Author.Rules.{rules}
 use Rattle.verify_peers.proofs.check_witness_peers.Goals as goal
 use Rattle.verify_peers.proofs.check_witness_peers.Goals.{After-unknown_peers-unknown, After-witness-witness, Else-count-eq0, Else-rounds_back-conf, Start}
 

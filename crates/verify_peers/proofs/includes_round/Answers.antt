@@ -1,5 +1,4 @@
 use borrow.Author.Tests.{eq-eqb, ne_eqb}
-use borrow.Author.Rules.{rules}
 use Rattle.verify_peers.proofs.includes_round.Goals as goal
 
 pub returns-then-round-conf : goal.returns-then-round-conf

@@ -2,7 +2,6 @@
 use native.Mathlib.Omega.{arith}
 use mathlib.Core.Path.{sym, ◌∙◌}
 use Rattle.verify_unknown.proofs.Laws.{order_at-inside, order_at-past}
-use borrow.Author.Rules.{rules}
 use Rattle.verify_unknown.proofs.order_at.Goals as goal
 
 pub returns-then-j-m : goal.returns-then-j-m

@@ -1,13 +1,11 @@
 -- `unknown::unknown_peers` meets its contract. The invariant is `Walked`, with its laws. The measure is what is left of the rows and of the scheduled peers.
-use Prim.Native.Nat.{◌+◌, ◌-◌}
 use native.Mathlib.Omega.{arith}
 use mathlib.Core.Path.{◌≡◌, sym, ◌∙◌}
-use lib.ListN.{length, get_or}
+use lib.ListN.{get_or}
 use Rattle.map.specs.Rows.{peers_of}
 use Rattle.map.proofs.Laws.{peers_of-fits}
 use Rattle.verify_unknown.specs.Code.{order_at}
-use Rattle.verify_unknown.proofs.Laws.{order_at-less, order_at-same, Walked, walked_start, walked-less, walked_same, walked_more, walked-done}
-use borrow.Author.Rules.{rules}
+use Rattle.verify_unknown.proofs.Laws.{order_at-less, order_at-same, walked_start, walked-less, walked_same, walked_more, walked-done}
 use Rattle.verify_unknown.proofs.unknown_peers.Goals as goal
 use Rattle.verify_unknown.proofs.unknown_peers.Goals.{After-order_at-order}
 

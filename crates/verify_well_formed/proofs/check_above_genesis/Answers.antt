@@ -20,7 +20,6 @@ use Rattle.reasons.specs.declared.ill_formed.VerifyError.TheVariants.{IllFormed}
 use Rattle.rules.specs.Verify.{sticky_fault, above_rows}
 use Rattle.reasons.specs.Code.{checked_of, verified_of}
 use Rattle.verify_well_formed.proofs.Laws.{issue_here, issue_after}
-use borrow.Author.Rules.{rules}
 use Rattle.verify_well_formed.proofs.check_above_genesis.Goals as goal
 use Rattle.verify_well_formed.proofs.check_above_genesis.Goals.{After-target_round, After-target_round-2, Else-conf-info, Else-target_round-conf, In-Passed, In_default, Start}
 

@@ -12,7 +12,6 @@ use Rattle.reasons.specs.declared.ill_formed.VerifyError.{VerifyError}
 use Rattle.rules.specs.Verify.{genesis_rows}
 use Rattle.reasons.specs.Code.{checked_of}
 use Rattle.verify_well_formed.proofs.Laws.{issue_here, issue_after}
-use borrow.Author.Rules.{rules}
 use Rattle.verify_well_formed.proofs.check_genesis.Goals as goal
 use Rattle.verify_well_formed.proofs.check_genesis.Goals.{Else-info-gt0, Else-not-same, Start}
 

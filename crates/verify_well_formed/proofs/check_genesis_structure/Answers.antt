@@ -9,7 +9,6 @@ use Rattle.base.proofs.Bool.{or_first, or_rest}
 use Rattle.point.specs.Point.{PointInfo, prev_digest}
 use Rattle.point.specs.Code.{point_of}
 use Rattle.rules.specs.Verify.{is_zero, links_own, genesis_structure_rows}
-use borrow.Author.Rules.{rules}
 use Rattle.verify_well_formed.proofs.check_genesis_structure.Goals as goal
 use Rattle.verify_well_formed.proofs.check_genesis_structure.Goals.{After-is_zero, Else-info, Else-not-is_genesis, Else-not-is_zero, Else-not-links_own, Start}
 

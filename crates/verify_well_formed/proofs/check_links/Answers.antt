@@ -8,7 +8,6 @@ use Rattle.base.proofs.Tables.{row_here, row_after, last-test}
 use Rattle.point.specs.Point.{PointInfo}
 use Rattle.point.specs.Code.{point_of}
 use Rattle.rules.specs.Verify.{link_rows}
-use borrow.Author.Rules.{rules}
 use Rattle.verify_well_formed.proofs.check_links.Goals as goal
 use Rattle.verify_well_formed.proofs.check_links.Goals.{Else-is_bad_link, Else-is_bad_link-2, Else-is_bad_proof_link, Start}
 

@@ -17,7 +17,6 @@ use Rattle.point.specs.Point.{PointInfo, prev_digest, requires_prev_point}
 use Rattle.point.specs.Code.{point_of}
 use Rattle.point.proofs.Laws.{readable}
 use Rattle.rules.specs.Verify.{equal, own_point_rows}
-use borrow.Author.Rules.{rules}
 use Rattle.verify_well_formed.proofs.check_own_points.Goals as goal
 use Rattle.verify_well_formed.proofs.check_own_points.Goals.{After-equal, After-evidence-evidence, After-is_found-has_prev_point, After-lacks_prev_point, After-search, After-search-2, After-witness, Else-equal, Else-lacks_prev_point, In-Absent, Start}
 

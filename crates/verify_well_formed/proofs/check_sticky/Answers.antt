@@ -4,7 +4,6 @@ use borrow.Author.Tests.{lt-ltb, le-ltb}
 use Rattle.base.specs.Base.{first_of}
 use Rattle.point.specs.Code.{sticky_of}
 use Rattle.rules.specs.Verify.{sticky_fault}
-use borrow.Author.Rules.{rules}
 use Rattle.verify_well_formed.proofs.check_sticky.Goals as goal
 
 pub returns-then-conf-seq_no : goal.returns-then-conf-seq_no

@@ -8,7 +8,6 @@ use Rattle.point.specs.Code.{point_of}
 use Rattle.reasons.specs.declared.ill_formed.StructureIssue.{StructureIssue}
 use Rattle.rules.specs.Verify.{structure_rows}
 use Rattle.reasons.specs.Code.{checked_of}
-use borrow.Author.Rules.{rules}
 use Rattle.verify_well_formed.proofs.check_structure.Goals as goal
 use Rattle.verify_well_formed.proofs.check_structure.Goals.{Else-is_genesis, Start}
 

@@ -1,7 +1,6 @@
 -- `check_well_formed` meets its contract.
 use borrow.Author.Tests.{eq-eqb, ne_eqb}
 use Rattle.rules.specs.Verify.{well_formed_rows}
-use borrow.Author.Rules.{rules}
 use Rattle.verify_well_formed.proofs.check_well_formed.Goals as goal
 
 pub returns-then-id-conf : goal.returns-then-id-conf

@@ -5,7 +5,6 @@ use Rattle.base.specs.Base.{is_some}
 use Rattle.point.specs.Point.{through, digest_safe}
 use Rattle.point.specs.Code.{link_of, point_of}
 use Rattle.rules.specs.Verify.{bad_link}
-use borrow.Author.Rules.{rules}
 use Rattle.verify_well_formed.proofs.is_bad_link.Goals as goal
 use Rattle.verify_well_formed.proofs.is_bad_link.Goals.{After-is_found}
 

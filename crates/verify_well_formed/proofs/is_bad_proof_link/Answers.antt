@@ -1,5 +1,4 @@
 -- `is_bad_proof_link` meets its contract.
-use borrow.Author.Rules.{rules}
 use Rattle.verify_well_formed.proofs.is_bad_proof_link.Goals as goal
 
 pub returns-then-is_anchor_trigger : goal.returns-then-is_anchor_trigger

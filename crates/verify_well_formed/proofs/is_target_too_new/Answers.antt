@@ -1,6 +1,5 @@
 -- `is_target_too_new` meets its contract.
 use Rattle.rules.specs.Verify.{target_too_new}
-use borrow.Author.Rules.{rules}
 use Rattle.verify_well_formed.proofs.is_target_too_new.Goals as goal
 
 pub returns-in-Direct : goal.returns-in-Direct

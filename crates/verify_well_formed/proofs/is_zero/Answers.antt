@@ -1,6 +1,5 @@
 -- `is_zero` meets its contract: zeros stand for the number 0.
 use Rattle.parts.proofs.Laws.{number_zero}
-use borrow.Author.Rules.{rules}
 use Rattle.verify_well_formed.proofs.is_zero.Goals as goal
 
 pub returns-in-Digest : goal.returns-in-Digest

@@ -2,7 +2,6 @@
 use mathlib.Core.Path.{sym, ◌∙◌}
 use mathlib.Core.Bool.{and-false, and-true}
 use Rattle.point.specs.Point.{requires_prev_point}
-use borrow.Author.Rules.{rules}
 use Rattle.verify_well_formed.proofs.lacks_prev_point.Goals as goal
 
 pub returns-then-has_prev_point : goal.returns-then-has_prev_point

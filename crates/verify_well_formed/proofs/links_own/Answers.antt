@@ -1,6 +1,5 @@
 -- `links_own` meets its contract.
 use Rattle.rules.specs.Verify.{links_own}
-use borrow.Author.Rules.{rules}
 use Rattle.verify_well_formed.proofs.links_own.Goals as goal
 
 pub returns-in-Includes : goal.returns-in-Includes

@@ -1,5 +1,4 @@
 -- `target_round` meets its contract.
-use borrow.Author.Rules.{rules}
 use Rattle.verify_well_formed.proofs.target_round.Goals as goal
 
 pub returns-in-Direct : goal.returns-in-Direct

@@ -3,7 +3,6 @@ use native.Mathlib.Omega.{arith}
 use Rattle.parts.specs.Code.{number}
 use Rattle.parts.proofs.Laws.{Words}
 use Rattle.write.proofs.Laws.{put_words}
-use borrow.Author.Rules.{rules}
 use Rattle.write.proofs.put_id.Goals as goal
 use Rattle.write.proofs.put_id.Goals.{Start}
 

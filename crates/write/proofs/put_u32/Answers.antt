@@ -4,7 +4,6 @@ use native.Mathlib.Omega.{arith}
 use lib.ListN.{length-set}
 use Rattle.parts.specs.Bytes.{little_bytes}
 use Rattle.write.proofs.Laws.{put_is}
-use borrow.Author.Rules.{rules}
 use Rattle.write.proofs.put_u32.Goals as goal
 
 pub bounds-out-at-2 : goal.bounds-out-at-2

@@ -2,7 +2,6 @@
 use mathlib.Core.Path.{ap, ◌∙◌}
 use Rattle.parts.specs.Bytes.{little_bytes, put_at}
 use Rattle.write.proofs.Laws.{swapped-bytes}
-use borrow.Author.Rules.{rules}
 use Rattle.write.proofs.put_word.Goals as goal
 
 pub returns : goal.returns

@@ -1,6 +1,5 @@
 -- `id` meets its contract: each case by its equation.
 use Rattle.parts.proofs.Laws.{number_zero}
-use borrow.Author.Rules.{rules}
 use Rattle.judge_entries.proofs.DagPoint.id.Goals as goal
 
 pub returns-in-Valid : goal.returns-in-Valid

@@ -1,5 +1,4 @@
 -- `is_dropped` meets its contract: each case by its equation.
-use borrow.Author.Rules.{rules}
 use Rattle.judge_entries.proofs.DagPoint.is_dropped.Goals as goal
 
 pub returns-in-Valid : goal.returns-in-Valid

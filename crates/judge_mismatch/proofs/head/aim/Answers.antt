@@ -1,7 +1,6 @@
 -- `aim` meets its contract: the tests of the code are those of `aim_at`.
 use borrow.Author.Tests.{eq-eqb, ne_eqb}
 use Rattle.judge_mismatch.proofs.Heads.{role-later}
-use borrow.Author.Rules.{rules}
 use Rattle.judge_mismatch.proofs.head.aim.Goals as goal
 
 pub returns-then-s-ne19 : goal.returns-then-s-ne19

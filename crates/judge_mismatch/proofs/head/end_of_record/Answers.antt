@@ -4,12 +4,10 @@ use native.Mathlib.Omega.{arith}
 use Prim.Native.Nat.{◌+◌, ◌≤◌}
 use lib.ListN.{length}
 use mathlib.Core.Option.{some}
-use Rattle.base.specs.Base.{is_some}
 use Rattle.base.proofs.Lists.{rest}
 use Rattle.record.specs.Record.{record_end}
 use Rattle.judge_mismatch.specs.Code.{end_in}
 use Rattle.judge_mismatch.proofs.Heads.{end-inside, end-there, end_known}
-use borrow.Author.Rules.{rules}
 use Rattle.judge_mismatch.proofs.head.end_of_record.Goals as goal
 use Rattle.judge_mismatch.proofs.head.end_of_record.Goals.{After-known_end}
 

@@ -2,7 +2,6 @@
 use mathlib.Core.Path.{ap, sym, ◌∙◌}
 use Rattle.base.specs.Base.{is_some}
 use Rattle.judge_mismatch.proofs.Heads.{end-dropped, end-ill-formed, end_not_found, end-root, end_record}
-use borrow.Author.Rules.{rules}
 use Rattle.judge_mismatch.proofs.head.entry_end.Goals as goal
 
 pub end_of_record-requires : goal.end_of_record-requires

@@ -1,6 +1,5 @@
 -- `flags_at` meets its contract.
 use borrow.Author.Tests.{eq-eqb, ne_eqb}
-use borrow.Author.Rules.{rules}
 use Rattle.judge_mismatch.proofs.head.flags_at.Goals as goal
 
 pub returns-then-s-eq19 : goal.returns-then-s-eq19

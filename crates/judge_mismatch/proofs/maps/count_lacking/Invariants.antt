@@ -1,8 +1,6 @@
 -- `count_lacking` meets its contract: the count so far and what is left to count give the count of all (`Counted`).
 use Prim.Native.Nat.{◌-◌}
-use native.Mathlib.Omega.{arith}
-use Rattle.judge_mismatch.proofs.Laws.{Counted, counted_start, counted_zero, counted-other, counted-end}
-use borrow.Author.Rules.{rules}
+use Rattle.judge_mismatch.proofs.Laws.{Counted}
 use Rattle.judge_mismatch.proofs.maps.count_lacking.Given as goal
 
 abbrev pub invariant-loop-i : goal.invariant-loop-i

@@ -3,7 +3,6 @@ use mathlib.Core.Path.{ap, sym, ◌∙◌}
 use Rattle.judge_mismatch.proofs.Rows.{version-other, version_referenced, version-is}
 use borrow.Author.Tests.{not-true, not-false}
 use Rattle.map.specs.Code.{found_of}
-use borrow.Author.Rules.{rules}
 use Rattle.judge_mismatch.proofs.maps.is_version.Goals as goal
 
 pub returns-then-not-is_own_before : goal.returns-then-not-is_own_before

@@ -8,7 +8,6 @@ use Rattle.point.proofs.Laws.{readable}
 use Rattle.judge_mismatch.specs.Code.{pairs_in, zeros_in}
 use Rattle.judge_mismatch.proofs.Laws.{zeros-few, zeros-three, zeros-other}
 use Rattle.judge_mismatch.proofs.Rows.{map_at, rows-count}
-use borrow.Author.Rules.{rules}
 use Rattle.judge_mismatch.proofs.maps.lacking.Goals as goal
 use Rattle.judge_mismatch.proofs.maps.lacking.Goals.{After-count, After-count-then-presence-eq3}
 

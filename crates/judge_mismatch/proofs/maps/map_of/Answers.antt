@@ -1,6 +1,5 @@
 -- `map_of` meets its contract.
 use Rattle.judge_mismatch.proofs.Rows.{later}
-use borrow.Author.Rules.{rules}
 use Rattle.judge_mismatch.proofs.maps.map_of.Goals as goal
 
 pub returns-then-m-eq0 : goal.returns-then-m-eq0

@@ -1,6 +1,5 @@
 -- `round_of` meets its contract.
 use Rattle.judge_mismatch.proofs.Rows.{later}
-use borrow.Author.Rules.{rules}
 use Rattle.judge_mismatch.proofs.maps.round_of.Goals as goal
 
 pub returns-then-m-eq0 : goal.returns-then-m-eq0

@@ -14,7 +14,6 @@ use Rattle.point.specs.Code.{point_id_of, point_of}
 use Rattle.point.proofs.Laws.{MapOf, readable}
 use Rattle.judge_mismatch.specs.Code.{round_in, pairs_in}
 use Rattle.judge_mismatch.proofs.Rows.{map_at, map_same, row_round, row_nowhere, row_inside, row_here, row_other}
-use borrow.Author.Rules.{rules}
 use Rattle.judge_mismatch.proofs.maps.row_of.Goals as goal
 use Rattle.judge_mismatch.proofs.maps.row_of.Goals.{After-digest_at, After-map_of-map, After-search, In-At}
 

@@ -1,5 +1,4 @@
 -- `is_target` meets its contract.
-use borrow.Author.Rules.{rules}
 use Rattle.judge_mismatch.proofs.targets.is_target.Goals as goal
 
 pub returns-then-is_dropped : goal.returns-then-is_dropped

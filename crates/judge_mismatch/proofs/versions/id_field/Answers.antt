@@ -1,5 +1,4 @@
 -- `id_field` meets its contract: an entry that was read has its flags.
-use mathlib.Core.Path.{sym}
 use native.Mathlib.Omega.{arith}
 use borrow.Author.Tests.{eq-eqb, ne_eqb}
 use Rattle.base.proofs.Option.{some_of}

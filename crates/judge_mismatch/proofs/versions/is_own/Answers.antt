@@ -1,7 +1,6 @@
 -- `is_own` meets its contract: its tests are those of `is_own`.
 use borrow.Author.Tests.{not-true, not-false}
 use Rattle.judge_mismatch.specs.Code.{is_own}
-use borrow.Author.Rules.{rules}
 use Rattle.judge_mismatch.proofs.versions.is_own.Goals as goal
 
 pub returns-then-not-is_direct : goal.returns-then-not-is_direct

@@ -1,16 +1,13 @@
 -- `note` meets its contract: the versions up to the place are the block, those after it are left (`Noting`).
-use Prim.Native.Nat.{◌-◌}
 use native.Mathlib.Omega.{arith}
 use mathlib.Core.Path.{◌∙◌}
 use mathlib.Core.Bool.{true}
-use lib.ListN.{length}
-use borrow.Author.Rules.{rules}
 use Rattle.point.specs.Code.{point_id_of}
 use Rattle.id_index.specs.Code.{count_of}
 use Rattle.judge_mismatch.specs.Code.{HasRoom}
 use Rattle.judge_mismatch.proofs.Heads.{reads-head}
 use Rattle.judge_mismatch.proofs.Laws.{same-room}
-use Rattle.judge_mismatch.proofs.Own.{Met, met, Noting, noting_start, noting_full, noting_end, noting_own, noting_other, room-there, room_not}
+use Rattle.judge_mismatch.proofs.Own.{Met, met, noting_start, noting_full, noting_end, noting_own, noting_other, room-there, room_not}
 use Rattle.judge_mismatch.proofs.versions.note.Goals as goal
 use Rattle.judge_mismatch.proofs.versions.note.Goals.{After-version_at-v, Else-not-has_room}
 

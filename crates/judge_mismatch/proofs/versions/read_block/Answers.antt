@@ -1,6 +1,5 @@
 -- `read_block` meets its contract: its versions are in the index, so that two alike are among them or one of them comes after.
 use mathlib.Core.Path.{refl}
-use borrow.Author.Rules.{rules}
 use Rattle.judge_mismatch.proofs.Own.{block-twice, block-met, built_not, built-all}
 use Rattle.judge_mismatch.proofs.versions.read_block.Goals as goal
 

@@ -1,6 +1,5 @@
 -- `stand_twice` meets its contract: a point with a previous digest has no versions.
 use mathlib.Core.Path.{sym, ap, ◌∙◌}
-use borrow.Author.Rules.{rules}
 use Rattle.map.specs.Code.{found_of}
 use Rattle.judge_mismatch.proofs.Own.{referenced_once, unreferenced}
 use Rattle.judge_mismatch.proofs.versions.stand_twice.Goals as goal

@@ -1,6 +1,5 @@
 -- `version_at` meets its contract.
 use mathlib.Core.Path.{refl}
-use borrow.Author.Rules.{rules}
 use Rattle.judge_mismatch.proofs.Own.{version-is}
 use Rattle.judge_mismatch.proofs.versions.version_at.Goals as goal
 

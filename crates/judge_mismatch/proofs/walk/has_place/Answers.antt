@@ -1,5 +1,4 @@
 -- `has_place` meets its contract.
-use borrow.Author.Rules.{rules}
 use Rattle.judge_mismatch.proofs.walk.has_place.Goals as goal
 
 pub returns-then-found : goal.returns-then-found

@@ -11,7 +11,6 @@ use Rattle.rules.specs.List.{read_list, directs, indirects}
 use Rattle.judge_mismatch.specs.Code.{listed, AllPlaced, zeros}
 use Rattle.rules.specs.Mismatch.{all_targets}
 use Rattle.judge_mismatch.proofs.Laws.{found-true, found-false, mismatch_failed, mismatch-twice, mismatch-lacking, mismatch-absent, mismatch-targets}
-use borrow.Author.Rules.{rules}
 use Rattle.judge_mismatch.proofs.walk.is_mismatch.Goals as goal
 use Rattle.judge_mismatch.proofs.walk.is_mismatch.Goals.{Else-walked, Else-walked-lacking}
 

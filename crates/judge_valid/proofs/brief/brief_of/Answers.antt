@@ -14,7 +14,6 @@ use Rattle.point.specs.declared.data.AnchorStageRole.TheVariants.{Proof, Trigger
 use Rattle.rules.proofs.Fits.{content-bytes}
 use Rattle.judge_valid.specs.Code.{first_word}
 use Rattle.judge_valid.proofs.QuickLaws.{word_read, top_read, asked}
-use borrow.Author.Rules.{rules}
 use Rattle.judge_valid.proofs.brief.brief_of.Goals as goal
 use Rattle.judge_valid.proofs.brief.brief_of.Goals.{After-content_from-times, After-find_places-at}
 

@@ -8,7 +8,6 @@ use Rattle.point.specs.Point.{is_anchor_proof}
 use Rattle.point.specs.Reading.{read_role}
 use Rattle.point.specs.declared.data.PointRole.{PointRole}
 use Rattle.judge_valid.proofs.QuickLaws.{proof-long, proof-short}
-use borrow.Author.Rules.{rules}
 use Rattle.judge_valid.proofs.brief.is_proof.Goals as goal
 
 pub returns-then-role-eq3 : goal.returns-then-role-eq3

@@ -7,7 +7,6 @@ use Rattle.point.specs.Point.{is_anchor_trigger}
 use Rattle.point.specs.Reading.{read_role}
 use Rattle.point.specs.declared.data.PointRole.{PointRole}
 use Rattle.judge_valid.proofs.QuickLaws.{trigger-long, trigger-short}
-use borrow.Author.Rules.{rules}
 use Rattle.judge_valid.proofs.brief.is_trigger.Goals as goal
 
 pub returns-then-role-eq3 : goal.returns-then-role-eq3

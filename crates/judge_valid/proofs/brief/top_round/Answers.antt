@@ -1,7 +1,6 @@
 -- `top_round` meets its contract: by the link's length and its map.
 use mathlib.Core.Path.{◌∙◌}
 use Rattle.judge_valid.proofs.QuickLaws.{target-far, target-includes, target-witness}
-use borrow.Author.Rules.{rules}
 use Rattle.judge_valid.proofs.brief.top_round.Goals as goal
 
 pub returns-then-has_role : goal.returns-then-has_role

@@ -5,7 +5,6 @@ use lib.Dec.{ltb, eqb}
 use borrow.Author.Tests.{not-true}
 use Rattle.base.proofs.Bool.{clash}
 use Rattle.judge_valid.proofs.QuickLaws.{passes}
-use borrow.Author.Rules.{rules}
 use Rattle.judge_valid.proofs.quick.is_quick.Goals as goal
 use Rattle.judge_valid.proofs.quick.is_quick.Goals.{Else-is_linked, Else-is_newer, Else-is_own}
 

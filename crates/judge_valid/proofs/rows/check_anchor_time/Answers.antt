@@ -2,7 +2,6 @@
 use borrow.Author.Tests.{eq-eqb, ne_eqb}
 use Rattle.base.specs.Base.{last_of}
 use Rattle.rules.specs.Validate.{anchor_time_row}
-use borrow.Author.Rules.{rules}
 use Rattle.judge_valid.proofs.rows.check_anchor_time.Goals as goal
 
 pub returns-then-is_anchor_proof : goal.returns-then-is_anchor_proof

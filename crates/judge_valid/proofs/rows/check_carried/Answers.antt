@@ -1,7 +1,6 @@
 -- `check_carried` meets its contract.
 use Rattle.base.specs.Base.{last_of}
 use Rattle.rules.specs.Validate.{carried_row}
-use borrow.Author.Rules.{rules}
 use Rattle.judge_valid.proofs.rows.check_carried.Goals as goal
 
 pub returns-then-is_same_id : goal.returns-then-is_same_id

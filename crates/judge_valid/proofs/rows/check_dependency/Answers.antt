@@ -10,7 +10,6 @@ use Rattle.schedule.specs.Code.{settings_of}
 use Rattle.reasons.specs.Invalid.{InvalidReason}
 use Rattle.rules.specs.Validate.{proof_row, point_rows}
 use Rattle.judge_valid.specs.Code.{point_view_of, dep_view_of, option_of}
-use borrow.Author.Rules.{rules}
 use Rattle.judge_valid.proofs.rows.check_dependency.Goals as goal
 use Rattle.judge_valid.proofs.rows.check_dependency.Goals.{After-check_links-links, After-check_newer-proof, After-check_newer-trigger, After-check_time-time, In-NoReason, In-NoReason-proof, In-NoReason-time, In-NoReason-trigger, Start}
 

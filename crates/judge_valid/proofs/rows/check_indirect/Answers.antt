@@ -11,7 +11,6 @@ use Rattle.schedule.specs.Code.{settings_of}
 use Rattle.reasons.specs.Invalid.{InvalidReason, AnchorLinkRole}
 use Rattle.rules.specs.Validate.{indirect_point_rows}
 use Rattle.judge_valid.specs.Code.{point_view_of, dep_view_of, option_of}
-use borrow.Author.Rules.{rules}
 use Rattle.judge_valid.proofs.rows.check_indirect.Goals as goal
 use Rattle.judge_valid.proofs.rows.check_indirect.Goals.{After-check_inherited-carried, Start}
 

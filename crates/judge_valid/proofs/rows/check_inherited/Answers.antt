@@ -1,5 +1,4 @@
 -- `check_inherited` meets its contract.
-use borrow.Author.Rules.{rules}
 use Rattle.judge_valid.proofs.rows.check_inherited.Goals as goal
 
 pub returns-in-Proof : goal.returns-in-Proof

@@ -9,7 +9,6 @@ use Rattle.schedule.specs.Code.{settings_of}
 use Rattle.reasons.specs.Invalid.{InvalidReason}
 use Rattle.rules.specs.Validate.{anchor_rows}
 use Rattle.judge_valid.specs.Code.{point_view_of, dep_view_of, option_of}
-use borrow.Author.Rules.{rules}
 use Rattle.judge_valid.proofs.rows.check_links.Goals as goal
 use Rattle.judge_valid.proofs.rows.check_links.Goals.{After-check_source-trigger_source, In-NoReason, In-NoReason-proof_source, In-NoReason-trigger_target}
 

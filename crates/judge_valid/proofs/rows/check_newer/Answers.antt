@@ -2,7 +2,6 @@
 use borrow.Author.Tests.{lt-ltb, le-ltb}
 use Rattle.base.specs.Base.{last_of}
 use Rattle.rules.specs.Validate.{newer_row}
-use borrow.Author.Rules.{rules}
 use Rattle.judge_valid.proofs.rows.check_newer.Goals as goal
 
 pub returns-then-top-target : goal.returns-then-top-target

@@ -1,6 +1,5 @@
 -- `check_reached` meets its contract.
 use Rattle.rules.specs.Validate.{reached_row}
-use borrow.Author.Rules.{rules}
 use Rattle.judge_valid.proofs.rows.check_reached.Goals as goal
 
 pub returns-in-Proof : goal.returns-in-Proof

@@ -3,7 +3,6 @@ use native.Mathlib.Omega.{arith}
 use borrow.Author.Tests.{lt-ltb, le-ltb, le-leb, lt-leb}
 use Rattle.base.specs.Base.{last_of}
 use Rattle.rules.specs.Validate.{sticky_row}
-use borrow.Author.Rules.{rules}
 use Rattle.judge_valid.proofs.rows.check_seq_no.Goals as goal
 
 pub returns-then-seq_no-eq0 : goal.returns-then-seq_no-eq0

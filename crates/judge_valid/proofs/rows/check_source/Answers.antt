@@ -11,7 +11,6 @@ use Rattle.reasons.specs.Invalid.{InvalidReason, AnchorLinkBadPath}
 use Rattle.rules.specs.DagPoint.{links_in, top_in}
 use Rattle.rules.specs.Validate.{carried_row, source_row}
 use Rattle.judge_valid.specs.Code.{point_view_of, dep_view_of, option_of}
-use borrow.Author.Rules.{rules}
 use Rattle.judge_valid.proofs.rows.check_source.Goals as goal
 use Rattle.judge_valid.proofs.rows.check_source.Goals.{After-is_same_id-2, Else-not-is_same_id, Start}
 

@@ -1,7 +1,6 @@
 -- `check_sticky` meets its contract.
 use Rattle.base.specs.Base.{last_of}
 use Rattle.rules.specs.Validate.{sticky_row}
-use borrow.Author.Rules.{rules}
 use Rattle.judge_valid.proofs.rows.check_sticky.Goals as goal
 
 pub returns-in-Regular : goal.returns-in-Regular

@@ -2,7 +2,6 @@
 use borrow.Author.Tests.{not-true, not-false}
 use Rattle.base.specs.Base.{last_of}
 use Rattle.rules.specs.Validate.{target_row}
-use borrow.Author.Rules.{rules}
 use Rattle.judge_valid.proofs.rows.check_target.Goals as goal
 
 pub returns-then-not-is_same_id : goal.returns-then-not-is_same_id

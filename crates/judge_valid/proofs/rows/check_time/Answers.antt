@@ -4,7 +4,6 @@ use native.Mathlib.Omega.{arith}
 use borrow.Author.Tests.{lt-ltb, le-ltb}
 use Rattle.base.specs.Base.{last_of}
 use Rattle.rules.specs.Validate.{time_row}
-use borrow.Author.Rules.{rules}
 use Rattle.judge_valid.proofs.rows.check_time.Goals as goal
 
 pub returns-then-q-skew : goal.returns-then-q-skew

@@ -2,7 +2,6 @@
 use borrow.Author.Tests.{le-leb, lt-leb}
 use Rattle.base.specs.Base.{last_of}
 use Rattle.rules.specs.Validate.{trigger_proof_row}
-use borrow.Author.Rules.{rules}
 use Rattle.judge_valid.proofs.rows.check_trigger_proof.Goals as goal
 
 pub returns-then-bound-target : goal.returns-then-bound-target

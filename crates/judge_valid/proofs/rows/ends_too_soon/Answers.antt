@@ -1,6 +1,5 @@
 -- `ends_too_soon` meets its contract.
 use borrow.Author.Tests.{not-true, not-false}
-use borrow.Author.Rules.{rules}
 use Rattle.judge_valid.proofs.rows.ends_too_soon.Goals as goal
 
 pub returns-then-not-is_anchor_proof : goal.returns-then-not-is_anchor_proof

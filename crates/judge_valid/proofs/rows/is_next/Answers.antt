@@ -1,5 +1,4 @@
 -- `is_next` meets its contract.
-use borrow.Author.Rules.{rules}
 use Rattle.judge_valid.proofs.rows.is_next.Goals as goal
 
 pub returns-in-SeqNo : goal.returns-in-SeqNo

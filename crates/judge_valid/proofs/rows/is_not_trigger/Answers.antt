@@ -2,7 +2,6 @@
 use mathlib.Core.Bool.{not}
 use mathlib.Core.Path.{ap}
 use borrow.Author.Tests.{not-true, not-false}
-use borrow.Author.Rules.{rules}
 use Rattle.judge_valid.proofs.rows.is_not_trigger.Goals as goal
 
 pub returns-then-not-is_anchor_proof : goal.returns-then-not-is_anchor_proof

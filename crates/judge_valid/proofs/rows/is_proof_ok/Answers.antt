@@ -5,7 +5,6 @@ use lib.Dec.{leb}
 use borrow.Author.Tests.{le-leb, lt-leb, eq-eqb, ne_eqb, not-true, not-false}
 use Rattle.base.specs.Base.{concat, last_of}
 use Rattle.rules.specs.Validate.{not_trigger, ends_too_soon, proof_row}
-use borrow.Author.Rules.{rules}
 use Rattle.judge_valid.proofs.rows.is_proof_ok.Goals as goal
 use Rattle.judge_valid.proofs.rows.is_proof_ok.Goals.{After-ends_too_soon, After-is_not_trigger, Else-p-q}
 

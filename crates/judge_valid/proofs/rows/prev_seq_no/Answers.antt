@@ -1,5 +1,4 @@
 -- `prev_seq_no` meets its contract.
-use borrow.Author.Rules.{rules}
 use Rattle.judge_valid.proofs.rows.prev_seq_no.Goals as goal
 
 pub returns-in-AnchorProof : goal.returns-in-AnchorProof

@@ -1,6 +1,5 @@
 -- `dep_view` meets its contract.
 use Rattle.rules.specs.DagPoint.{dep_view}
-use borrow.Author.Rules.{rules}
 use Rattle.judge_valid.proofs.view.dep_view.Goals as goal
 
 pub returns : goal.returns

@@ -2,7 +2,6 @@
 use mathlib.Core.Path.{ap}
 use Rattle.point.specs.Point.{AnchorView, anchor}
 use Rattle.rules.specs.DagPoint.{LinkIds, link_ids}
-use borrow.Author.Rules.{rules}
 use Rattle.judge_valid.proofs.view.link_ids.Goals as goal
 
 pub returns : goal.returns

@@ -1,6 +1,5 @@
 -- `point_view` meets its contract.
 use Rattle.rules.specs.DagPoint.{point_view}
-use borrow.Author.Rules.{rules}
 use Rattle.judge_valid.proofs.view.point_view.Goals as goal
 
 pub returns : goal.returns

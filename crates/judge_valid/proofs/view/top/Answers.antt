@@ -4,7 +4,6 @@ use Rattle.point.specs.Point.{PointId, AnchorView, top, anchor}
 use Rattle.point.specs.Code.{link_of, point_of}
 use Rattle.judge_valid.proofs.QuickLaws.{top-target, top-indirect}
 use Rattle.point.proofs.Laws.{link_in_lem}
-use borrow.Author.Rules.{rules}
 use Rattle.judge_valid.proofs.view.top.Goals as goal
 
 pub returns-then-is_anchor_stage : goal.returns-then-is_anchor_stage

@@ -1,6 +1,5 @@
 use borrow.Author.Tests.{lt-ltb, le-ltb}
 use Rattle.parts.specs.Parts.{peer_count}
-use borrow.Author.Rules.{rules}
 use Rattle.parts.proofs.PeerCount.try_from.Goals as goal
 
 pub returns-then-total_peers-lt3 : goal.returns-then-total_peers-lt3

@@ -1,7 +1,5 @@
 -- `are_maps_ok` meets its contract: each answer rewrites with the tests that led there.
 use mathlib.Core.Path.{◌≡◌, ap, sym, ◌∙◌}
-use borrow.Author.Tests.{not-true, not-false}
-use borrow.Author.Rules.{rules}
 use Rattle.map.specs.Rows.{well_rowed}
 use Rattle.record.specs.Record.{content_of}
 use Rattle.point.specs.Reading.{maps_ok}

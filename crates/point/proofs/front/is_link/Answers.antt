@@ -1,6 +1,5 @@
 -- `is_link` meets its contract: each answer by the tests that led there.
 use mathlib.Core.Path.{sym}
-use borrow.Author.Rules.{rules}
 use Rattle.point.proofs.Tested.{link_mapless, link-direct, link-indirect, link-none}
 use Rattle.point.proofs.front.is_link.Goals as goal
 

@@ -1,6 +1,5 @@
 -- `is_role` meets its contract: each answer by the tests that led there.
 use mathlib.Core.Path.{sym}
-use borrow.Author.Rules.{rules}
 use Rattle.point.proofs.Tested.{role_lone, role-one, role-proof, role-other, role-none}
 use Rattle.point.proofs.front.is_role.Goals as goal
 

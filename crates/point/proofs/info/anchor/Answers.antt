@@ -1,7 +1,6 @@
 -- `anchor` meets its contract.
 use mathlib.Core.Path.{◌≡◌, sym, ◌∙◌}
 use mathlib.Core.Bool.{true, false}
-use borrow.Author.Rules.{rules}
 use Rattle.point.specs.Point.{target}
 use Rattle.point.specs.Code.{point_id_of, point_of}
 use Rattle.point.proofs.Laws.{link_in_lem, view-is}

@@ -1,5 +1,4 @@
 -- `digest_or_zero` meets its contract.
-use borrow.Author.Rules.{rules}
 use Rattle.parts.proofs.Laws.{number_zero}
 use Rattle.point.proofs.info.digest_or_zero.Goals as goal
 

@@ -1,5 +1,4 @@
 -- `digest_safe` meets its contract: the maps of a point that was read rise, and have at most 255 rows.
-use borrow.Author.Rules.{rules}
 use Rattle.point.specs.Point.{digest_safe}
 use Rattle.point.specs.Code.{through_of}
 use Rattle.point.proofs.Laws.{through-rises, through-few}

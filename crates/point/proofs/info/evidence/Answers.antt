@@ -1,6 +1,5 @@
 -- `evidence` meets its contract.
 use native.Mathlib.Omega.{arith}
-use borrow.Author.Rules.{rules}
 use Rattle.record.proofs.Laws.{start-most}
 use Rattle.point.proofs.Laws.{readable}
 use Rattle.point.proofs.info.evidence.Goals as goal

@@ -1,7 +1,6 @@
 -- `includes` meets its contract: the field before has a fixed place.
 use native.Mathlib.Omega.{arith}
 use mathlib.Core.Path.{sym}
-use borrow.Author.Rules.{rules}
 use Rattle.record.proofs.Laws.{third-start}
 use Rattle.point.proofs.Laws.{readable}
 use Rattle.point.proofs.info.includes.Goals as goal

@@ -1,7 +1,6 @@
 -- `is_same_id` meets its contract: each test is one of `same_id`.
-use borrow.Author.Tests.{eq-eqb, ne_eqb, not-true, not-false}
+use borrow.Author.Tests.{eq-eqb, ne_eqb}
 use mathlib.Core.Path.{sym, ◌∙◌}
-use borrow.Author.Rules.{rules}
 use Rattle.point.specs.Point.{same_id}
 use Rattle.point.proofs.info.is_same_id.Goals as goal
 

@@ -1,6 +1,5 @@
 -- `map_of` meets its contract.
 use mathlib.Core.Path.{ap}
-use borrow.Author.Rules.{rules}
 use Rattle.map.specs.Rows.{pairs_of}
 use Rattle.point.proofs.info.map_of.Goals as goal
 

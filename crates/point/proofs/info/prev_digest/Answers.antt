@@ -1,5 +1,4 @@
 -- `prev_digest` meets its contract: the includes of a point that was read rise, and are at most 255.
-use borrow.Author.Rules.{rules}
 use Rattle.point.specs.Point.{prev_digest}
 use Rattle.point.proofs.Laws.{readable}
 use Rattle.point.proofs.info.prev_digest.Goals as goal

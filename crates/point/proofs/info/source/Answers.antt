@@ -1,7 +1,6 @@
 -- `source` meets its contract.
 use mathlib.Core.Path.{◌≡◌, ap, ◌∙◌}
 use mathlib.Core.Option.{get_or}
-use borrow.Author.Rules.{rules}
 use Rattle.point.specs.Point.{through, anchor_link}
 use Rattle.point.specs.Code.{through_of, point_of}
 use Rattle.point.proofs.Laws.{link_in_lem, source_is}

@@ -1,5 +1,4 @@
 -- `target` meets its contract.
-use borrow.Author.Rules.{rules}
 use Rattle.point.proofs.info.target.Goals as goal
 
 pub returns-in-Direct : goal.returns-in-Direct

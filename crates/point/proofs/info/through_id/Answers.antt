@@ -1,6 +1,5 @@
 -- `through_id` meets its contract.
 use mathlib.Core.Path.{ap, sym, ◌∙◌}
-use borrow.Author.Rules.{rules}
 use Rattle.map.specs.Code.{found_of}
 use Rattle.point.specs.Point.{through_id}
 use Rattle.point.proofs.info.through_id.Goals as goal

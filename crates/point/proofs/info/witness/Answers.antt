@@ -1,6 +1,5 @@
 -- `witness` meets its contract.
 use native.Mathlib.Omega.{arith}
-use borrow.Author.Rules.{rules}
 use Rattle.point.proofs.Laws.{readable}
 use Rattle.point.proofs.info.witness.Goals as goal
 

@@ -1,5 +1,4 @@
 -- `known_point` meets its contract: a point's record has the right shape.
-use borrow.Author.Rules.{rules}
 use Rattle.point.proofs.Known.{known}
 use Rattle.point.proofs.read.known_point.Goals as goal
 

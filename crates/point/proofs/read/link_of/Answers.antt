@@ -1,7 +1,6 @@
 -- `link_of` meets its contract: a link is direct or indirect by its kind.
 use native.Mathlib.Omega.{arith}
 use mathlib.Core.Path.{◌∙◌}
-use borrow.Author.Rules.{rules}
 use Rattle.point.proofs.Known.{link-through, known-direct, known-indirect, indirect-long}
 use Rattle.point.proofs.read.link_of.Goals as goal
 

@@ -1,5 +1,4 @@
 -- `point_id_at` meets its contract.
-use borrow.Author.Rules.{rules}
 use Rattle.point.specs.Reading.{point_id_at}
 use Rattle.point.proofs.read.point_id_at.Goals as goal
 

@@ -1,7 +1,5 @@
 -- `read_point` meets its contract: the shape, then the rest.
 use mathlib.Core.Path.{sym, ◌∙◌}
-use borrow.Author.Tests.{not-true, not-false}
-use borrow.Author.Rules.{rules}
 use Rattle.point.proofs.Laws.{unshaped}
 use Rattle.point.proofs.read.read_point.Goals as goal
 

@@ -1,7 +1,5 @@
 -- `read_shaped` meets its contract: what is a point is read.
 use mathlib.Core.Path.{sym, ◌∙◌}
-use borrow.Author.Rules.{rules}
-use borrow.Author.Tests.{not-true, not-false}
 use Rattle.base.proofs.Option.{unfound}
 use Rattle.point.proofs.read.read_shaped.Goals as goal
 

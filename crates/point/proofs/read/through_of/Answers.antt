@@ -1,6 +1,5 @@
 -- `through_of` meets its contract: the map by its byte.
 use mathlib.Core.Path.{◌∙◌}
-use borrow.Author.Rules.{rules}
 use Rattle.point.proofs.Known.{through-includes, through-witness}
 use Rattle.point.proofs.read.through_of.Goals as goal
 

@@ -1,6 +1,5 @@
 -- `has_dag_round` meets its contract: each arm by what `dag_round` told.
 use mathlib.Core.Path.{sym, ap, ◌∙◌}
-use borrow.Author.Rules.{rules}
 use Rattle.reasons.specs.Invalid.{is_yes}
 use Rattle.reasons.specs.Code.{dag_round_of}
 use Rattle.reasons.proofs.invalid.has_dag_round.Goals as goal

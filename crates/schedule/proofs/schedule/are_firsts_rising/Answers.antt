@@ -1,11 +1,9 @@
 -- `schedule::schedule::are_firsts_rising` meets its contract. The invariant: the first rounds from the one before `i` on rise exactly if all do.
-use Prim.Native.Nat.{◌+◌, ◌-◌, ◌≤◌}
+use Prim.Native.Nat.{◌+◌, ◌-◌}
 use native.Mathlib.Omega.{arith}
 use mathlib.Core.Path.{◌≡◌, refl, sym, ◌∙◌}
-use lib.ListN.{length, take, drop}
+use lib.ListN.{length}
 use borrow.Author.Rules.{rules}
-use Rattle.map.specs.Rows.{rising}
-use Rattle.schedule.specs.Code.{firsts_of}
 use Rattle.schedule.proofs.Laws.{firsts-rise, firsts_fall, firsts-end}
 use Rattle.schedule.proofs.schedule.are_firsts_rising.Goals as goal
 

@@ -1,12 +1,9 @@
 -- `schedule::schedule::are_firsts_rising` meets its contract. The invariant: the first rounds from the one before `i` on rise exactly if all do.
-use Prim.Native.Nat.{◌+◌, ◌-◌, ◌≤◌}
-use native.Mathlib.Omega.{arith}
-use mathlib.Core.Path.{◌≡◌, refl, sym, ◌∙◌}
-use lib.ListN.{length, take, drop}
-use borrow.Author.Rules.{rules}
+use Prim.Native.Nat.{◌-◌, ◌≤◌}
+use mathlib.Core.Path.{◌≡◌}
+use lib.ListN.{take, drop}
 use Rattle.map.specs.Rows.{rising}
 use Rattle.schedule.specs.Code.{firsts_of}
-use Rattle.schedule.proofs.Laws.{firsts-rise, firsts_fall, firsts-end}
 use Rattle.schedule.proofs.schedule.are_firsts_rising.Given as goal
 
 abbrev pub invariant-loop-i : goal.invariant-loop-i

@@ -1,6 +1,5 @@
 -- `schedule::schedule::is_last_known` meets its contract.
 use borrow.Author.Tests.{not-true, not-false}
-use borrow.Author.Rules.{rules}
 use Rattle.schedule.specs.Schedule.{last_ok}
 use Rattle.schedule.proofs.schedule.is_last_known.Goals as goal
 

@@ -6,7 +6,6 @@ use mathlib.Core.Bool.{true}
 use lib.ListN.{length, drop, length-drop}
 use lib.Seq.{take_all}
 use borrow.Author.Tests.{not-true, not-false}
-use borrow.Author.Rules.{rules}
 use Rattle.map.specs.Rows.{well_rowed}
 use Rattle.record.specs.Record.{field_row, field_ok}
 use Rattle.record.proofs.Laws.{fitting}

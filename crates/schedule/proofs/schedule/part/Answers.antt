@@ -2,7 +2,6 @@
 use Prim.Native.Nat.{◌+◌, ◌-◌}
 use native.Mathlib.Omega.{arith}
 use mathlib.Core.Path.{◌≡◌}
-use borrow.Author.Rules.{rules}
 use Rattle.schedule.proofs.Laws.{part_most}
 use Rattle.schedule.proofs.schedule.part.Goals as goal
 

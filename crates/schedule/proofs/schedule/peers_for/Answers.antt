@@ -3,8 +3,7 @@ use Prim.Native.Nat.{◌<◌}
 use native.Mathlib.Omega.{arith}
 use mathlib.Core.Path.{◌≡◌, ap, sym, ◌∙◌}
 use mathlib.Core.Option.{some}
-use lib.ListN.{length, take, length-take, length-map}
-use borrow.Author.Rules.{rules}
+use lib.ListN.{length, take, length-take}
 use Rattle.map.specs.Rows.{peers_of}
 use Rattle.schedule.specs.Schedule.{span_for, peers_for}
 use Rattle.schedule.specs.Code.{schedule_of, peer_bytes, index_of}

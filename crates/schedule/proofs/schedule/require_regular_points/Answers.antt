@@ -5,7 +5,6 @@ use mathlib.Core.Path.{◌≡◌, ap, sym, ◌∙◌}
 use mathlib.Core.List.{List}
 use mathlib.Core.Option.{some}
 use borrow.Author.Tests.{eq-eqb, ne_eqb}
-use borrow.Author.Rules.{rules}
 use Rattle.schedule.specs.Schedule.{span_for, require_regular_points}
 use Rattle.schedule.specs.Code.{schedule_of, index_of}
 use Rattle.schedule.proofs.Laws.{span-past}

@@ -2,7 +2,6 @@
 use Prim.Native.Nat.{◌≤◌}
 use native.Mathlib.Omega.{arith}
 use lib.ListN.{length}
-use borrow.Author.Rules.{rules}
 use Rattle.schedule.proofs.Laws.{span-field}
 use Rattle.schedule.proofs.schedule.span_at.Goals as goal
 use Rattle.schedule.proofs.schedule.span_at.Goals.{After-content_at-content}

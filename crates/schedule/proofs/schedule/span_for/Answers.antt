@@ -1,9 +1,9 @@
 -- `schedule::schedule::span_for` meets its contract. The invariant: the span is one of the first `k`, if there is one.
-use Prim.Native.Nat.{ℕ, ◌≤◌}
+use Prim.Native.Nat.{ℕ}
 use native.Mathlib.Omega.{arith}
 use mathlib.Core.Path.{◌≡◌, refl, ap, sym, ◌∙◌}
 use mathlib.Core.List.{List}
-use lib.ListN.{length, take, length-map}
+use lib.ListN.{length, take}
 use borrow.Author.Rules.{rules}
 use Rattle.schedule.specs.declared.schedule.Span as code
 use Rattle.schedule.specs.Schedule.{last_started, span_for}

@@ -1,14 +1,10 @@
 -- `schedule::schedule::span_for` meets its contract. The invariant: the span is one of the first `k`, if there is one.
 use Prim.Native.Nat.{ℕ, ◌≤◌}
-use native.Mathlib.Omega.{arith}
-use mathlib.Core.Path.{◌≡◌, refl, ap, sym, ◌∙◌}
+use mathlib.Core.Path.{◌≡◌}
 use mathlib.Core.List.{List}
-use lib.ListN.{length, take, length-map}
-use borrow.Author.Rules.{rules}
-use Rattle.schedule.specs.declared.schedule.Span as code
-use Rattle.schedule.specs.Schedule.{last_started, span_for}
-use Rattle.schedule.specs.Code.{spans_of, schedule_of}
-use Rattle.schedule.proofs.Laws.{take-most, last-here, last-before, span-past, span-known}
+use lib.ListN.{take}
+use Rattle.schedule.specs.Schedule.{last_started}
+use Rattle.schedule.specs.Code.{spans_of}
 use Rattle.schedule.proofs.schedule.span_for.Given as goal
 
 abbrev pub invariant-loop-k : goal.invariant-loop-k

@@ -1,5 +1,4 @@
 -- `DepView::top` meets its contract.
-use borrow.Author.Rules.{rules}
 use Rattle.judge_valid.proofs.view.DepView.top.Goals as goal
 
 pub returns-in-Proof : goal.returns-in-Proof

@@ -1,5 +1,4 @@
 -- `PointView::links` meets its contract.
-use borrow.Author.Rules.{rules}
 use Rattle.judge_valid.proofs.view.PointView.links.Goals as goal
 
 pub returns-in-Proof : goal.returns-in-Proof

@@ -1,5 +1,4 @@
 -- `PointRole::is_anchor_trigger` meets its contract.
-use borrow.Author.Rules.{rules}
 use Rattle.point.proofs.data.PointRole.is_anchor_trigger.Goals as goal
 
 pub returns-in-AnchorProof : goal.returns-in-AnchorProof

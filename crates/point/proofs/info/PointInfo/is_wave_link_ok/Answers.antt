@@ -1,8 +1,7 @@
 -- `PointInfo::is_wave_link_ok` meets its contract, role by role.
 use mathlib.Core.Path.{◌≡◌, ap, sym, ◌∙◌}
-use mathlib.Core.Bool.{Bool, not, ◌&&◌, and_assoc, true, false}
+use mathlib.Core.Bool.{Bool, not, ◌&&◌, true, false}
 use mathlib.Core.Logic.{◌⊎◌, inl, inr}
-use borrow.Author.Rules.{rules}
 use Rattle.point.specs.Point.{is_wave_link_ok, is_wave_far_enough}
 use Rattle.point.specs.Code.{link_of}
 use Rattle.point.proofs.Laws.{later-proof}
@@ -21,9 +20,9 @@ far : (c : Joined-has_prev_point) →
     let a = c.args in
     c.if-has_prev_point.result ≡ (a.is_leader && (a.has_prev_point && is_wave_far_enough a.self.id.round (link_of a.self.anchor_proof)))
 far c = elim c.if-has_prev_point.branch [
-  then-has_prev_point w ↦ all_tested _ _ _ _ w.if-has_prev_point.true (w.result-is ∙ c.is_wave_far_enough-far.ensures)
+  | then-has_prev_point w ↦ all_tested _ _ _ _ w.if-has_prev_point.true (w.result-is ∙ c.is_wave_far_enough-far.ensures)
   | else-has_prev_point w ↦ one_failed _ _ _ _ w.if-has_prev_point.either (w.result-is ∙ w.if-has_prev_point.false-raw)
-  ]
+]
 
 pub returns-after-has_prev_point : goal.returns-after-has_prev_point
 unfolding is_wave_link_ok

@@ -1,5 +1,4 @@
 -- `PointInfo::sticky_anchors` meets its contract.
-use borrow.Author.Rules.{rules}
 use Rattle.point.proofs.info.PointInfo.sticky_anchors.Goals as goal
 
 pub returns-in-AnchorProof : goal.returns-in-AnchorProof

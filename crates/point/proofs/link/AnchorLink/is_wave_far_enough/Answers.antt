@@ -1,5 +1,4 @@
 -- `AnchorLink::is_wave_far_enough` meets its contract.
-use borrow.Author.Rules.{rules}
 use Rattle.point.proofs.link.AnchorLink.is_wave_far_enough.Goals as goal
 
 pub returns-in-Indirect : goal.returns-in-Indirect

@@ -1,5 +1,4 @@
 -- `Through::round` meets its contract.
-use borrow.Author.Rules.{rules}
 use Rattle.point.proofs.link.Through.round.Goals as goal
 
 pub returns-in-Includes : goal.returns-in-Includes
