@@ -5,6 +5,8 @@
 ghost use Rattle.std.specs.Prelude.{◌≡◌, ◌≤◌, length};
 ghost use Rattle.case_files.specs.Code.{head_of, HeadRead, BlobRead};
 
+use std::io::Read;
+
 // What stands in front of a case's blobs, if there is another case.
 #[derive(Clone, Copy)]
 pub struct Head {
@@ -43,46 +45,61 @@ fn head_of(two: [u8; 2], n: usize) -> Head
     }
 }
 
-pub fn read_head(fd: i32) -> Head
+// Reads until a buffer is full, the file ends or a read fails, and says how many bytes it put at the front.
+fn read_full<R: Read>(file: &mut R, buf: &mut [u8]) -> usize
+    ensures { result ≤ length buf.new }
+{
+    let mut done = 0;
+    while done < buf.len() {
+        match file.read(&mut buf[done..]) {
+            Ok(0) => return done,
+            Ok(n) => done += n,
+            Err(_) => return done,
+        }
+    }
+    done
+}
+
+pub fn read_head<R: Read>(file: &mut R) -> Head
     ensures { HeadRead result }
 {
     let mut two = [0u8; 2];
-    let n = io::read_full(fd, &mut two);
+    let n = read_full(file, &mut two);
     head_of(two, n)
 }
 
-fn read_length(fd: i32) -> usize {
+fn read_length<R: Read>(file: &mut R) -> usize {
     let mut four = [0u8; 4];
-    io::read_full(fd, &mut four);
+    read_full(file, &mut four);
     parts::u32_at(&four, 0) as usize
 }
 
 // Reads n bytes, for nothing.
-fn skip(fd: i32, n: usize, buf: &mut [u8]) {
+fn skip<R: Read>(file: &mut R, n: usize, buf: &mut [u8]) {
     let mut rest = n;
     while buf.len() < rest {
-        let got = io::read_full(fd, buf);
+        let got = read_full(file, buf);
         if got == 0 {
             return;
         }
         rest -= got;
     }
-    io::read_full(fd, &mut buf[0..rest]);
+    read_full(file, &mut buf[0..rest]);
 }
 
 // Reads the next blob to a place of the buffer. One for which there is no room is passed over. Where no blob is there, the
 // buffer holds nothing of use.
-pub fn read_blob(fd: i32, buf: &mut [u8], at: usize) -> Blob
+pub fn read_blob<R: Read>(file: &mut R, buf: &mut [u8], at: usize) -> Blob
     requires { at ≤ length buf.old }
     ensures { BlobRead buf.old at buf.new result }
 {
-    let n = read_length(fd);
+    let n = read_length(file);
     if buf.len() - at < n {
-        skip(fd, n, buf);
+        skip(file, n, buf);
         return NO_BLOB;
     }
     let end = at + n;
-    let got = io::read_full(fd, &mut buf[at..end]);
+    let got = read_full(file, &mut buf[at..end]);
     if got < n {
         return NO_BLOB;
     }

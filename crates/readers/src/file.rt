@@ -6,6 +6,7 @@ use crate::mix::add;
 use crate::tally::Tally;
 use crate::{damage, tally};
 use case_files::Head;
+use std::io::Read;
 
 const RECORDS_DAMAGED: u64 = 20;
 
@@ -99,35 +100,35 @@ fn too_long(c: Counts, blob: Blob) -> Counts {
 }
 
 // Reads one blob and counts what it is; one that is longer than the buffer is passed over.
-fn run_blob(c: Counts, fd: i32, blob: Blob, buf: &mut [u8]) -> Counts {
-    let read = case_files::read_blob(fd, buf, 0);
+fn run_blob<R: Read>(c: Counts, file: &mut R, blob: Blob, buf: &mut [u8]) -> Counts {
+    let read = case_files::read_blob(file, buf, 0);
     if !read.is_there {
         return too_long(c, blob);
     }
     count(c, blob, buf, read.end)
 }
 
-fn run_case(c: Counts, fd: i32, head: Head, buf: &mut [u8]) -> Counts {
+fn run_case<R: Read>(c: Counts, file: &mut R, head: Head, buf: &mut [u8]) -> Counts {
     let mut c = c;
     c.cases = add(c.cases, 1);
     let mut i = 0;
     while i < head.blobs {
-        c = run_blob(c, fd, blob_at(head.kind, i), buf);
+        c = run_blob(c, file, blob_at(head.kind, i), buf);
         i += 1;
     }
     c
 }
 
 // A proved loop has to end, and nothing says that a file does: so the turns are counted down.
-pub fn run(fd: i32, buf: &mut [u8]) -> Counts {
+pub fn run<R: Read>(file: &mut R, buf: &mut [u8]) -> Counts {
     let mut c = NONE;
     let mut turns = u64::MAX;
     while 0 < turns {
-        let head = case_files::read_head(fd);
+        let head = case_files::read_head(file);
         if !head.is_there {
             return c;
         }
-        c = run_case(c, fd, head, buf);
+        c = run_case(c, file, head, buf);
         turns -= 1;
     }
     c

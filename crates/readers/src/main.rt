@@ -10,51 +10,64 @@ mod schedule_sum;
 mod tally;
 
 use file::Counts;
-use libc::STDOUT_FILENO;
 use mix::mix;
+use std::env::Env;
+use std::fs::File;
+use std::io;
 
-fn line(name: &[u8], n: u64) {
-    io::write_all(STDOUT_FILENO, name);
-    io::write_all(STDOUT_FILENO, b" ");
-    io::print_decimal(STDOUT_FILENO, n);
-    io::write_all(STDOUT_FILENO, b"\n");
+// What holds any path.
+const PATH: usize = 4096;
+
+const BUFFER: usize = 65536;
+
+fn line(rt: &impl Print, name: &str, n: u64) -> io::Result<()> {
+    println!(rt; "{name} {n}")
 }
 
-fn report_cases(c: Counts) {
+fn report_cases(rt: &impl Print, c: Counts) -> io::Result<()> {
     let settings = c.settings;
     let schedules = c.schedules;
     let records = c.records;
     let sum = mix(mix(mix(0, settings.sum), schedules.sum), records.sum);
-    line(b"cases", c.cases);
-    line(b"too long", c.too_long);
-    line(b"settings usable", settings.readable);
-    line(b"settings unusable", settings.unreadable);
-    line(b"schedules readable", schedules.readable);
-    line(b"schedules unreadable", schedules.unreadable);
-    line(b"records readable", records.readable);
-    line(b"records unreadable", records.unreadable);
-    line(b"sum", sum);
+    line(rt, "cases", c.cases)?;
+    line(rt, "too long", c.too_long)?;
+    line(rt, "settings usable", settings.readable)?;
+    line(rt, "settings unusable", settings.unreadable)?;
+    line(rt, "schedules readable", schedules.readable)?;
+    line(rt, "schedules unreadable", schedules.unreadable)?;
+    line(rt, "records readable", records.readable)?;
+    line(rt, "records unreadable", records.unreadable)?;
+    line(rt, "sum", sum)
 }
 
-fn report_copies(c: Counts) {
+fn report_copies(rt: &impl Print, c: Counts) -> io::Result<()> {
     let copies = c.copies;
-    line(b"records damaged", c.damaged);
-    line(b"damaged copies readable", copies.readable);
-    line(b"damaged copies unreadable", copies.unreadable);
-    line(b"damaged copies sum", copies.sum);
+    line(rt, "records damaged", c.damaged)?;
+    line(rt, "damaged copies readable", copies.readable)?;
+    line(rt, "damaged copies unreadable", copies.unreadable)?;
+    line(rt, "damaged copies sum", copies.sum)
 }
 
-fn main() {
-    let mut path = io::buffer();
-    let length = os::arg(1, &mut path);
-    let fd = os::open_read(&path[..length]);
-    if fd < 0 {
-        os::fail(&path[..length]);
-        return;
+// The first argument, in a buffer; nothing where there is none that is text of the buffer's length.
+fn argument<'a>(rt: &impl Env, buf: &'a mut [u8]) -> &'a str {
+    let Ok(n) = rt.arg(1, buf) else {
+        return "";
+    };
+    match std::str::from_utf8(&buf[..n]) {
+        Ok(path) => path,
+        Err(_) => "",
     }
-    let mut buf = io::large_buffer();
-    let counts = file::run(fd, &mut buf);
-    report_cases(counts);
-    report_copies(counts);
-    libc::close(fd);
+}
+
+fn main(rt: HostRuntime) -> io::Result<()> {
+    let mut path = [0u8; PATH];
+    let path = argument(&rt, &mut path);
+    let mut file = match File::open(&rt, path) {
+        Ok(file) => file,
+        Err(e) => return eprintln!(rt; "{path}: {e}"),
+    };
+    let mut buf = [0u8; BUFFER];
+    let counts = file::run(&mut file, &mut buf);
+    report_cases(&rt, counts)?;
+    report_copies(&rt, counts)
 }

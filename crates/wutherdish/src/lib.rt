@@ -1,4 +1,4 @@
-// The calls for other languages, over the proved ones.
+// The calls for other languages, over the proved ones. Crate wutherdish_c exports them.
 #![tactic(auto)]
 
 ghost use Rattle.std.specs.Prelude.{◌≡◌, true, length};
@@ -13,8 +13,7 @@ use reasons::VerifyAnswer;
 
 // Verifies a point. Answers document 01's number, or 0 with the verdict in `answer` and the unknown peers in `peers`; with a
 // number no lent byte changes.
-#[unsafe(no_mangle)]
-pub extern "C" fn wutherdish_verify(
+pub fn wutherdish_verify(
     settings: &[u8],
     schedule: &[u8],
     rec: &[u8],
@@ -39,8 +38,7 @@ pub extern "C" fn wutherdish_verify(
 }
 
 // Judges a point by the list of its dependencies, in the order of their arrival; answers as verifying does.
-#[unsafe(no_mangle)]
-pub extern "C" fn wutherdish_judge(
+pub fn wutherdish_judge(
     settings: &[u8],
     schedule: &[u8],
     rec: &[u8],
@@ -72,8 +70,7 @@ pub extern "C" fn wutherdish_judge(
 }
 
 // Opens a book in a slice, with its settings. Answers 1, 5, or 0 where it is open; with a number no byte changes.
-#[unsafe(no_mangle)]
-pub extern "C" fn wutherdish_open(book: &mut [u8], settings: &[u8]) -> u8
+pub fn wutherdish_open(book: &mut [u8], settings: &[u8]) -> u8
     ensures number { result ≡ open_number settings.now (length book.old) }
     ensures opened { book.new ≡ open_bytes settings.now book.old }
 {
@@ -81,8 +78,7 @@ pub extern "C" fn wutherdish_open(book: &mut [u8], settings: &[u8]) -> u8
 }
 
 // Offers a point to a book, which keeps it unless the verdict is Fail; answers as verifying does.
-#[unsafe(no_mangle)]
-pub extern "C" fn wutherdish_offer(
+pub fn wutherdish_offer(
     book: &mut [u8],
     schedule: &[u8],
     leader: u8,
@@ -110,8 +106,7 @@ pub extern "C" fn wutherdish_offer(
 }
 
 // Answers which library this is: ABI, format, major and minor version, a byte each.
-#[unsafe(no_mangle)]
-pub extern "C" fn wutherdish_version() -> u32
+pub fn wutherdish_version() -> u32
     ensures { result ≡ version }
 {
     0x01010001

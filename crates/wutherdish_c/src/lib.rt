@@ -1,0 +1,94 @@
+// The calls of crate wutherdish, exported to C under the same names: a static library.
+#![tactic(auto)]
+
+ghost use Rattle.std.specs.Prelude.{◌≡◌, true, length};
+ghost use Rattle.rules.specs.Judge.{tested, verify_with, verify_buffer, flags_ok, judge_with};
+ghost use Rattle.books.specs.Calls.{open_number, open_bytes, offer_bytes};
+ghost use Rattle.books.specs.Offer.{offer_of};
+ghost use Rattle.rules.specs.Answer.{verify_number, verify_answer, judge_number, judge_answer};
+ghost use Rattle.wutherdish.specs.Version.{version};
+
+// Verifies a point. Answers document 01's number, or 0 with the verdict in `answer` and the unknown peers in `peers`; with a
+// number no lent byte changes.
+#[unsafe(no_mangle)]
+pub extern "C" fn wutherdish_verify(
+    settings: &[u8],
+    schedule: &[u8],
+    rec: &[u8],
+    peers: &mut [u8],
+    answer: &mut [u8; 114],
+) -> u8
+    ensures number { result ≡ verify_number
+        (verify_with (tested settings.now schedule.now rec.now true (length peers.old))) }
+    ensures told { answer.new ≡ verify_answer
+        (verify_with (tested settings.now schedule.now rec.now true (length peers.old))) answer.old }
+    ensures buffer { peers.new ≡ verify_buffer
+        (tested settings.now schedule.now rec.now true (length peers.old)) peers.old }
+{
+    wutherdish::wutherdish_verify(settings, schedule, rec, peers, answer)
+}
+
+// Judges a point by the list of its dependencies, in the order of their arrival; answers as verifying does.
+#[unsafe(no_mangle)]
+pub extern "C" fn wutherdish_judge(
+    settings: &[u8],
+    schedule: &[u8],
+    rec: &[u8],
+    leader: u8,
+    presence: u8,
+    list: &[u8],
+    peers: &mut [u8],
+    answer: &mut [u8; 114],
+) -> u8
+    ensures number { result ≡ judge_number
+        (judge_with leader presence list.now
+        (tested settings.now schedule.now rec.now (flags_ok leader presence) (length peers.old))) }
+    ensures told { answer.new ≡ judge_answer
+        (judge_with leader presence list.now
+        (tested settings.now schedule.now rec.now (flags_ok leader presence) (length peers.old)))
+        answer.old }
+    ensures buffer { peers.new ≡ verify_buffer
+        (tested settings.now schedule.now rec.now (flags_ok leader presence) (length peers.old))
+        peers.old }
+{
+    wutherdish::wutherdish_judge(settings, schedule, rec, leader, presence, list, peers, answer)
+}
+
+// Opens a book in a slice, with its settings. Answers 1, 5, or 0 where it is open; with a number no byte changes.
+#[unsafe(no_mangle)]
+pub extern "C" fn wutherdish_open(book: &mut [u8], settings: &[u8]) -> u8
+    ensures number { result ≡ open_number settings.now (length book.old) }
+    ensures opened { book.new ≡ open_bytes settings.now book.old }
+{
+    wutherdish::wutherdish_open(book, settings)
+}
+
+// Offers a point to a book, which keeps it unless the verdict is Fail; answers as verifying does.
+#[unsafe(no_mangle)]
+pub extern "C" fn wutherdish_offer(
+    book: &mut [u8],
+    schedule: &[u8],
+    leader: u8,
+    rec: &[u8],
+    peers: &mut [u8],
+    answer: &mut [u8; 114],
+) -> u8
+    ensures number { result ≡ judge_number
+        (offer_bytes book.old (offer_of schedule.now leader rec.now peers.old)).answer }
+    ensures told { answer.new ≡ judge_answer
+        (offer_bytes book.old (offer_of schedule.now leader rec.now peers.old)).answer answer.old }
+    ensures buffer { peers.new ≡ (offer_bytes book.old
+        (offer_of schedule.now leader rec.now peers.old)).peers }
+    ensures left { book.new ≡ (offer_bytes book.old
+        (offer_of schedule.now leader rec.now peers.old)).after }
+{
+    wutherdish::wutherdish_offer(book, schedule, leader, rec, peers, answer)
+}
+
+// Answers which library this is: ABI, format, major and minor version, a byte each.
+#[unsafe(no_mangle)]
+pub extern "C" fn wutherdish_version() -> u32
+    ensures { result ≡ version }
+{
+    wutherdish::wutherdish_version()
+}
