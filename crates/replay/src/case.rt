@@ -1,5 +1,6 @@
 // One case in a buffer, its blobs one after another.
 use case_files::Head;
+use std::io::Read;
 
 // Blob i stands from ends[i] to ends[i + 1].
 #[derive(Clone, Copy)]
@@ -17,13 +18,13 @@ pub fn without_first(head: Head) -> Head {
     head
 }
 
-pub fn read_case(fd: i32, head: Head, buf: &mut [u8]) -> Case {
+pub fn read_case<R: Read>(file: &mut R, head: Head, buf: &mut [u8]) -> Case {
     let mut ends = [0usize; 9];
     let mut is_whole = true;
     let mut end = 0;
     let mut i = 0;
     while i < head.blobs {
-        let blob = case_files::read_blob(fd, buf, end);
+        let blob = case_files::read_blob(file, buf, end);
         end = blob.end;
         is_whole = is_whole && blob.is_there;
         i += 1;

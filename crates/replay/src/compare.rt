@@ -107,38 +107,46 @@ fn is_expected(want: &[u8], number: u8, answer: &[u8; 114], peers: &[u8]) -> boo
     is_number(want, answer, peers)
 }
 
-fn show(place: u64, want: &[u8], number: u8, answer: &[u8; 114], peers: &[u8]) {
-    print::difference(b"first difference: case", place);
-    print::named_bytes(b"expected ", want);
-    print::named_byte(b"number ", number);
-    print::named_bytes(b"answer ", answer);
-    print::named_bytes(b"peers ", peers);
+fn show(rt: &impl Eprint, place: u64, want: &[u8], number: u8, answer: &[u8; 114], peers: &[u8]) {
+    print::difference(rt, "first difference: case", place);
+    print::named_bytes(rt, "expected ", want);
+    print::named_byte(rt, "number ", number);
+    print::named_bytes(rt, "answer ", answer);
+    print::named_bytes(rt, "peers ", peers);
 }
 
 // Counts a difference, and shows the first on standard error: the cases that are wrong on purpose all differ.
-pub fn compare(c: Counts, want: &[u8], number: u8, answer: &[u8; 114], peers: &[u8]) -> Counts {
+pub fn compare(
+    rt: &impl Eprint,
+    c: Counts,
+    want: &[u8],
+    number: u8,
+    answer: &[u8; 114],
+    peers: &[u8],
+) -> Counts {
     if is_expected(want, number, answer, peers) {
         return c;
     }
     if c.different == 0 {
-        show(c.place, want, number, answer, peers);
+        show(rt, c.place, want, number, answer, peers);
     }
     counts::one_different(c)
 }
 
 // The same of what needs no bytes to show.
-fn count(c: Counts, is_expected: bool, what: &[u8]) -> Counts {
+fn count(rt: &impl Eprint, c: Counts, is_expected: bool, what: &str) -> Counts {
     if is_expected {
         return c;
     }
     if c.different == 0 {
-        print::difference(what, c.place);
+        print::difference(rt, what, c.place);
     }
     counts::one_different(c)
 }
 
 // The same of an offer, told whether the book's bytes are those that the case expects.
 pub fn compare_offered(
+    rt: &impl Eprint,
     c: Counts,
     want: &[u8],
     number: u8,
@@ -147,19 +155,25 @@ pub fn compare_offered(
     is_book: bool,
 ) -> Counts {
     if is_expected(want, number, answer, peers) {
-        return count(c, is_book, b"first difference: the book's bytes in case");
+        return count(rt, c, is_book, "first difference: the book's bytes in case");
     }
-    compare(c, want, number, answer, peers)
+    compare(rt, c, want, number, answer, peers)
 }
 
 // The same of an opening, told whether the slice is as that number leaves it.
-pub fn compare_opened(c: Counts, want: &[u8], number: u8, is_laid_out: bool) -> Counts {
+pub fn compare_opened(
+    rt: &impl Eprint,
+    c: Counts,
+    want: &[u8],
+    number: u8,
+    is_laid_out: bool,
+) -> Counts {
     let is_expected = is_laid_out && is_same(want, &[number]);
-    count(c, is_expected, b"first difference: opening in case")
+    count(rt, c, is_expected, "first difference: opening in case")
 }
 
 // Counts a case for which there is no room apart, and says so: no call was made, so nothing was found different.
-pub fn no_room(c: Counts) -> Counts {
-    print::difference(b"no room: case", c.place);
+pub fn no_room(rt: &impl Eprint, c: Counts) -> Counts {
+    print::difference(rt, "no room: case", c.place);
     counts::one_no_room(c)
 }

@@ -2,70 +2,102 @@
 use crate::counts::Counts;
 use crate::{case, compare, counts, judge_case, offer_case, open_case, verify_case};
 use case_files::Head;
+use std::io::Read;
 
-fn run_verify(c: Counts, fd: i32, head: Head, buf: &mut [u8], peers: &mut [u8]) -> Counts {
+fn run_verify<R: Read>(
+    rt: &impl Eprint,
+    c: Counts,
+    file: &mut R,
+    head: Head,
+    buf: &mut [u8],
+    peers: &mut [u8],
+) -> Counts {
     let c = counts::one_verify(c);
-    let case = case::read_case(fd, head, buf);
+    let case = case::read_case(file, head, buf);
     if !case.is_whole {
-        return compare::no_room(c);
+        return compare::no_room(rt, c);
     }
-    verify_case::replay(c, case, buf, peers)
+    verify_case::replay(rt, c, case, buf, peers)
 }
 
-fn run_judge(c: Counts, fd: i32, head: Head, buf: &mut [u8], peers: &mut [u8]) -> Counts {
+fn run_judge<R: Read>(
+    rt: &impl Eprint,
+    c: Counts,
+    file: &mut R,
+    head: Head,
+    buf: &mut [u8],
+    peers: &mut [u8],
+) -> Counts {
     let c = counts::one_judge(c);
-    let case = case::read_case(fd, head, buf);
+    let case = case::read_case(file, head, buf);
     if !case.is_whole {
-        return compare::no_room(c);
+        return compare::no_room(rt, c);
     }
-    judge_case::replay(c, case, buf, peers)
+    judge_case::replay(rt, c, case, buf, peers)
 }
 
-fn run_open(c: Counts, fd: i32, head: Head, buf: &mut [u8], book: &mut [u8]) -> Counts {
+fn run_open<R: Read>(
+    rt: &impl Eprint,
+    c: Counts,
+    file: &mut R,
+    head: Head,
+    buf: &mut [u8],
+    book: &mut [u8],
+) -> Counts {
     let c = counts::one_open(c);
-    let case = case::read_case(fd, head, buf);
+    let case = case::read_case(file, head, buf);
     if !case.is_whole {
-        return compare::no_room(c);
+        return compare::no_room(rt, c);
     }
-    open_case::replay(c, case, buf, book)
+    open_case::replay(rt, c, case, buf, book)
 }
 
 // The same in a slice of its own: the book that offers go to stays.
-fn run_apart(c: Counts, fd: i32, head: Head, buf: &mut [u8], spare: &mut [u8]) -> Counts {
-    let opened = run_open(c, fd, head, buf, spare);
+fn run_apart<R: Read>(
+    rt: &impl Eprint,
+    c: Counts,
+    file: &mut R,
+    head: Head,
+    buf: &mut [u8],
+    spare: &mut [u8],
+) -> Counts {
+    let opened = run_open(rt, c, file, head, buf, spare);
     counts::with_book(opened, c.book)
 }
 
-fn run_offer(
+fn run_offer<R: Read>(
+    rt: &impl Eprint,
     c: Counts,
-    fd: i32,
+    file: &mut R,
     head: Head,
     buf: &mut [u8],
     peers: &mut [u8],
     book: &mut [u8],
 ) -> Counts {
     let c = counts::one_offer(c);
-    let case = case::read_case(fd, head, buf);
+    let case = case::read_case(file, head, buf);
     let n = c.book;
     if !case.is_whole || book.len() < n {
-        return compare::no_room(c);
+        return compare::no_room(rt, c);
     }
-    offer_case::replay(c, case, buf, peers, &mut book[0..n])
+    offer_case::replay(rt, c, case, buf, peers, &mut book[0..n])
 }
 
 // The book is the first blob, and is read into a slice of its own.
-fn run_given(
+fn run_given<R: Read>(
+    rt: &impl Eprint,
     c: Counts,
-    fd: i32,
+    file: &mut R,
     head: Head,
     buf: &mut [u8],
     peers: &mut [u8],
     spare: &mut [u8],
 ) -> Counts {
-    let given = case_files::read_blob(fd, spare, 0);
+    let given = case_files::read_blob(file, spare, 0);
     let offered = run_offer(
+        rt,
         counts::with_book(c, given.end),
-        fd,
+        file,
         case::without_first(head),
         buf,
         peers,
@@ -74,14 +106,15 @@ fn run_given(
     counts::with_book(offered, c.book)
 }
 
-fn run_other(c: Counts, fd: i32, head: Head, buf: &mut [u8]) -> Counts {
-    case::read_case(fd, head, buf);
+fn run_other<R: Read>(c: Counts, file: &mut R, head: Head, buf: &mut [u8]) -> Counts {
+    case::read_case(file, head, buf);
     counts::one_other(c)
 }
 
-fn run_case(
+fn run_case<R: Read>(
+    rt: &impl Eprint,
     c: Counts,
-    fd: i32,
+    file: &mut R,
     head: Head,
     buf: &mut [u8],
     peers: &mut [u8],
@@ -91,26 +124,33 @@ fn run_case(
     let c = counts::next_place(c);
     let kind = head.kind;
     match kind {
-        1 => run_verify(c, fd, head, buf, peers),
-        2 => run_judge(c, fd, head, buf, peers),
-        3 => run_apart(c, fd, head, buf, spare),
-        4 => run_open(c, fd, head, buf, book),
-        5 => run_offer(c, fd, head, buf, peers, book),
-        6 => run_given(c, fd, head, buf, peers, spare),
-        _ => run_other(c, fd, head, buf),
+        1 => run_verify(rt, c, file, head, buf, peers),
+        2 => run_judge(rt, c, file, head, buf, peers),
+        3 => run_apart(rt, c, file, head, buf, spare),
+        4 => run_open(rt, c, file, head, buf, book),
+        5 => run_offer(rt, c, file, head, buf, peers, book),
+        6 => run_given(rt, c, file, head, buf, peers, spare),
+        _ => run_other(c, file, head, buf),
     }
 }
 
 // A proved loop has to end, and nothing says that a file does: so the turns are counted down.
-pub fn run(fd: i32, buf: &mut [u8], peers: &mut [u8], book: &mut [u8], spare: &mut [u8]) -> Counts {
+pub fn run<R: Read>(
+    rt: &impl Eprint,
+    file: &mut R,
+    buf: &mut [u8],
+    peers: &mut [u8],
+    book: &mut [u8],
+    spare: &mut [u8],
+) -> Counts {
     let mut c = counts::NONE;
     let mut turns = u64::MAX;
     while 0 < turns {
-        let head = case_files::read_head(fd);
+        let head = case_files::read_head(file);
         if !head.is_there {
             return c;
         }
-        c = run_case(c, fd, head, buf, peers, book, spare);
+        c = run_case(rt, c, file, head, buf, peers, book, spare);
         turns -= 1;
     }
     c

@@ -4,7 +4,15 @@ use crate::compare::LENT;
 use crate::counts::Counts;
 use crate::{case, compare, verify_case};
 
-fn call(c: Counts, case: Case, buf: &[u8], leader: u8, presence: u8, peers: &mut [u8]) -> Counts {
+fn call(
+    rt: &impl Eprint,
+    c: Counts,
+    case: Case,
+    buf: &[u8],
+    leader: u8,
+    presence: u8,
+    peers: &mut [u8],
+) -> Counts {
     verify_case::fill(peers, LENT);
     let mut answer = [LENT; 114];
     let number = wutherdish::wutherdish_judge(
@@ -17,17 +25,17 @@ fn call(c: Counts, case: Case, buf: &[u8], leader: u8, presence: u8, peers: &mut
         peers,
         &mut answer,
     );
-    compare::compare(c, case::blob(buf, case, 6), number, &answer, peers)
+    compare::compare(rt, c, case::blob(buf, case, 6), number, &answer, peers)
 }
 
-pub fn replay(c: Counts, case: Case, buf: &[u8], peers: &mut [u8]) -> Counts {
+pub fn replay(rt: &impl Eprint, c: Counts, case: Case, buf: &[u8], peers: &mut [u8]) -> Counts {
     let flags = case::blob(buf, case, 3);
     if flags.len() != 2 {
-        return compare::no_room(c);
+        return compare::no_room(rt, c);
     }
     let n = verify_case::length_of(case::blob(buf, case, 5));
     if peers.len() < n {
-        return compare::no_room(c);
+        return compare::no_room(rt, c);
     }
-    call(c, case, buf, flags[0], flags[1], &mut peers[0..n])
+    call(rt, c, case, buf, flags[0], flags[1], &mut peers[0..n])
 }

@@ -7,6 +7,8 @@
 // oracle/README.md says how the two are made. Of no file may there be a case for which there is no room.
 #![tactic(auto)]
 
+ghost use Rattle.std.specs.Prelude.{◌≤◌, length, IfOk};
+
 mod case;
 mod compare;
 mod counts;
@@ -19,51 +21,86 @@ mod sha256;
 mod verify_case;
 
 use counts::Counts;
-use libc::STDOUT_FILENO;
 use print::line;
+use std::env::{Env, FillError};
+use std::fs::File;
+use std::io;
+use std::rt::Files;
 
 // A case, and the peers that a call hands back.
 const CASE_ROOM: usize = 1048576;
 
 const PEERS_ROOM: usize = 16384;
 
-fn report(c: Counts) {
-    line(b"verify cases", c.verify);
-    line(b"judge cases", c.judge);
-    line(b"openings", c.open);
-    line(b"offers", c.offer);
-    line(b"other cases", c.other);
-    line(b"no room", c.no_room);
-    print::share(b"different", c.different, c.place);
+const BOOK_ROOM: usize = 65536;
+
+// What holds any path.
+const PATH: usize = 4096;
+
+fn report(rt: &impl Print, c: Counts) -> io::Result<()> {
+    line(rt, "verify cases", c.verify)?;
+    line(rt, "judge cases", c.judge)?;
+    line(rt, "openings", c.open)?;
+    line(rt, "offers", c.offer)?;
+    line(rt, "other cases", c.other)?;
+    line(rt, "no room", c.no_room)?;
+    print::share(rt, "different", c.different, c.place)
 }
 
-fn run_file(i: usize, buf: &mut [u8], peers: &mut [u8], book: &mut [u8], spare: &mut [u8]) {
-    let mut path = io::buffer();
-    let length = os::arg(i, &mut path);
-    let fd = os::open_read(&path[..length]);
-    if fd < 0 {
-        os::fail(&path[..length]);
-        return;
+fn run_file<R: Files + Print + Eprint>(
+    rt: &R,
+    path: &str,
+    buf: &mut [u8],
+    peers: &mut [u8],
+    book: &mut [u8],
+    spare: &mut [u8],
+) -> io::Result<()> {
+    let mut file = match File::open(rt, path) {
+        Ok(file) => file,
+        Err(e) => {
+            let _ = eprintln!(rt; "{path}: {e}");
+            return Ok(());
+        }
+    };
+    println!(rt; "{path}")?;
+    report(rt, file::run(rt, &mut file, buf, peers, book, spare))
+}
+
+// The text of what was read of an argument: nothing where it is none, or longer than the buffer.
+fn text_of(read: Result<usize, FillError>, buf: &[u8]) -> &str
+    requires { IfOk read (λ n. n ≤ length buf.now) }
+{
+    let Ok(n) = read else {
+        return "";
+    };
+    match std::str::from_utf8(&buf[..n]) {
+        Ok(text) => text,
+        Err(_) => "",
     }
-    io::write_all(STDOUT_FILENO, &path[..length]);
-    io::write_all(STDOUT_FILENO, b"\n");
-    report(file::run(fd, buf, peers, book, spare));
-    libc::close(fd);
 }
 
-fn run_files(buf: &mut [u8], peers: &mut [u8], book: &mut [u8], spare: &mut [u8]) {
-    let n = os::arg_count();
-    let mut i = 1;
-    while i < n {
-        run_file(i, buf, peers, book, spare);
-        i += 1;
+fn run_files<R: Env + Files + Print + Eprint>(
+    rt: &R,
+    buf: &mut [u8],
+    peers: &mut [u8],
+    book: &mut [u8],
+    spare: &mut [u8],
+) -> io::Result<()> {
+    let mut path = [0u8; PATH];
+    for i in 1..usize::MAX {
+        let read = rt.arg(i, &mut path);
+        if let Err(FillError::NotPresent) = read {
+            return Ok(());
+        }
+        run_file(rt, text_of(read, &path), buf, peers, book, spare)?;
     }
+    Ok(())
 }
 
-fn main() {
+fn main(rt: HostRuntime) -> io::Result<()> {
     let mut buf = [0u8; CASE_ROOM];
     let mut peers = [0u8; PEERS_ROOM];
-    let mut book = io::large_buffer();
-    let mut spare = io::large_buffer();
-    run_files(&mut buf, &mut peers, &mut book, &mut spare);
+    let mut book = [0u8; BOOK_ROOM];
+    let mut spare = [0u8; BOOK_ROOM];
+    run_files(&rt, &mut buf, &mut peers, &mut book, &mut spare)
 }

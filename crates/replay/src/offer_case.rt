@@ -6,6 +6,7 @@ use crate::counts::Counts;
 use crate::{case, compare, sha256, verify_case};
 
 fn call(
+    rt: &impl Eprint,
     c: Counts,
     case: Case,
     buf: &[u8],
@@ -24,17 +25,32 @@ fn call(
         &mut answer,
     );
     let is_book = sha256::is_digest(book, case::blob(buf, case, 4));
-    compare::compare_offered(c, case::blob(buf, case, 5), number, &answer, peers, is_book)
+    compare::compare_offered(
+        rt,
+        c,
+        case::blob(buf, case, 5),
+        number,
+        &answer,
+        peers,
+        is_book,
+    )
 }
 
-pub fn replay(c: Counts, case: Case, buf: &[u8], peers: &mut [u8], book: &mut [u8]) -> Counts {
+pub fn replay(
+    rt: &impl Eprint,
+    c: Counts,
+    case: Case,
+    buf: &[u8],
+    peers: &mut [u8],
+    book: &mut [u8],
+) -> Counts {
     let leader = case::blob(buf, case, 1);
     if leader.len() != 1 {
-        return compare::no_room(c);
+        return compare::no_room(rt, c);
     }
     let n = verify_case::length_of(case::blob(buf, case, 3));
     if peers.len() < n {
-        return compare::no_room(c);
+        return compare::no_room(rt, c);
     }
-    call(c, case, buf, leader[0], &mut peers[0..n], book)
+    call(rt, c, case, buf, leader[0], &mut peers[0..n], book)
 }

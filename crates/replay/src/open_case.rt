@@ -20,18 +20,18 @@ fn is_laid_out(number: u8, settings: &[u8], book: &[u8]) -> bool {
     compare::is_filled(&book[n..], 0)
 }
 
-fn call(c: Counts, case: Case, buf: &[u8], book: &mut [u8]) -> Counts {
+fn call(rt: &impl Eprint, c: Counts, case: Case, buf: &[u8], book: &mut [u8]) -> Counts {
     verify_case::fill(book, LENT);
     let settings = case::blob(buf, case, 0);
     let number = wutherdish::wutherdish_open(book, settings);
     let is_laid_out = is_laid_out(number, settings, book);
-    compare::compare_opened(c, case::blob(buf, case, 2), number, is_laid_out)
+    compare::compare_opened(rt, c, case::blob(buf, case, 2), number, is_laid_out)
 }
 
-pub fn replay(c: Counts, case: Case, buf: &[u8], book: &mut [u8]) -> Counts {
+pub fn replay(rt: &impl Eprint, c: Counts, case: Case, buf: &[u8], book: &mut [u8]) -> Counts {
     let n = verify_case::length_of(case::blob(buf, case, 1));
     if book.len() < n {
-        return compare::no_room(c);
+        return compare::no_room(rt, c);
     }
-    call(counts::with_book(c, n), case, buf, &mut book[0..n])
+    call(rt, counts::with_book(c, n), case, buf, &mut book[0..n])
 }

@@ -1,49 +1,35 @@
-// What is printed of numbers and bytes: counts to standard output, differences to standard error.
-use libc::{STDERR_FILENO, STDOUT_FILENO};
+// What is printed of numbers and bytes: counts to standard output, differences to standard error. What standard error does not take
+// is lost.
+use std::io;
 
-fn number(fd: i32, name: &[u8], n: u64) {
-    io::write_all(fd, name);
-    io::write_all(fd, b" ");
-    io::print_decimal(fd, n);
-}
-
-pub fn line(name: &[u8], n: u64) {
-    number(STDOUT_FILENO, name, n);
-    io::write_all(STDOUT_FILENO, b"\n");
+pub fn line(rt: &impl Print, name: &str, n: u64) -> io::Result<()> {
+    println!(rt; "{name} {n}")
 }
 
 // A count, and of how many.
-pub fn share(name: &[u8], n: u64, all: u64) {
-    number(STDOUT_FILENO, name, n);
-    number(STDOUT_FILENO, b" of", all);
-    io::write_all(STDOUT_FILENO, b"\n");
+pub fn share(rt: &impl Print, name: &str, n: u64, all: u64) -> io::Result<()> {
+    println!(rt; "{name} {n} of {all}")
 }
 
-pub fn difference(name: &[u8], place: u64) {
-    number(STDERR_FILENO, name, place);
-    io::write_all(STDERR_FILENO, b"\n");
+pub fn difference(rt: &impl Eprint, name: &str, place: u64) {
+    let _ = eprintln!(rt; "{name} {place}");
 }
 
-fn byte(x: u8) {
-    io::print_hex(STDERR_FILENO, x as u64, 2);
-}
-
-fn bytes(s: &[u8]) {
+fn bytes(rt: &impl Eprint, s: &[u8]) {
     let mut i = 0;
     while i < s.len() {
-        byte(s[i]);
+        let byte = s[i];
+        let _ = eprint!(rt; "{byte:02x}");
         i += 1;
     }
 }
 
-pub fn named_byte(name: &[u8], x: u8) {
-    io::write_all(STDERR_FILENO, name);
-    byte(x);
-    io::write_all(STDERR_FILENO, b"\n");
+pub fn named_byte(rt: &impl Eprint, name: &str, x: u8) {
+    let _ = eprintln!(rt; "{name}{x:02x}");
 }
 
-pub fn named_bytes(name: &[u8], s: &[u8]) {
-    io::write_all(STDERR_FILENO, name);
-    bytes(s);
-    io::write_all(STDERR_FILENO, b"\n");
+pub fn named_bytes(rt: &impl Eprint, name: &str, s: &[u8]) {
+    let _ = eprint!(rt; "{name}");
+    bytes(rt, s);
+    let _ = eprintln!(rt; "");
 }

@@ -20,7 +20,7 @@ pub fn length_of(s: &[u8]) -> usize {
     parts::u32_at(s, 0) as usize
 }
 
-fn call(c: Counts, case: Case, buf: &[u8], peers: &mut [u8]) -> Counts {
+fn call(rt: &impl Eprint, c: Counts, case: Case, buf: &[u8], peers: &mut [u8]) -> Counts {
     fill(peers, LENT);
     let mut answer = [LENT; 114];
     let number = wutherdish::wutherdish_verify(
@@ -30,13 +30,13 @@ fn call(c: Counts, case: Case, buf: &[u8], peers: &mut [u8]) -> Counts {
         peers,
         &mut answer,
     );
-    compare::compare(c, case::blob(buf, case, 4), number, &answer, peers)
+    compare::compare(rt, c, case::blob(buf, case, 4), number, &answer, peers)
 }
 
-pub fn replay(c: Counts, case: Case, buf: &[u8], peers: &mut [u8]) -> Counts {
+pub fn replay(rt: &impl Eprint, c: Counts, case: Case, buf: &[u8], peers: &mut [u8]) -> Counts {
     let n = length_of(case::blob(buf, case, 3));
     if peers.len() < n {
-        return compare::no_room(c);
+        return compare::no_room(rt, c);
     }
-    call(c, case, buf, &mut peers[0..n])
+    call(rt, c, case, buf, &mut peers[0..n])
 }

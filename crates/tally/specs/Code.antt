@@ -1,5 +1,5 @@
 -- What the program's functions promise each other.
-use Rattle.std.specs.Prelude.{ℕ, zero, suc, ◌+◌, ◌-◌, ◌≤◌, ◌<◌, min, ◌≡◌, true, false, List, length, take, drop, ℤ, pos, negsuc}
+use Rattle.std.specs.Prelude.{ℕ, zero, suc, ◌+◌, ◌-◌, ◌≤◌, ◌<◌, min, ◌≡◌, true, false, List, length, take, drop, Result, Ok, Err}
 use Rattle.parts.specs.Limits.{settings_length}
 use Rattle.tally_feed.specs.Tally.{Step, over, last, point, step}
 use Rattle.tally.specs.declared.window.Window.{Window}
@@ -9,7 +9,7 @@ use Rattle.tally.specs.declared.points.State.{State}
 use Rattle.tally.specs.declared.points.Turn as code-turn
 use Rattle.tally.specs.declared.points.Turn.TheVariants as case-turn
 
--- ---- the window: the part of standard input that is at hand. What a read puts into the buffer is the C library's to say; where it
+-- ---- the window: the part of standard input that is at hand. What a read puts into the buffer is the system's to say; where it
 -- stands there, and that what was at hand stays at hand, is said here.
 
 -- the bytes at hand
@@ -28,10 +28,10 @@ abbrev pub counted : ℕ → code_got.Got
 counted zero = case-got.Nothing
 counted (suc n) = case-got.Bytes (suc n)
 
--- what an answer of `read` stands for, which had room for a number of bytes: a negative one is an error
-abbrev pub got_of : ℤ → ℕ → code_got.Got
-got_of (pos k) room = counted (min k room)
-got_of (negsuc k) room = case-got.Failed
+-- what an answer of `read` stands for, which had room for a number of bytes
+abbrev pub got_of : {E : Type 0} → Result ℕ E → ℕ → code_got.Got
+got_of (Ok k) room = counted (min k room)
+got_of (Err e) room = case-got.Failed
 
 -- the bytes that a call gave lie in a buffer of len bytes, from a place on
 abbrev pub GotWithin : ℕ → ℕ → code_got.Got → Type 0

@@ -10,6 +10,7 @@ ghost use Rattle.parts.specs.Limits.{settings_length};
 ghost use Rattle.tally.specs.Code.{Stands};
 
 use points::{State, Turn};
+use std::io::Read;
 use tally_feed::Front;
 use window::Window;
 
@@ -20,7 +21,9 @@ const SCHEDULE: usize = 32675;
 
 // Prints the lines of the points from a state on, and says whether all of them were read and printed. A proved loop has to end, and
 // nothing says that an input does: so it ends where a line could not be counted.
-fn print_points(
+fn print_points<R: Read>(
+    rt: &(impl Print + Eprint),
+    input: &mut R,
     book: &mut [u8],
     schedule: &[u8],
     peers: &mut [u8],
@@ -31,17 +34,17 @@ fn print_points(
 {
     let mut s = first;
     while s.place < u64::MAX {
-        let w = window::refill(buf, s.window);
+        let w = window::refill(rt, input, buf, s.window);
         if w.failed {
-            print::unread();
+            print::unread(rt);
             return false;
         }
         let turn = points::take_turn(book, schedule, peers, buf, points::with(s, w));
         match turn {
             Turn::Over => return true,
-            Turn::Last(line) => return print::line(line),
+            Turn::Last(line) => return print::line(rt, line),
             Turn::Point { line, next } => {
-                if !print::line(line) {
+                if !print::line(rt, line) {
                     return false;
                 }
                 s = next;
@@ -52,7 +55,9 @@ fn print_points(
 }
 
 // The same, of the points that begin at a place of the first window.
-fn print_after(
+fn print_after<R: Read>(
+    rt: &(impl Print + Eprint),
+    input: &mut R,
     book: &mut [u8],
     schedule: &mut [u8],
     peers: &mut [u8],
@@ -64,39 +69,61 @@ fn print_after(
     requires held { (w.start ≡ 0) × (start ≤ w.end) × (w.end ≤ length buf.old) × (41127 ≤ length buf.old) }
 {
     let first = points::begin_points(schedule, buf, w, start);
-    print_points(book, schedule, peers, buf, first)
+    print_points(rt, input, book, schedule, peers, buf, first)
 }
 
 // Prints a line for each point, or the one line of settings or a schedule that can't be read.
-fn print_lines(book: &mut [u8], schedule: &mut [u8], peers: &mut [u8], buf: &mut [u8]) -> bool
+fn print_lines<R: Read>(
+    rt: &(impl Print + Eprint),
+    input: &mut R,
+    book: &mut [u8],
+    schedule: &mut [u8],
+    peers: &mut [u8],
+    buf: &mut [u8],
+) -> bool
     requires { (32675 ≤ length schedule.old) × (41127 ≤ length buf.old) }
 {
-    let w = window::first(buf);
+    let w = window::first(rt, input, buf);
     if w.failed {
-        print::unread();
+        print::unread(rt);
         return false;
     }
     let end = w.end;
     let front = tally_feed::begin(book, &buf[0..end]);
     match front {
-        Front::Number(n) => print::line(tally_feed::refused(0, 0, n)),
-        Front::Points(start) => print_after(book, schedule, peers, buf, w, start),
+        Front::Number(n) => print::line(rt, tally_feed::refused(0, 0, n)),
+        Front::Points(start) => print_after(rt, input, book, schedule, peers, buf, w, start),
     }
 }
 
-// The last line is `end` only if all was read and printed: a program has no exit status.
-fn tally(book: &mut [u8], schedule: &mut [u8], peers: &mut [u8], buf: &mut [u8])
+// The last line is `end` only if all was read and printed; the exit status is 0 all the same.
+fn tally<R: Read>(
+    rt: &(impl Print + Eprint),
+    input: &mut R,
+    book: &mut [u8],
+    schedule: &mut [u8],
+    peers: &mut [u8],
+    buf: &mut [u8],
+)
     requires { (32675 ≤ length schedule.old) × (41127 ≤ length buf.old) }
 {
-    if print_lines(book, schedule, peers, buf) {
-        print::end(tally_feed::kept(book) as u64);
+    if print_lines(rt, input, book, schedule, peers, buf) {
+        print::end(rt, tally_feed::kept(book) as u64);
     }
 }
 
-fn main() {
+fn main(rt: HostRuntime) {
+    let mut input = rt.stdin();
     let mut book = [0u8; BOOK];
     let mut schedule = [0u8; SCHEDULE];
     let mut peers = [0u8; parts::PEERS_ROOM];
     let mut buf = [0u8; window::ROOM];
-    tally(&mut book, &mut schedule, &mut peers, &mut buf);
+    tally(
+        &rt,
+        &mut input,
+        &mut book,
+        &mut schedule,
+        &mut peers,
+        &mut buf,
+    );
 }

@@ -2,7 +2,8 @@
 ghost use Rattle.std.specs.Prelude.{◌≡◌, ◌++◌, ◌+◌, ◌≤◌, length, take, drop};
 ghost use Rattle.tally.specs.Code.{Lies, without, got_of, GotWithin, Filled, Refilled};
 
-use libc::STDIN_FILENO;
+use std::io;
+use std::io::Read;
 
 // The longest leader byte and record. With as much at hand the next point gives what it gives with all at hand (`step_part` in
 // proofs/AtHand.antt of crate tally_feed), and so do settings and a schedule (`begin_part` there).
@@ -41,38 +42,41 @@ fn shift(buf: &mut [u8], from: usize, n: usize)
 }
 
 // What an answer of read says of the room that it was lent.
-fn got_of(got: isize, room: &[u8]) -> Got
+fn got_of(got: io::Result<usize>, room: &[u8]) -> Got
     ensures { result ≡ got_of got (length room.now) }
 {
-    if got < 0 {
+    let Ok(n) = got else {
         return Got::Failed;
-    }
-    let n = io::count(got, room);
+    };
+    let n = n.min(room.len());
     if n == 0 {
         return Got::Nothing;
     }
     Got::Bytes(n)
 }
 
-// Reads once, from a place of the buffer on.
-fn read_at(buf: &mut [u8], at: usize) -> Got
+// Reads once, from a place of the buffer on. A call that fails is told on standard error.
+fn read_at<R: Read>(rt: &impl Eprint, input: &mut R, buf: &mut [u8], at: usize) -> Got
     requires { at ≤ length buf.old }
     ensures front { take at buf.new ≡ take at buf.old }
     ensures within { GotWithin at (length buf.old) result }
 {
-    let got = libc::read(STDIN_FILENO, &mut buf[at..]);
+    let got = input.read(&mut buf[at..]);
+    if let Err(e) = &got {
+        let _ = eprintln!(rt; "standard input: {e}");
+    }
     got_of(got, &buf[at..])
 }
 
 // Reads after the n bytes at the front until the buffer is full, or the input ends.
-fn read_after(buf: &mut [u8], n: usize) -> Window
+fn read_after<R: Read>(rt: &impl Eprint, input: &mut R, buf: &mut [u8], n: usize) -> Window
     requires { n ≤ length buf.old }
     ensures front { take n buf.new ≡ take n buf.old }
     ensures filled { Filled n (length buf.old) result }
 {
     let mut end = n;
     while end < buf.len() {
-        let got = read_at(buf, end);
+        let got = read_at(rt, input, buf, end);
         match got {
             Got::Bytes(more) => end += more,
             Got::Nothing => {
@@ -101,14 +105,14 @@ fn read_after(buf: &mut [u8], n: usize) -> Window
     }
 }
 
-pub fn first(buf: &mut [u8]) -> Window
+pub fn first<R: Read>(rt: &impl Eprint, input: &mut R, buf: &mut [u8]) -> Window
     ensures { Filled 0 (length buf.old) result }
 {
-    read_after(buf, 0)
+    read_after(rt, input, buf, 0)
 }
 
 // With enough at hand for a point, or all that is left, unless reading failed.
-pub fn refill(buf: &mut [u8], w: Window) -> Window
+pub fn refill<R: Read>(rt: &impl Eprint, input: &mut R, buf: &mut [u8], w: Window) -> Window
     requires { Lies (length buf.old) w × (41127 ≤ length buf.old) }
     ensures { Refilled buf.old w buf.new result }
 {
@@ -120,7 +124,7 @@ pub fn refill(buf: &mut [u8], w: Window) -> Window
         return w;
     }
     shift(buf, w.start, n);
-    read_after(buf, n)
+    read_after(rt, input, buf, n)
 }
 
 // Without the first n bytes.

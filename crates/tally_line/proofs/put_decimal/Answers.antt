@@ -1,0 +1,38 @@
+-- `put_decimal` meets its contract: the digits are the definition's, at most 20 of them.
+use Prim.Native.Nat.{◌≤◌}
+use native.Mathlib.Omega.{arith}
+use mathlib.Core.Path.{◌≡◌, ap, ◌∙◌}
+use lib.ListN.{length, take}
+use Rattle.parts.specs.Bytes.{put_at}
+use Rattle.tally_line.specs.Text.{decimal}
+use Rattle.tally_line.proofs.Laws.{digits_most, decimal_digits}
+use borrow.Author.Rules.{rules}
+use Rattle.tally_line.proofs.put_decimal.Goals as goal
+use Rattle.tally_line.proofs.put_decimal.Goals.{After-decimal-k}
+
+most : (c : After-decimal-k) → c.decimal-k.result ≤ 20
+most c = digits_most c.args.n c.decimal-k.result c.ranges.n.fits c.decimal-k.ensures.1.0
+
+count : (c : After-decimal-k) → c.decimal-k.result ≡ length (take c.decimal-k.result c.decimal-k.new.out)
+count c = c.decimal-k.ensures.0.1
+
+written : (c : After-decimal-k) → take c.decimal-k.result c.decimal-k.new.out ≡ decimal c.args.n
+written c = c.decimal-k.ensures.1.1 ∙ decimal_digits c.args.n c.decimal-k.result c.decimal-k.ensures.1.0 (most c)
+
+pub put_slice-requires : goal.put_slice-requires
+put_slice-requires c = omega (arith, count (goal.at.put_slice-requires c).After-decimal-k, most (goal.at.put_slice-requires c).After-decimal-k)
+
+pub overflow_add-result : goal.overflow_add-result
+overflow_add-result c = record { fits = omega (arith, most (goal.at.overflow_add-result c).After-decimal-k) }
+
+pub returns : goal.returns
+returns c =
+    let d = c in
+    let a = d.args in
+    let w = written (goal.at.returns c).After-decimal-k in (
+      record {
+        written = c.put_slice.ensures ∙ ap (put_at a.out.now a.at) w;
+        ends = omega (arith, count (goal.at.returns c).After-decimal-k, ap length w);
+      },
+      omega (arith, most (goal.at.returns c).After-decimal-k),
+    )

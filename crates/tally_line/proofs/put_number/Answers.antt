@@ -1,0 +1,13 @@
+-- `put_number` meets its contract: a byte after a number.
+use native.Mathlib.Omega.{arith}
+use Rattle.tally_line.specs.Text.{decimal}
+use Rattle.tally_line.proofs.Laws.{joined}
+use borrow.Author.Rules.{rules}
+use Rattle.tally_line.proofs.put_number.Goals as goal
+
+pub returns : goal.returns
+returns c =
+    let a = c.args in
+    let d = c.put_decimal-end.ensures in
+    let b = c.put_byte.ensures in
+    record { put = joined a.out.now a.at (decimal a.n) _ _ _ _ _ d.0 b (omega (arith, d.1, b.ends)); within = omega (arith, d.1, b.ends) }
