@@ -10,21 +10,18 @@ use Rattle.tally_line.proofs.line_bytes.Goals as goal
 
 pub returns : goal.returns
 returns c =
-    let d = c in
-    let l = d in
-    let b = l in
-    let a = b in
-    let s = a.args in
-    let out = s.out.now in
-    let p = a.put_number-place_end.ensures in
-    let q = b.put_number-round_end.ensures in
-    let r = l.put_letter-letter_end.ensures in
-    let t = d.put_number-reason_end.ensures in
+    let l = c.args.line in
+    let out = c.args.out.now in
+    let p = c.put_number-place_end.ensures in
+    let q = c.put_number-round_end.ensures in
+    let r = c.put_letter-letter_end.ensures in
+    let t = c.put_number-reason_end.ensures in
     let u = c.put_number.ensures in
-    let two = joined out 0 _ _ _ _ _ _ p.0 q.0 (omega (arith, p.1, q.1)) in
-    let three = joined out 0 _ _ _ _ _ _ two r (omega (arith, p.1, q.1, r.ends)) in
-    let four = joined out 0 _ _ _ _ _ _ three t.0 (omega (arith, p.1, q.1, r.ends, t.1)) in
-    let five = joined out 0 _ _ _ _ _ _ four u.0 (omega (arith, p.1, q.1, r.ends, t.1, u.1)) in (
-      subst (λ (x : List ℕ). Put out 0 x c.put_number.new.out c.put_number.result) (line_pieces s.line) five,
-      counts out _ c.put_number.new.out c.put_number.result five (omega (arith, p.1, q.1, r.ends, t.1, u.1)),
-    )
+    let two = joined out 0 _ _ _ _ _ _ p.put q.put (omega (arith, p.within, q.within)) in
+    let three = joined out 0 _ _ _ _ _ _ two r (omega (arith, p.within, q.within, r.ends)) in
+    let four = joined out 0 _ _ _ _ _ _ three t.put (omega (arith, p.within, q.within, r.ends, t.within)) in
+    let five = joined out 0 _ _ _ _ _ _ four u.put (omega (arith, p.within, q.within, r.ends, t.within, u.within)) in
+    record {
+      put = subst (λ (x : List ℕ). Put out 0 x c.put_number.new.out c.put_number.result) (line_pieces l) five;
+      counts = counts out _ c.put_number.new.out c.put_number.result five (omega (arith, p.within, q.within, r.ends, t.within, u.within));
+    }

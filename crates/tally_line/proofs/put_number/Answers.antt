@@ -10,4 +10,4 @@ returns c =
     let a = c.args in
     let d = c.put_decimal-end.ensures in
     let b = c.put_byte.ensures in
-    record { put = joined a.out.now a.at (decimal a.n) _ _ _ _ _ d.0 b (omega (arith, d.1, b.ends)); within = omega (arith, d.1, b.ends) }
+    record { put = joined a.out.now a.at (decimal a.n) _ _ _ _ _ d.put b (omega (arith, d.within, b.ends)); within = omega (arith, d.within, b.ends) }
