@@ -5,7 +5,6 @@ use mathlib.Core.List.{List}
 use Prim.Native.Nat.{ℕ}
 use Rattle.tally_line.specs.Code.{Put}
 use Rattle.tally_line.proofs.Laws.{joined, counts, line_pieces}
-use borrow.Author.Rules.{rules}
 use Rattle.tally_line.proofs.line_bytes.Goals as goal
 
 pub returns : goal.returns

@@ -2,7 +2,6 @@
 use native.Mathlib.Omega.{arith}
 use mathlib.Core.List.{[], ◌∷◌}
 use Rattle.write.proofs.Laws.{put_is}
-use borrow.Author.Rules.{rules}
 use Rattle.tally_line.proofs.put_byte.Goals as goal
 
 pub returns : goal.returns

@@ -6,7 +6,6 @@ use lib.ListN.{length, take}
 use Rattle.parts.specs.Bytes.{put_at}
 use Rattle.tally_line.specs.Text.{decimal}
 use Rattle.tally_line.proofs.Laws.{digits_most, decimal_digits}
-use borrow.Author.Rules.{rules}
 use Rattle.tally_line.proofs.put_decimal.Goals as goal
 use Rattle.tally_line.proofs.put_decimal.Goals.{After-decimal-k}
 

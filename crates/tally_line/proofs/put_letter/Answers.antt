@@ -2,7 +2,6 @@
 use native.Mathlib.Omega.{arith}
 use mathlib.Core.List.{[], ◌∷◌}
 use Rattle.tally_line.proofs.Laws.{joined}
-use borrow.Author.Rules.{rules}
 use Rattle.tally_line.proofs.put_letter.Goals as goal
 
 pub returns : goal.returns
