@@ -13,8 +13,11 @@ const LIBRARY: &str = "libwutherdish.a";
 const ROOT: &str = "../..";
 /// What the library is made of, from the repository's root.
 const SOURCES: [&str; 2] = ["crates", "crates.txt"];
-/// Where `rt staticlib` puts it.
-const BUILT: &str = "target/staticlib";
+/// What of each crate is a source: `rt` writes beside these.
+const PARTS: [&str; 3] = ["src", "specs", "proofs"];
+/// The crate whose library it is, from the repository's root, and what `rt lib` makes there.
+const CRATE: &str = "crates/wutherdish_c";
+const MADE: &str = "out/libwutherdish_c.a";
 
 fn main() {
     println!("cargo:rerun-if-env-changed={VARIABLE}");
@@ -59,21 +62,33 @@ fn found(here: &Path, named: &Path, in_repository: bool) -> PathBuf {
 /// that it has made before will do.
 fn built(root: &Path) -> PathBuf {
     // Not the library itself: it is newer than this run, and would be built again by the next one.
-    SOURCES.iter().for_each(|source| watch(&Path::new(ROOT).join(source)));
-    let library = root.join(BUILT).join(LIBRARY);
-    match Command::new("rt").args(["staticlib", "wutherdish"]).current_dir(root).output() {
+    watch(&Path::new(ROOT).join("crates.txt"));
+    folders(&root.join("crates")).iter().for_each(|name| {
+        let folder = Path::new(ROOT).join("crates").join(name);
+        PARTS.iter().map(|part| folder.join(part)).filter(|part| part.exists()).for_each(|part| watch(&part));
+    });
+    let library = root.join(CRATE).join(MADE);
+    match Command::new("rt").arg("lib").current_dir(root.join(CRATE)).output() {
         Ok(output) if output.status.success() => {}
         Ok(output) => {
             eprintln!("{}", String::from_utf8_lossy(&output.stdout));
             eprintln!("{}", String::from_utf8_lossy(&output.stderr));
-            fail("`rt staticlib wutherdish` failed");
+            fail(&format!("`rt lib` failed in {CRATE}"));
         }
         Err(_) if library.is_file() => println!(
             "cargo:warning=`rt` is not at hand: the library that it made before is linked, of whatever sources"
         ),
-        Err(error) => fail(&format!("`rt staticlib wutherdish` could not be run: {error}")),
+        Err(error) => fail(&format!("`rt lib` could not be run in {CRATE}: {error}")),
     }
     library
+}
+
+/// The names of what stands in a folder, in order.
+fn folders(folder: &Path) -> Vec<PathBuf> {
+    let entries = fs::read_dir(folder).unwrap_or_else(|error| fail(&format!("{}: {error}", folder.display())));
+    let mut names: Vec<PathBuf> = entries.flatten().map(|entry| entry.file_name().into()).collect();
+    names.sort();
+    names
 }
 
 /// Has this script run again when the file, or one in the folder, changes. A relative path is taken from this crate's

@@ -36,20 +36,18 @@ impl Call {
         if self.clauses.iter().any(|(word, _)| word == "requires") {
             faults.push(format!("{} has a requires", self.name));
         }
-        if !self.ensures("r ≡ ") {
+        if !self.ensures("result ≡ ") {
             faults.push(format!("{} says nothing of its result", self.name));
         }
-        let unsaid = self.lent().filter(|name| !self.ensures(&format!("now ({name} .exit) ≡ ")));
+        let unsaid = self.lent().filter(|name| !self.ensures(&format!("{name}.new ≡ ")));
         faults.extend(unsaid.map(|name| format!("{} says nothing of {name}", self.name)));
         faults
     }
 
     /// Whether it ensures an equation that begins so, whose other side is a definition of what was there at entry.
     fn ensures(&self, left: &str) -> bool {
-        let mut rights = self.clauses.iter().filter(|(word, _)| word == "ensures").filter_map(|(_, clause)| {
-            let fact = clause.strip_prefix("λ r. ⌜ ")?.strip_suffix(" ⌝")?;
-            fact.strip_prefix(left)
-        });
+        let ensured = self.clauses.iter().filter(|(word, _)| word == "ensures");
+        let mut rights = ensured.filter_map(|(_, clause)| clause.strip_prefix(left));
         rights.any(is_of_entry)
     }
 }
@@ -57,8 +55,8 @@ impl Call {
 /// Whether it is names and numbers in brackets alone, and none of them is of the call's end. With a sign among them
 /// (`⊎`, `→`, `×`, a further `≡`, `λ`) the whole would be another fact than an equation, one that may always hold.
 fn is_of_entry(right: &str) -> bool {
-    let is_plain = |c: char| c.is_ascii_alphanumeric() || " ().".contains(c);
-    let is_of_exit = right.contains(".exit") || right.split([' ', '(', ')', '.']).any(|word| word == "r");
+    let is_plain = |c: char| c.is_ascii_alphanumeric() || " ()._".contains(c);
+    let is_of_exit = right.contains(".new") || right.split([' ', '(', ')', '.']).any(|word| word == "result");
     right.chars().all(is_plain) && !is_of_exit && !right.contains("Unit")
 }
 

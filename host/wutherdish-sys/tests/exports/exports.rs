@@ -10,7 +10,7 @@ use crate::call::Call;
 /// The repository's root, from the crate's folder, where cargo runs its tests.
 const ROOT: &str = "../..";
 /// The one crate that exports anything.
-const CRATE: &str = "crates/wutherdish/";
+const CRATE: &str = "crates/wutherdish_c/";
 /// How an export begins.
 const EXPORT: &str = "extern \"C\" fn ";
 
@@ -30,8 +30,9 @@ impl Exports {
         add_sources(&Path::new(ROOT).join("crates"), &mut sources);
         sources.sort();
         let folder = env::var_os("WUTHERDISH_LIB_DIR").filter(|name| !name.is_empty());
-        let folder = folder.map_or_else(|| PathBuf::from("target/staticlib"), PathBuf::from);
-        Self { header, sources, symbols: symbols(&Path::new(ROOT).join(folder).join("libwutherdish.a")) }
+        let made = format!("{CRATE}out/libwutherdish_c.a");
+        let library = folder.map_or_else(|| PathBuf::from(made), |folder| Path::new(&folder).join("libwutherdish.a"));
+        Self { header, sources, symbols: symbols(&Path::new(ROOT).join(library)) }
     }
 
     /// What is not as it has to be, in words.
@@ -44,7 +45,7 @@ impl Exports {
                 faults.push(format!("{path} has a comment that is not a line's"));
             }
             if !is_marked(&code) {
-                faults.push(format!("an export of {path} is not #[no_mangle] pub"));
+                faults.push(format!("an export of {path} is not #[unsafe(no_mangle)] pub"));
             }
             let calls = calls(&code);
             names.extend(calls.iter().map(|call| call.name.clone()));
@@ -76,7 +77,10 @@ fn add_sources(folder: &Path, sources: &mut Vec<(String, String)>) {
     for entry in fs::read_dir(folder).expect("a folder of the repository") {
         let path = entry.expect("an entry of it").path();
         if path.is_dir() {
-            add_sources(&path, sources);
+            // What rt writes is no source.
+            if path.file_name().is_none_or(|name| name != "out") {
+                add_sources(&path, sources);
+            }
         } else if path.extension().is_some_and(|extension| extension == "rt") {
             let name = path.strip_prefix(ROOT).expect("a path below the root").display().to_string();
             sources.push((name, fs::read_to_string(&path).expect("a file of Rattle")));
@@ -101,7 +105,8 @@ fn joined(code: &str) -> String {
 /// Whether each export is marked for the linker, and nothing else is.
 fn is_marked(code: &str) -> bool {
     let all = code.matches(EXPORT).count();
-    code.matches(&format!("#[no_mangle] pub {EXPORT}")).count() == all && code.matches("no_mangle").count() == all
+    code.matches(&format!("#[unsafe(no_mangle)] pub {EXPORT}")).count() == all
+        && code.matches("no_mangle").count() == all
 }
 
 fn calls(code: &str) -> Vec<Call> {

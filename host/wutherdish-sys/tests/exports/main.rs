@@ -7,7 +7,7 @@ use call::Call;
 use exports::Exports;
 
 /// What the tests change: the crate of the C calls.
-const CALLS: &str = "crates/wutherdish/src/lib.rt";
+const CALLS: &str = "crates/wutherdish_c/src/lib.rt";
 
 /// The repository's exports with one text in the source of the C calls put in place of another.
 fn changed(from: &str, to: &str) -> Exports {
@@ -19,12 +19,18 @@ fn changed(from: &str, to: &str) -> Exports {
     exports
 }
 
-/// The line of the source that begins so, and what follows it up to the line's end.
-fn line(start: &str) -> String {
+/// The clause of the source whose line begins so, up to the end of the line where its braces close.
+fn clause(start: &str) -> String {
     let exports = Exports::read();
     let code = &exports.sources.iter().find(|(path, _)| path == CALLS).expect("the crate of the C calls").1;
-    let line = code.lines().find(|line| line.trim_start().starts_with(start)).expect("a line that begins so");
-    format!("{line}\n")
+    let mut clause = String::new();
+    for line in code.lines().skip_while(|line| !line.trim_start().starts_with(start)) {
+        clause += &format!("{line}\n");
+        if clause.matches('{').count() == clause.matches('}').count() {
+            return clause;
+        }
+    }
+    panic!("no clause begins with {start}");
 }
 
 #[test]
@@ -34,8 +40,8 @@ fn the_repository() {
 
 #[test]
 fn one_more_export_without_a_contract() {
-    let more = "#[no_mangle]\npub extern \"C\" fn wutherdish_more(book: &mut [u8]) -> u8 {\n    0\n}\n\n#[no_mangle]\n";
-    let mut exports = changed("#[no_mangle]\n", more);
+    let more = "#[unsafe(no_mangle)]\npub extern \"C\" fn wutherdish_more(book: &mut [u8]) -> u8 {\n    0\n}\n\n#[unsafe(no_mangle)]\n";
+    let mut exports = changed("#[unsafe(no_mangle)]\n", more);
     exports.symbols.insert("wutherdish_more".to_string());
     let faults = [
         "wutherdish_more says nothing of its result",
@@ -59,30 +65,30 @@ fn an_export_that_the_header_lacks() {
 
 #[test]
 fn a_lent_slice_of_which_nothing_is_said() {
-    let exports = changed(&line("ensures buffer { λ r. ⌜ now (peers .exit)"), "");
+    let exports = changed(&clause("ensures buffer { peers.new"), "");
     assert_eq!(exports.faults(), ["wutherdish_verify says nothing of peers"]);
-    let exports = changed(&line("ensures opened { λ r. ⌜ now (book .exit)"), "");
+    let exports = changed(&clause("ensures opened { book.new"), "");
     assert_eq!(exports.faults(), ["wutherdish_open says nothing of book"]);
 }
 
 #[test]
 fn what_is_said_of_itself() {
-    let exports = changed("now (answer .exit) ≡ verifyAnswer", "now (answer .exit) ≡ same (now (answer .exit))");
+    let exports = changed("answer.new ≡ verify_answer", "answer.new ≡ same answer.new");
     assert_eq!(exports.faults(), ["wutherdish_verify says nothing of answer"]);
-    let exports = changed("now (answer .exit) ≡ verifyAnswer", "now (answer .exit) ≡ same (now (answer.exit))");
+    let exports = changed("answer.new ≡ verify_answer", "answer.new ≡ same (answer .new)");
     assert_eq!(exports.faults(), ["wutherdish_verify says nothing of answer"]);
-    let exports = changed("r ≡ openNumber", "r ≡ same r");
+    let exports = changed("result ≡ open_number", "result ≡ same result");
     assert_eq!(exports.faults(), ["wutherdish_open says nothing of its result"]);
 }
 
 #[test]
 fn what_always_holds() {
-    for more in ["⊎ Unit", "→ Unit", "× Unit", "≡ 0", "(λ x. x)", "Unit", "⌝ ⊎ ⌜ Unit", "(r)", "{r}"] {
-        let end = "(length (now (book .entry))) ⌝";
-        let exports = changed(end, &format!("(length (now (book .entry))) {more} ⌝"));
+    for more in ["⊎ Unit", "→ Unit", "× Unit", "≡ 0", "(λ x. x)", "Unit", "⊎ ⊤", "(result)", "{result}"] {
+        let end = "(length book.old) }";
+        let exports = changed(end, &format!("(length book.old) {more} }}"));
         assert_eq!(exports.faults(), ["wutherdish_open says nothing of its result"], "{more}");
-        let end = "openBytes (now (settings .entry)) (now (book .entry)) ⌝";
-        let exports = changed(end, &format!("now (book .entry) {more} ⌝"));
+        let end = "open_bytes settings.now book.old }";
+        let exports = changed(end, &format!("book.old {more} }}"));
         assert_eq!(exports.faults(), ["wutherdish_open says nothing of book"], "{more}");
     }
 }
@@ -101,25 +107,24 @@ fn a_parameter_that_may_be_lent_unseen() {
 
 #[test]
 fn a_contract_in_a_comment() {
-    let clause = line("ensures opened { λ r. ⌜ now (book .exit)");
+    let clause = clause("ensures opened { book.new");
     let exports = changed(&clause, &format!("// {clause}"));
     assert_eq!(exports.faults(), ["wutherdish_open says nothing of book"]);
     let exports = changed(&clause, &format!("/* {clause} */"));
-    assert_eq!(exports.faults(), ["crates/wutherdish/src/lib.rt has a comment that is not a line's"]);
+    assert_eq!(exports.faults(), ["crates/wutherdish_c/src/lib.rt has a comment that is not a line's"]);
 }
 
 #[test]
 fn a_call_that_asks_something() {
-    let ensures = "    ensures number { λ r. ⌜ r ≡ openNumber";
-    let exports = changed(ensures, &format!("    requires {{ ⌜ 47 ≤ length (now book) ⌝ }}\n{ensures}"));
+    let ensures = "    ensures number { result ≡ open_number";
+    let exports = changed(ensures, &format!("    requires {{ 47 ≤ length book.old }}\n{ensures}"));
     assert_eq!(exports.faults(), ["wutherdish_open has a requires"]);
 }
 
 #[test]
 fn an_export_of_another_crate() {
     let mut exports = Exports::read();
-    let code =
-        "#[no_mangle]\npub extern \"C\" fn wutherdish_kept(n: u8) -> u8\n    ensures { λ r. ⌜ r ≡ n ⌝ }\n{\n    n\n}\n";
+    let code = "#[unsafe(no_mangle)]\npub extern \"C\" fn wutherdish_kept(n: u8) -> u8\n    ensures { result ≡ n }\n{\n    n\n}\n";
     exports.sources.push(("crates/book/src/kept.rt".to_string(), code.to_string()));
     let faults = [
         "wutherdish_kept is exported by crates/book/src/kept.rt",
@@ -131,8 +136,9 @@ fn an_export_of_another_crate() {
 
 #[test]
 fn an_export_that_the_linker_does_not_see() {
-    let exports = changed("#[no_mangle]\npub extern \"C\" fn wutherdish_open", "pub extern \"C\" fn wutherdish_open");
-    assert_eq!(exports.faults(), ["an export of crates/wutherdish/src/lib.rt is not #[no_mangle] pub"]);
+    let exports =
+        changed("#[unsafe(no_mangle)]\npub extern \"C\" fn wutherdish_open", "pub extern \"C\" fn wutherdish_open");
+    assert_eq!(exports.faults(), ["an export of crates/wutherdish_c/src/lib.rt is not #[unsafe(no_mangle)] pub"]);
 }
 
 #[test]
@@ -144,11 +150,11 @@ fn a_symbol_of_no_source() {
 
 #[test]
 fn a_contract_is_read_clause_by_clause() {
-    let call = Call::read("f(a: &[u8], b: &mut [u8; 4], n: u8) -> u8 requires { ⌜ x { y } ⌝ } ensures { ⌜ z ⌝ } { 0 }");
+    let call = Call::read("f(a: &[u8], b: &mut [u8; 4], n: u8) -> u8 requires { x { y } } ensures { z } { 0 }");
     assert_eq!(call.name, "f");
     assert_eq!(call.lent().collect::<Vec<_>>(), ["b"]);
     assert_eq!(
         call.clauses,
-        [("requires".to_string(), "⌜ x { y } ⌝".to_string()), ("ensures".to_string(), "⌜ z ⌝".to_string())]
+        [("requires".to_string(), "x { y }".to_string()), ("ensures".to_string(), "z".to_string())]
     );
 }
