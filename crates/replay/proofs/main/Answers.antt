@@ -1,5 +1,5 @@
 -- `main` is safe and ends: each buffer has the length that it was made with, by a law, since counting its places is too long.
-use Rattle.std.proofs.Common.{ℕ, sym, rules}
+use Rattle.std.proofs.Common.{ℕ, sym}
 use lib.ListN.{length-replicate}
 use Rattle.replay.proofs.main.Goals as goal
 

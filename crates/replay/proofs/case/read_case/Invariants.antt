@@ -1,5 +1,5 @@
 -- `read_case` is safe and ends: each blob begins where the one before it ended, inside the buffer.
-use Rattle.std.proofs.Common.{◌≡◌, ◌-◌, ◌≤◌, length, rules}
+use Rattle.std.proofs.Common.{◌≡◌, ◌-◌, ◌≤◌, length}
 use Rattle.replay.proofs.case.read_case.Given as goal
 
 abbrev pub invariant-loop-i : goal.invariant-loop-i

@@ -1,5 +1,5 @@
 -- `is_filled` is safe and ends: each place is below the length.
-use Rattle.std.proofs.Common.{◌-◌, ◌≤◌, length, rules}
+use Rattle.std.proofs.Common.{◌-◌, ◌≤◌, length}
 use Rattle.replay.proofs.compare.is_filled.Given as goal
 
 abbrev pub invariant-loop-i : goal.invariant-loop-i

@@ -1,5 +1,5 @@
 -- `is_same` is safe and ends: both slices have one length.
-use Rattle.std.proofs.Common.{◌≡◌, ◌-◌, ◌≤◌, length, rules}
+use Rattle.std.proofs.Common.{◌≡◌, ◌-◌, ◌≤◌, length}
 use Rattle.replay.proofs.compare.is_same.Given as goal
 
 abbrev pub invariant-loop-i : goal.invariant-loop-i

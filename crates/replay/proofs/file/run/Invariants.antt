@@ -1,5 +1,5 @@
 -- `run` is safe and ends: the turns are counted down.
-use Rattle.std.proofs.Common.{◌≡◌, length, rules}
+use Rattle.std.proofs.Common.{◌≡◌, length}
 use Rattle.replay.proofs.file.run.Given as goal
 
 abbrev pub invariant-loop-turns : goal.invariant-loop-turns

@@ -1,5 +1,5 @@
 -- `add_block` is safe and ends: each round is below 64.
-use Rattle.std.proofs.Common.{◌-◌, ◌≤◌, rules}
+use Rattle.std.proofs.Common.{◌-◌, ◌≤◌}
 use Rattle.replay.proofs.sha256.add_block.Given as goal
 
 abbrev pub invariant-loop-t : goal.invariant-loop-t

@@ -1,5 +1,5 @@
 -- `digest` is safe and ends: a message that is filled up to whole blocks is at most 72 bytes longer.
-use Rattle.std.proofs.Common.{◌-◌, ◌≤◌, rules}
+use Rattle.std.proofs.Common.{◌-◌, ◌≤◌}
 use Rattle.replay.proofs.sha256.digest.Given as goal
 
 abbrev pub invariant-loop-at : goal.invariant-loop-at

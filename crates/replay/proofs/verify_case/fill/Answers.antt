@@ -1,5 +1,5 @@
 -- `fill` is safe and ends: each place is below the length, which stays.
-use Rattle.std.proofs.Common.{◌≡◌, ◌-◌, ◌≤◌, length, arith, length-set, rules}
+use Rattle.std.proofs.Common.{arith, length-set}
 use Rattle.replay.proofs.verify_case.fill.Goals as goal
 
 pub loop-i-smaller : goal.loop-i-smaller

@@ -1,5 +1,5 @@
 -- `fill` is safe and ends: each place is below the length, which stays.
-use Rattle.std.proofs.Common.{◌≡◌, ◌-◌, ◌≤◌, length, arith, length-set, rules}
+use Rattle.std.proofs.Common.{◌≡◌, ◌-◌, ◌≤◌, length}
 use Rattle.replay.proofs.verify_case.fill.Given as goal
 
 abbrev pub invariant-loop-i : goal.invariant-loop-i

@@ -1,0 +1,12 @@
+-- `schedule_end` meets its contract. The invariant: the schedule ends where what is left of it from `at` on ends.
+use Prim.Native.Nat.{◌-◌, ◌≤◌}
+use mathlib.Core.Path.{◌≡◌}
+use lib.ListN.{length}
+use Rattle.tally_feed.specs.Tally.{schedule_end_from, schedule_end}
+use Rattle.tally_feed.proofs.front.schedule_end.Given as goal
+
+abbrev pub invariant-loop-spans : goal.invariant-loop-spans
+invariant-loop-spans l = (l.spans ≤ 4) × (l.at ≤ length l.s) × (schedule_end l.s ≡ schedule_end_from (4 - l.spans) l.s l.at)
+
+abbrev pub decreases-loop-spans : goal.decreases-loop-spans
+decreases-loop-spans l = 4 - l.spans
