@@ -7,11 +7,7 @@ use mathlib.Core.Bool.{true, false}
 use mathlib.Core.List.{List, [], ◌∷◌, ◌++◌}
 use lib.ListN.{length, take, drop, get_or, set, length-drop, length-append}
 use lib.Seq.{take-suc, drop-cons, append_snoc, get_or-append-add, get_or-drop, set_at, take_at, take-take, length-take-le}
-use lib.IntN.{ℤ, pos, negsuc}
-use lib.Dec.{T}
-use lib.Signed.{lt_z}
-use borrow.Author.Tests.{ltb-true}
-use Rattle.io.specs.Counts.{clamp_len}
+use Rattle.std.specs.Prelude.{Result, Ok, Err}
 use Rattle.tally.specs.declared.window.Got.TheVariants as case-got
 use Rattle.tally.specs.declared.window.Window.{Window}
 use Rattle.tally.specs.declared.points.State.{State}
@@ -62,29 +58,21 @@ counted-within : (at n len : ℕ) → at + n ≤ len → GotWithin at len (count
 counted-within at zero len h = tt
 counted-within at (suc n) len h = (omega arith, h)
 
-got_within : (z : ℤ) (at room len : ℕ) → at + room ≤ len → GotWithin at len (got_of z room)
-got_within (pos k) at room len h = counted-within at (min k room) len (omega (arith, min-le_right k room))
-got_within (negsuc k) at room len h = tt
+got_within : {E : Type 0} (z : Result ℕ E) (at room len : ℕ) → at + room ≤ len → GotWithin at len (got_of z room)
+got_within (Ok k) at room len h = counted-within at (min k room) len (omega (arith, min-le_right k room))
+got_within (Err e) at room len h = tt
 
 -- a part from a place on, and what stands before it, are the whole
 part_room : (b : List ℕ) (at m : ℕ) → length b ≡ m → at ≤ m → at + length (take (length b - at) (drop at b)) ≤ m
 part_room b at m e l = omega (arith, length-take-le (length b - at) (drop at b) (omega (arith, length-drop at b)), length-drop at b)
 
-pub part_got : (b : List ℕ) (at m : ℕ) (z : ℤ) → length b ≡ m → at ≤ m → GotWithin at m (got_of z (length (take (length b - at) (drop at b))))
+pub part_got : {E : Type 0} (b : List ℕ) (at m : ℕ) (z : Result ℕ E) → length b ≡ m → at ≤ m → GotWithin at m (got_of z (length (take (length b - at) (drop at b))))
 part_got b at m z e l = got_within z at (length (take (length b - at) (drop at b))) m (part_room b at m e l)
 
 pub take_less : (n e : ℕ) (a b c : List ℕ) → n ≤ e → take e a ≡ take e b → take n b ≡ take n c → take n a ≡ take n c
 take_less n e a b c h f g = sym (take-take n e a h) ∙ ap (take n) f ∙ take-take n e b h ∙ g
 
--- the code's tests of an answer
-pub failed_got : (z : ℤ) (room : ℕ) → lt_z z (pos 0) ≡ true → case-got.Failed ≡ got_of z room
-failed_got (pos k) room e = let h = ltb-true k 0 e in absurd (omega arith)
-failed_got (negsuc k) room e = refl
-
-pub counted_got : (z : ℤ) (n room : ℕ) → lt_z z (pos 0) ≡ false → n ≡ clamp_len z room → counted n ≡ got_of z room
-counted_got (pos k) n room e f = ap counted f
-counted_got (negsuc k) n room e f = absurd (subst T e tt)
-
+-- an answer of at least one byte
 pub some-counted : (n : ℕ) → 0 < n → case-got.Bytes n ≡ counted n
 some-counted zero h = absurd (omega arith)
 some-counted (suc n) h = refl

@@ -51,7 +51,9 @@ pub extern "C" fn wutherdish_judge(
         (tested settings.now schedule.now rec.now (flags_ok leader presence) (length peers.old))
         peers.old }
 {
-    wutherdish::wutherdish_judge(settings, schedule, rec, leader, presence, list, peers, answer)
+    wutherdish::wutherdish_judge(
+        settings, schedule, rec, leader, presence, list, peers, answer,
+    )
 }
 
 // Opens a book in a slice, with its settings. Answers 1, 5, or 0 where it is open; with a number no byte changes.
