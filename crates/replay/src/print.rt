@@ -2,10 +2,6 @@
 // is lost.
 use std::io;
 
-<<<<<<< HEAD
-pub fn line(rt: &impl Print, name: &str, n: u64) -> io::Result<()> {
-    println!(rt; "{name} {n}")
-=======
 fn number(rt: &impl Print, name: &str, n: u64) -> io::Result<()> {
     print!(rt; "{name} {n}")
 }
@@ -13,31 +9,19 @@ fn number(rt: &impl Print, name: &str, n: u64) -> io::Result<()> {
 pub fn line(rt: &impl Print, name: &str, n: u64) -> io::Result<()> {
     number(rt, name, n)?;
     println!(rt; "")
->>>>>>> 6e8251d36feec74248d491b0306b66b0978c3a22
 }
 
 // A count, and of how many.
 pub fn share(rt: &impl Print, name: &str, n: u64, all: u64) -> io::Result<()> {
-<<<<<<< HEAD
-    println!(rt; "{name} {n} of {all}")
-=======
     number(rt, name, n)?;
     number(rt, " of", all)?;
     println!(rt; "")
->>>>>>> 6e8251d36feec74248d491b0306b66b0978c3a22
 }
 
 pub fn difference(rt: &impl Eprint, name: &str, place: u64) {
     let _ = eprintln!(rt; "{name} {place}");
 }
 
-<<<<<<< HEAD
-fn bytes(rt: &impl Eprint, s: &[u8]) {
-    let mut i = 0;
-    while i < s.len() {
-        let byte = s[i];
-        let _ = eprint!(rt; "{byte:02x}");
-=======
 fn byte(rt: &impl Eprint, x: u8) {
     let _ = eprint!(rt; "{x:02x}");
 }
@@ -46,19 +30,14 @@ fn bytes(rt: &impl Eprint, s: &[u8]) {
     let mut i = 0;
     while i < s.len() {
         byte(rt, s[i]);
->>>>>>> 6e8251d36feec74248d491b0306b66b0978c3a22
         i += 1;
     }
 }
 
 pub fn named_byte(rt: &impl Eprint, name: &str, x: u8) {
-<<<<<<< HEAD
-    let _ = eprintln!(rt; "{name}{x:02x}");
-=======
     let _ = eprint!(rt; "{name}");
     byte(rt, x);
     let _ = eprintln!(rt; "");
->>>>>>> 6e8251d36feec74248d491b0306b66b0978c3a22
 }
 
 pub fn named_bytes(rt: &impl Eprint, name: &str, s: &[u8]) {
