@@ -1,5 +1,5 @@
 -- Laws of the answer: a store is a run of one byte, and an answer is made of its reason's number, the point that it names and what it carries.
-use Prim.Native.Nat.{ℕ, ◌-◌, ◌<◌}
+use Prim.Native.Nat.{ℕ, ◌<◌}
 use native.Mathlib.Omega.{arith}
 use mathlib.Core.Path.{◌≡◌, refl}
 use mathlib.Core.List.{List, [], ◌∷◌}

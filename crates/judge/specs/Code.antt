@@ -1,5 +1,4 @@
 -- What the code's values stand for.
-use Rattle.reasons.specs.Verdict.{Verdict}
 use Rattle.reasons.specs.Code.{verdict_of}
 use Rattle.rules.specs.Judge.{JudgeAnswer, Number, Given, Before, answered, needed}
 use Rattle.judge.specs.declared.before.JudgeAnswer as code-answer

@@ -11,7 +11,7 @@ use borrow.Author.Tests.{eqb-true, eq-eqb, ne_eqb}
 use Rattle.base.specs.Base.{is_some, and_then}
 use Rattle.base.proofs.Bool.{never, clash, and_left, and_right, and_both}
 use native.Mathlib.Omega.{arith}
-use Rattle.point.specs.Point.{PointId, PointInfo, same_id, Through, through}
+use Rattle.point.specs.Point.{PointId, same_id, Through, through}
 use Rattle.point.proofs.Ids.{same_fields}
 use Rattle.rules.specs.DagPoint.{PointView, point_view, Entry, is_by}
 use Rattle.rules.specs.Mismatch.{is_id, uncovers}

@@ -1,6 +1,5 @@
 -- `id_of` meets its contract: each arm gives the id of its case, and zeros where it has none.
 use Rattle.parts.proofs.Laws.{number_zero}
-use borrow.Author.Rules.{rules}
 use Rattle.answer.proofs.id_of.Goals as goal
 
 pub returns-in-NoRoundInDag : goal.returns-in-NoRoundInDag

@@ -1,5 +1,4 @@
 -- `of_dependency` meets its contract: the map and the peer are those that it came through.
-use borrow.Author.Rules.{rules}
 use Rattle.answer.proofs.of_dependency.Goals as goal
 
 pub returns : goal.returns

@@ -1,7 +1,6 @@
 -- `of_fail` meets its contract by those of what it calls.
 use mathlib.Core.Path.{ap, ◌∙◌}
 use Rattle.answer.specs.Code.{plain}
-use borrow.Author.Rules.{rules}
 use Rattle.answer.proofs.of_fail.Goals as goal
 
 pub returns : goal.returns

@@ -1,7 +1,6 @@
 -- `of_ill_formed` meets its contract: each arm gives the values of its case.
 use mathlib.Core.Path.{◌∙◌}
 use Rattle.answer.proofs.Laws.{issue_parts}
-use borrow.Author.Rules.{rules}
 use Rattle.answer.proofs.of_ill_formed.Goals as goal
 
 pub returns-in-BeforeGenesis : goal.returns-in-BeforeGenesis

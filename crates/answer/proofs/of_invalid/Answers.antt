@@ -1,6 +1,5 @@
 -- `of_invalid` meets its contract: each arm gives the values of its case.
 use mathlib.Core.Path.{◌∙◌}
-use borrow.Author.Rules.{rules}
 use Rattle.answer.proofs.of_invalid.Goals as goal
 
 pub returns-in-NoRoundInDag : goal.returns-in-NoRoundInDag

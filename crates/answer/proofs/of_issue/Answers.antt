@@ -1,6 +1,5 @@
 -- `of_issue` meets its contract: each arm gives the values of its case.
 use mathlib.Core.Path.{◌∙◌}
-use borrow.Author.Rules.{rules}
 use Rattle.answer.proofs.of_issue.Goals as goal
 
 pub returns-in-ExpectedGenesis : goal.returns-in-ExpectedGenesis

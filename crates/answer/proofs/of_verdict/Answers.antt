@@ -3,7 +3,6 @@ use mathlib.Core.Path.{ap, ◌∙◌}
 use Rattle.reasons.specs.Code.{reason_of}
 use Rattle.answer.specs.Code.{values_of, named, plain}
 use Rattle.answer.proofs.Laws.{ill-formed-parts, invalid-parts}
-use borrow.Author.Rules.{rules}
 use Rattle.answer.proofs.of_verdict.Goals as goal
 
 pub returns-in-Fail : goal.returns-in-Fail

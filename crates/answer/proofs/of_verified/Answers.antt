@@ -2,7 +2,6 @@
 use mathlib.Core.Path.{ap, ◌∙◌}
 use Rattle.answer.specs.Code.{plain}
 use Rattle.answer.proofs.Laws.{ill-formed-parts}
-use borrow.Author.Rules.{rules}
 use Rattle.answer.proofs.of_verified.Goals as goal
 
 pub returns-in-Passed : goal.returns-in-Passed

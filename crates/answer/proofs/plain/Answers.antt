@@ -1,7 +1,6 @@
 -- `plain` meets its contract: the id of zeros is no point's.
 use mathlib.Core.Path.{◌∙◌}
 use Rattle.parts.proofs.Laws.{number_zero}
-use borrow.Author.Rules.{rules}
 use Rattle.answer.proofs.plain.Goals as goal
 
 pub returns : goal.returns

@@ -3,7 +3,6 @@ use mathlib.Core.Path.{refl}
 use Rattle.answer.specs.Code.{answer_of}
 use Rattle.rules.specs.Answer.{head_bytes, number_bytes, root_bytes, answer_bytes}
 use Rattle.write.proofs.Laws.{put_three}
-use borrow.Author.Rules.{rules}
 use Rattle.answer.proofs.put_answer.Goals as goal
 
 pub returns : goal.returns

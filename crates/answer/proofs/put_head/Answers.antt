@@ -7,7 +7,6 @@ use Rattle.parts.specs.Bytes.{little_bytes, big_bytes}
 use Rattle.write.proofs.Laws.{put_is, put_put, put_three}
 use Rattle.answer.specs.Code.{answer_of}
 use Rattle.rules.specs.Answer.{head_bytes}
-use borrow.Author.Rules.{rules}
 use Rattle.answer.proofs.put_head.Goals as goal
 use Rattle.answer.proofs.put_head.Goals.{After-put_u32}
 

@@ -6,7 +6,6 @@ use lib.ListN.{length, length-set}
 use Rattle.parts.specs.Bytes.{little_bytes}
 use Rattle.write.proofs.Laws.{put_is, put_three}
 use Rattle.rules.specs.Answer.{number_bytes}
-use borrow.Author.Rules.{rules}
 use Rattle.answer.proofs.put_numbers.Goals as goal
 use Rattle.answer.proofs.put_numbers.Goals.{After-put_u32}
 

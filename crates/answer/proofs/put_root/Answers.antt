@@ -9,7 +9,6 @@ use Rattle.parts.specs.Code.{number}
 use Rattle.rules.specs.Answer.{root_bytes}
 use Rattle.answer.proofs.Laws.{set_put}
 use Rattle.write.proofs.Laws.{put_three}
-use borrow.Author.Rules.{rules}
 use Rattle.answer.proofs.put_root.Goals as goal
 use Rattle.answer.proofs.put_root.Goals.{After-put_id}
 

@@ -1,7 +1,6 @@
 -- `are_in_domain` meets its contract: each `return` rewrites with the tests that led there.
 use mathlib.Core.Path.{sym, ◌∙◌}
 use borrow.Author.Tests.{lt-leb, le-leb, not-true, not-false}
-use borrow.Author.Rules.{rules}
 use Rattle.judge.proofs.are_in_domain.Goals as goal
 
 pub returns-then-not-is_in_domain : goal.returns-then-not-is_in_domain

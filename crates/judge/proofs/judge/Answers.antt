@@ -14,7 +14,6 @@ use Rattle.rules.specs.Judge.{Input, Tested, admitted, tested, flags_ok}
 use Rattle.verify.proofs.Laws.{schedule-read, schedule-unread, no_settings, no_schedule, no_point_lem, no_domain, no_room, all-taken}
 use Rattle.judge.specs.Code.{before_of}
 use Rattle.judge.proofs.Laws.{answer-number, answer-taken}
-use borrow.Author.Rules.{rules}
 use Rattle.judge.proofs.judge.Goals as goal
 use Rattle.judge.proofs.judge.Goals.{After-slice_known-2-1, After-spans-1, Else-not-are_in_domain, In-Point, In-Settings, Start, Then-not-are_in_domain}
 

@@ -2,7 +2,6 @@
 use mathlib.Core.Path.{◌∙◌}
 use native.Mathlib.Omega.{arith}
 use Rattle.judge.proofs.Laws.{answer-evidence, answer-includes, answer-needed}
-use borrow.Author.Rules.{rules}
 use Rattle.judge.proofs.judge_needed.Goals as goal
 
 pub returns-in-0 : goal.returns-in-0

@@ -10,7 +10,6 @@ use Rattle.rules.specs.List.{Listed, read_list}
 use Rattle.reasons.specs.Code.{verdict_of}
 use Rattle.judge_list.specs.Code.{ListJudged, judged_list_of}
 use Rattle.judge.proofs.Laws.{Over, Mismatch, answer-unread, was_read, answer-mismatch, answer-uncovered, answer-witness, answer-verdict}
-use borrow.Author.Rules.{rules}
 use Rattle.judge.proofs.judge_over_list.Goals as goal
 use Rattle.judge.proofs.judge_over_list.Goals.{Else-is_mismatch, In-Judged, In_default, Start}
 

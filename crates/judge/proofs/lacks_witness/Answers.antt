@@ -7,7 +7,6 @@ use Rattle.map.proofs.Laws.{peers-pairs_of, peers-length}
 use Rattle.record.specs.Record.{content_of}
 use borrow.Author.Tests.{eq-eqb, ne_eqb}
 use Rattle.base.proofs.Lists.{filled}
-use borrow.Author.Rules.{rules}
 use Rattle.judge.proofs.lacks_witness.Goals as goal
 
 pub returns-then-presence-ne2 : goal.returns-then-presence-ne2

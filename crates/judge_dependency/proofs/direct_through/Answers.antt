@@ -1,6 +1,5 @@
 -- `direct_through` meets its contract: by whether the round is the one before.
 use Rattle.judge_entries.proofs.Laws.{equal-given, unequal_given}
-use borrow.Author.Rules.{rules}
 use Rattle.judge_dependency.proofs.direct_through.Goals as goal
 
 pub returns-then-id-rounds_back : goal.returns-then-id-rounds_back

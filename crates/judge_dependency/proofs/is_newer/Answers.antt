@@ -2,7 +2,6 @@
 use mathlib.Core.Path.{sym, ◌∙◌}
 use borrow.Author.Tests.{lt-ltb, le-ltb, eq-eqb, ne_eqb}
 use Rattle.rules.specs.Validate.{is_newer}
-use borrow.Author.Rules.{rules}
 use Rattle.judge_dependency.proofs.is_newer.Goals as goal
 
 pub returns-then-old_to-new_to : goal.returns-then-old_to-new_to

@@ -1,5 +1,4 @@
 -- `is_out_of_window` meets its contract.
-use borrow.Author.Rules.{rules}
 use Rattle.judge_dependency.proofs.is_out_of_window.Goals as goal
 
 pub returns : goal.returns

@@ -1,7 +1,6 @@
 -- `join` meets its contract: each case by its equations.
 use mathlib.Core.Path.{sym, ◌∙◌}
 use Rattle.rules.specs.Validate.{join}
-use borrow.Author.Rules.{rules}
 use Rattle.judge_dependency.proofs.join.Goals as goal
 
 pub returns-then-is_newer : goal.returns-then-is_newer

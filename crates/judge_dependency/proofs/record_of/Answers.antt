@@ -1,7 +1,6 @@
 -- `record_of` meets its contract: each case by its equation, whatever the record of the point is.
 use mathlib.Core.Path.{sym, ◌∙◌}
 use Rattle.rules.specs.Validate.{record_of}
-use borrow.Author.Rules.{rules}
 use Rattle.judge_dependency.proofs.record_of.Goals as goal
 
 pub returns-then-certified : goal.returns-then-certified

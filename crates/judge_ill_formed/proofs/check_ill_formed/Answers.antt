@@ -3,7 +3,6 @@
 use Prim.Native.Nat.{ℕ}
 use mathlib.Core.Path.{◌≡◌, ap, sym, ◌∙◌}
 use mathlib.Core.List.{List}
-use borrow.Author.Rules.{rules}
 use Rattle.base.specs.Base.{is_some}
 use Rattle.schedule.specs.Schedule.{require_regular_points}
 use Rattle.schedule.specs.Code.{schedule_of, require_of}

@@ -6,7 +6,6 @@ use Rattle.point.specs.Code.{point_id_of}
 use Rattle.rules.specs.Mismatch.{is_id}
 use Rattle.judge_list.specs.Code.{prev_of}
 use Rattle.judge_list.proofs.Laws.{prev-other, prev-digest}
-use borrow.Author.Rules.{rules}
 use Rattle.judge_list.proofs.is_prev.Goals as goal
 
 pub returns-then-not-is_own_before : goal.returns-then-not-is_own_before

@@ -6,7 +6,6 @@ use Rattle.base.proofs.Option.{unfound}
 use Rattle.point.specs.Code.{Reads}
 use Rattle.point.proofs.Laws.{readable}
 use Rattle.judge_entries.specs.Code.{ReadFrom}
-use borrow.Author.Rules.{rules}
 use Rattle.judge_list.proofs.is_quiet.Goals as goal
 
 pub returns-then-is_target : goal.returns-then-is_target

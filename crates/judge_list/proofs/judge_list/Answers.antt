@@ -6,7 +6,6 @@ use Rattle.reasons.specs.Code.{verdict_of}
 use Rattle.rules.specs.List.{read_list}
 use Rattle.judge_list.specs.Code.{walk_of, walked_list_of}
 use Rattle.judge_list.proofs.WalkLaws.{judged-unread, judged-walked}
-use borrow.Author.Rules.{rules}
 use Rattle.judge_list.proofs.judge_list.Goals as goal
 
 pub returns-in-Walked : goal.returns-in-Walked

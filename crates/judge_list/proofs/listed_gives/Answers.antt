@@ -7,7 +7,6 @@ use Rattle.schedule.specs.Code.{settings_of}
 use Rattle.judge_entries.specs.Code.{entry_of}
 use Rattle.judge_step.specs.Code.{gives_of}
 use Rattle.judge_list.proofs.Laws.{after-dropped, directed, targeted}
-use borrow.Author.Rules.{rules}
 use Rattle.judge_list.proofs.listed_gives.Goals as goal
 
 pub returns-then-ended : goal.returns-then-ended

@@ -1,5 +1,4 @@
 -- `of_record` meets its contract: each case by its equation.
-use borrow.Author.Rules.{rules}
 use Rattle.judge_list.proofs.of_record.Goals as goal
 
 pub returns-in-Recorded : goal.returns-in-Recorded

@@ -6,7 +6,6 @@ use Rattle.judge_entries.specs.Code.{dag_point_of}
 use Rattle.judge_valid.specs.Code.{point_view_of}
 use Rattle.rules.specs.Mismatch.{is_id, uncovers}
 use Rattle.judge_list.specs.Code.{prev_in}
-use borrow.Author.Rules.{rules}
 use Rattle.judge_list.proofs.uncovers.Goals as goal
 
 pub returns-then-x : goal.returns-then-x

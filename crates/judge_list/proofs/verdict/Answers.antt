@@ -1,5 +1,4 @@
 -- `verdict` meets its contract: each case by its equations.
-use borrow.Author.Rules.{rules}
 use Rattle.judge_list.proofs.verdict.Goals as goal
 
 pub returns-in-Reason : goal.returns-in-Reason

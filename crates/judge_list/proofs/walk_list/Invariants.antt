@@ -1,24 +1,11 @@
 -- `walk_list` meets its contract. The invariant: the walk so far, over what is left of the list, gives what the walk over the whole gives.
-use Prim.Native.Nat.{ℕ, ◌+◌, ◌-◌, ◌≤◌, ◌<◌}
-use native.Mathlib.Omega.{arith}
-use mathlib.Core.Path.{◌≡◌, refl, ap, sym, ◌∙◌}
-use mathlib.Core.Bool.{true, false}
-use mathlib.Core.Option.{some}
-use mathlib.Core.List.{List}
-use lib.ListN.{length, take, drop, length-drop}
-use borrow.Author.Tests.{not-true, not-false}
-use borrow.Author.Rules.{rules}
-use Rattle.base.proofs.Lists.{rest}
-use Rattle.point.specs.Code.{point_of}
-use Rattle.schedule.specs.Settings.{Settings}
+use Prim.Native.Nat.{◌-◌, ◌≤◌}
+use mathlib.Core.Path.{◌≡◌}
+use lib.ListN.{length, drop}
 use Rattle.schedule.specs.Code.{settings_of}
-use Rattle.rules.specs.List.{Listed, is_in_order, read_entry, list_from, read_list}
-use Rattle.judge_entries.specs.Code.{aim_of, part_of, listed_of, read_listed_of, EntryPlaced}
-use Rattle.judge_entries.specs.declared.Listed as code-listed
-use Rattle.judge_step.specs.Code.{judging_of, gives_of}
-use Rattle.judge_step.proofs.Laws.{passed}
-use Rattle.judge_list.specs.Code.{Walk, Viewed, viewed, walk_step, walk_with, walk_start, viewed_of}
-use Rattle.judge_list.proofs.Laws.{turn-unread, turn_disordered, goes_on, too_many, walk_end, viewed_by, placed-listed, walked-quiet, walked-nothing, walked_giving}
+use Rattle.rules.specs.List.{list_from, read_list}
+use Rattle.judge_step.specs.Code.{judging_of}
+use Rattle.judge_list.specs.Code.{walk_with, walk_start, viewed_of}
 use Rattle.judge_list.proofs.walk_list.Given as goal
 
 abbrev pub invariant-loop-at : goal.invariant-loop-at

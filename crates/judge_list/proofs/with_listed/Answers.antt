@@ -1,5 +1,4 @@
 -- `with_listed` meets its contract.
-use borrow.Author.Rules.{rules}
 use Rattle.judge_list.proofs.with_listed.Goals as goal
 
 pub returns-then-is_target : goal.returns-then-is_target

@@ -2,7 +2,6 @@
 use mathlib.Core.Path.{ap}
 use Rattle.reasons.specs.Code.{verified_of}
 use Rattle.judge.proofs.Laws.{before_failed, before-passed, buffered}
-use borrow.Author.Rules.{rules}
 use Rattle.judge.proofs.before.before_list.Goals as goal
 
 pub returns-in_default : goal.returns-in_default

@@ -1,7 +1,6 @@
 -- `before_verified` meets its contract: genesis, else what check_ill_formed told.
 use mathlib.Core.Path.{refl, sym, ◌∙◌}
 use Rattle.judge.proofs.Laws.{before-genesis, before_wave}
-use borrow.Author.Rules.{rules}
 use Rattle.judge.proofs.before.before_verified.Goals as goal
 
 pub returns-then-id-conf : goal.returns-then-id-conf

@@ -1,5 +1,4 @@
 -- `of_error` meets its contract: each case by its equation.
-use borrow.Author.Rules.{rules}
 use Rattle.judge.proofs.before.of_error.Goals as goal
 
 pub returns-in-Fail : goal.returns-in-Fail

@@ -3,7 +3,6 @@ use mathlib.Core.Path.{ap, ◌∙◌, ◌≡◌}
 use Rattle.base.proofs.Impossible.{impossible}
 use Rattle.reasons.specs.Code.{verified_of}
 use Rattle.rules.specs.Judge.{of_error}
-use borrow.Author.Rules.{rules}
 use Rattle.judge.proofs.before.of_verified.Goals as goal
 
 pub returns-in-Passed : goal.returns-in-Passed

@@ -12,7 +12,6 @@ use Rattle.rules.specs.Validate.{record_of, direct_through, point_rows}
 use Rattle.judge_entries.specs.Code.{dag_point_of, entry_of}
 use Rattle.judge_valid.specs.Code.{point_view_of}
 use Rattle.judge_step.proofs.Laws.{all_found}
-use borrow.Author.Rules.{rules}
 use Rattle.judge_step.proofs.step.dependency_gives.Goals as goal
 
 -- what it came through goes by the id

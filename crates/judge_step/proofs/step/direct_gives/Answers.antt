@@ -7,13 +7,12 @@ use Rattle.schedule.specs.Settings.{Settings}
 use Rattle.schedule.specs.Code.{settings_of}
 use Rattle.reasons.specs.Invalid.{InvalidReason}
 use Rattle.rules.specs.DagPoint.{Entry, entry_id, is_dropped, PointView}
-use Rattle.rules.specs.Validate.{nothing, as_version, aside, taken, version_trail}
+use Rattle.rules.specs.Validate.{nothing, as_version, aside, version_trail}
 use Rattle.judge_entries.specs.Code.{entry_of}
 use Rattle.judge_valid.specs.Code.{point_view_of}
 use Rattle.judge_reason.specs.Code.{taken_of}
 use Rattle.judge_step.specs.Code.{Gives, dependency_as}
 use Rattle.judge_step.proofs.Laws.{last-nothing, found_as, found-dependency, gives-dropped, gives_found}
-use borrow.Author.Rules.{rules}
 use Rattle.judge_step.proofs.step.direct_gives.Goals as goal
 use Rattle.judge_step.proofs.step.direct_gives.Goals.{After-how_taken-how}
 

@@ -7,7 +7,6 @@ use Rattle.judge_entries.specs.Code.{entry_of}
 use Rattle.judge_valid.specs.Code.{point_view_of}
 use Rattle.judge_step.specs.Code.{Gives, with_indirect, indirect_step}
 use Rattle.judge_step.proofs.Laws.{all_found}
-use borrow.Author.Rules.{rules}
 use Rattle.judge_step.proofs.step.indirect_gives.Goals as goal
 
 pub returns : goal.returns

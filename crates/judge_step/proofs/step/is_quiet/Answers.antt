@@ -5,7 +5,6 @@ use Rattle.base.proofs.Bool.{clash}
 use Rattle.point.specs.Code.{Reads}
 use Rattle.point.proofs.Laws.{readable}
 use Rattle.judge_entries.specs.Code.{ReadFrom}
-use borrow.Author.Rules.{rules}
 use Rattle.judge_step.proofs.step.is_quiet.Goals as goal
 
 pub is_quick-requires : goal.is_quick-requires

@@ -1,5 +1,4 @@
 -- `or_dropped` meets its contract.
-use borrow.Author.Rules.{rules}
 use Rattle.judge_step.proofs.step.or_dropped.Goals as goal
 
 pub returns-in-NoReason : goal.returns-in-NoReason

@@ -1,6 +1,4 @@
 -- `with_direct` meets its contract: after a dropped entry, at one, and at any other.
-use Rattle.rules.specs.Validate.{join}
-use borrow.Author.Rules.{rules}
 use Rattle.judge_step.proofs.step.with_direct.Goals as goal
 
 pub returns-then-so_far : goal.returns-then-so_far

@@ -1,5 +1,4 @@
 -- `with_indirect` meets its contract.
-use borrow.Author.Rules.{rules}
 use Rattle.judge_step.proofs.step.with_indirect.Goals as goal
 
 pub returns : goal.returns
