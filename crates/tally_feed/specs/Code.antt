@@ -1,7 +1,6 @@
 -- What the code's values stand for, and what its functions promise each other.
 use Rattle.std.specs.Prelude.{ℕ, ◌≤◌, List, length}
 use Rattle.parts.specs.Limits.{settings_length}
-use Rattle.rules.specs.Judge.{Number}
 use Rattle.tally_feed.specs.Tally.{Step, over, last, point}
 use Rattle.tally_feed.specs.declared.front.Front as code-front
 use Rattle.tally_feed.specs.declared.front.Front.TheVariants as case-front
