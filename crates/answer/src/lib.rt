@@ -4,20 +4,19 @@
 ghost use Rattle.std.specs.Prelude.{◌≡◌, ◌≤◌, length};
 ghost use Rattle.parts.specs.Bytes.{put_at};
 ghost use Rattle.point.specs.Code.{point_id_of, through_of};
-ghost use Rattle.reasons.specs.Code.{prev_seq_no_of, reason_of, dependency_of, verdict_of};
-ghost use Rattle.reasons.specs.Answer.{map_number, role_number, flag};
+ghost use Rattle.reasons.specs.Code.{reason_of, dependency_of, verdict_of};
 ghost use Rattle.reasons.specs.IllFormed.{issue_answer, ill_formed_answer, error_answer};
 ghost use Rattle.reasons.specs.Invalid.{prev_seq_no, invalid_answer};
 ghost use Rattle.reasons.specs.Verdict.{TransInvalid};
 ghost use Rattle.reasons.specs.declared.ill_formed.VerifyError.TheVariants as case-error;
 ghost use Rattle.rules.specs.Answer.{verified_answer, through_number, verdict_answer, head_bytes, number_bytes, root_bytes, answer_bytes};
-ghost use Rattle.answer.specs.Code.{values, values_in, named, plain, values_of, answer_of};
+ghost use Rattle.answer.specs.Code.{values_in, named, plain, values_of, answer_of};
 
 use parts::Id;
-use point::{AnchorStageRole, PointId, PointMap, Through};
+use point::{PointId, Through};
 use reasons::{
-    IllFormedReason, InvalidDependency, InvalidReason, PrevSeqNo, StructureIssue, UninitVset,
-    Verdict, Verified, VerifyError,
+    IllFormedReason, InvalidDependency, InvalidReason, StructureIssue, UninitVset, Verdict,
+    VerifyError,
 };
 
 // What a reason carries beside its number.
@@ -46,54 +45,33 @@ pub struct Answer {
 
 const NONE: u8 = 255;
 
-fn map_number(map: PointMap) -> u8
-    ensures { result ≡ map_number map }
-{
-    match map {
-        PointMap::Evidence => 0,
-        PointMap::Includes => 1,
-        PointMap::Witness => 2,
-    }
-}
+// What most reasons carry.
+const NOTHING: Values = Values {
+    map: NONE,
+    role: NONE,
+    first: 0,
+    second: 0,
+    unknown: 0,
+};
 
-fn role_number(role: AnchorStageRole) -> u8
-    ensures { result ≡ role_number role }
+fn of_issue(issue: StructureIssue) -> Values
+    ensures { values_of result ≡ values_in (issue_answer issue) }
 {
-    match role {
-        AnchorStageRole::Proof => 0,
-        AnchorStageRole::Trigger => 1,
-    }
-}
-
-fn flag(b: bool) -> u32
-    ensures { result ≡ flag b }
-{
-    if b { 1 } else { 0 }
-}
-
-fn carried(map: u8, role: u8, first: u32, second: u32, unknown: u8) -> Values
-    ensures { values_of result ≡ values map role first second unknown }
-{
+    let (first, second, map, role) = match issue {
+        StructureIssue::ExpectedGenesis(b) => (1, b as u32, NONE, NONE),
+        StructureIssue::BadGenesisPrevPoint => (2, 0, NONE, NONE),
+        StructureIssue::AuthorInMap(map) => (3, 0, map as u8, NONE),
+        StructureIssue::TriggerBadProofLink => (4, 0, NONE, NONE),
+        StructureIssue::Link { role, map } => (5, 0, map as u8, role as u8),
+        StructureIssue::AnchorTime => (6, 0, NONE, NONE),
+        StructureIssue::NoPrevPoint => (7, 0, NONE, NONE),
+    };
     Values {
         map,
         role,
         first,
         second,
-        unknown,
-    }
-}
-
-fn of_issue(issue: StructureIssue) -> Values
-    ensures { values_of result ≡ values_in (issue_answer issue) }
-{
-    match issue {
-        StructureIssue::ExpectedGenesis(b) => carried(NONE, NONE, 1, flag(b), 0),
-        StructureIssue::BadGenesisPrevPoint => carried(NONE, NONE, 2, 0, 0),
-        StructureIssue::AuthorInMap(m) => carried(map_number(m), NONE, 3, 0, 0),
-        StructureIssue::TriggerBadProofLink => carried(NONE, NONE, 4, 0, 0),
-        StructureIssue::Link { role, map } => carried(map_number(map), role_number(role), 5, 0, 0),
-        StructureIssue::AnchorTime => carried(NONE, NONE, 6, 0, 0),
-        StructureIssue::NoPrevPoint => carried(NONE, NONE, 7, 0, 0),
+        ..NOTHING
     }
 }
 
@@ -101,28 +79,48 @@ fn of_ill_formed(reason: IllFormedReason) -> Values
     ensures { values_of result ≡ values_in (ill_formed_answer reason) }
 {
     match reason {
-        IllFormedReason::BeforeGenesis => carried(NONE, NONE, 0, 0, 0),
-        IllFormedReason::UnknownAuthor => carried(NONE, NONE, 0, 0, 0),
-        IllFormedReason::FalseGenesis => carried(NONE, NONE, 0, 0, 0),
-        IllFormedReason::TooLargePayload(n) => carried(NONE, NONE, n, 0, 0),
-        IllFormedReason::Structure(i) => of_issue(i),
-        IllFormedReason::TooManyStickyAnchors(n) => carried(NONE, NONE, n as u32, 0, 0),
-        IllFormedReason::BadLastStickyFlag => carried(NONE, NONE, 0, 0, 0),
-        IllFormedReason::LinksAcrossGenesis => carried(NONE, NONE, 0, 0, 0),
-        IllFormedReason::MustBeEmpty(m) => carried(map_number(m), NONE, 0, 0, 0),
+        IllFormedReason::BeforeGenesis
+        | IllFormedReason::UnknownAuthor
+        | IllFormedReason::FalseGenesis
+        | IllFormedReason::BadLastStickyFlag
+        | IllFormedReason::LinksAcrossGenesis
+        | IllFormedReason::NotRegular => NOTHING,
+        IllFormedReason::TooLargePayload(first) => Values { first, ..NOTHING },
+        IllFormedReason::Structure(issue) => of_issue(issue),
+        IllFormedReason::TooManyStickyAnchors(n) => Values {
+            first: n as u32,
+            ..NOTHING
+        },
+        IllFormedReason::MustBeEmpty(map) => Values {
+            map: map as u8,
+            ..NOTHING
+        },
         IllFormedReason::UnknownPeers { unknown, map } => {
-            carried(map_number(map), NONE, 0, 0, unknown)
+            Values {
+                map: map as u8,
+                unknown,
+                ..NOTHING
+            }
         }
-        IllFormedReason::UnknownPeerInAnchorLink(g) => carried(NONE, role_number(g), 0, 0, 0),
-        IllFormedReason::LackOfPeers { len, total, map } => {
-            carried(map_number(map), NONE, len as u32, total.0 as u32, 0)
-        }
-        IllFormedReason::NotRegular => carried(NONE, NONE, 0, 0, 0),
-        IllFormedReason::BadWaveLink(b) => carried(NONE, NONE, flag(b), 0, 0),
+        IllFormedReason::UnknownPeerInAnchorLink(role) => Values {
+            role: role as u8,
+            ..NOTHING
+        },
+        IllFormedReason::LackOfPeers { len, total, map } => Values {
+            map: map as u8,
+            first: len as u32,
+            second: total.0 as u32,
+            ..NOTHING
+        },
+        IllFormedReason::BadWaveLink(b) => Values {
+            first: b as u32,
+            ..NOTHING
+        },
     }
 }
 
 // An answer that names a point, and no root cause.
+#[tactic(auto, using(parts::proofs::Laws::number_zero))]
 fn named(kind: u8, reason: u8, id: PointId, v: Values) -> Answer
     ensures { answer_of result ≡ named kind reason (point_id_of id) (values_of v) }
 {
@@ -141,6 +139,7 @@ fn named(kind: u8, reason: u8, id: PointId, v: Values) -> Answer
 }
 
 // An answer that names no point and no root cause.
+#[tactic(auto, using(parts::proofs::Laws::number_zero))]
 fn plain(kind: u8, reason: u8, v: Values) -> Answer
     ensures { answer_of result ≡ plain kind reason (values_of v) }
 {
@@ -150,33 +149,36 @@ fn plain(kind: u8, reason: u8, v: Values) -> Answer
 fn of_fail(u: UninitVset) -> Answer
     ensures { answer_of result ≡ error_answer (case-error.Fail u) }
 {
-    let map = u.map;
     plain(
         4,
         0,
-        carried(map_number(map), NONE, u.len as u32, u.round, 0),
+        Values {
+            map: u.map as u8,
+            first: u.len as u32,
+            second: u.round,
+            ..NOTHING
+        },
     )
 }
 
-pub fn of_verified(verified: Verified) -> Answer
+#[tactic(auto, using(crate::proofs::Laws::ill_formed_parts))]
+pub fn of_verified(verified: Result<(), VerifyError>) -> Answer
     ensures { answer_of result ≡ verified_answer verified }
 {
     match verified {
-        Verified::Passed => plain(5, 0, carried(NONE, NONE, 0, 0, 0)),
-        Verified::Failed(error) => match error {
-            VerifyError::Fail(u) => of_fail(u),
-            VerifyError::IllFormed(reason) => plain(3, reason.number(), of_ill_formed(reason)),
-        },
+        Ok(()) => plain(5, 0, NOTHING),
+        Err(VerifyError::Fail(u)) => of_fail(u),
+        Err(VerifyError::IllFormed(reason)) => plain(3, reason.number(), of_ill_formed(reason)),
     }
 }
 
 // The previous seq_no, or the greatest number where there is none.
-fn prev_seq_no(prev: PrevSeqNo) -> u32
-    ensures { result ≡ prev_seq_no (prev_seq_no_of prev) }
+fn prev_seq_no(prev: Option<u8>) -> u32
+    ensures { result ≡ prev_seq_no prev }
 {
     match prev {
-        PrevSeqNo::SeqNo(n) => n as u32,
-        PrevSeqNo::NoSeqNo => u32::MAX,
+        Some(n) => n as u32,
+        None => u32::MAX,
     }
 }
 
@@ -184,58 +186,74 @@ fn of_invalid(reason: InvalidReason) -> Values
     ensures { values_of result ≡ values_in (invalid_answer (reason_of reason)) }
 {
     match reason {
-        InvalidReason::NoRoundInDag(m) => carried(map_number(m), NONE, 0, 0, 0),
-        InvalidReason::DependencyRoundDropped => carried(NONE, NONE, 0, 0, 0),
-        InvalidReason::NotTrigger(_) => carried(NONE, NONE, 0, 0, 0),
-        InvalidReason::TerminalTriggerBeforeLastProof(_) => carried(NONE, NONE, 0, 0, 0),
-        InvalidReason::TimeNotGreaterThanInPrevPoint(_) => carried(NONE, NONE, 0, 0, 0),
-        InvalidReason::AnchorProofDoesntInheritAnchorTime(_) => carried(NONE, NONE, 0, 0, 0),
-        InvalidReason::AnchorTimeNotInheritedFromProof(_) => carried(NONE, NONE, 0, 0, 0),
-        InvalidReason::MustHaveReferencedPrevPoint(_) => carried(NONE, NONE, 0, 0, 0),
-        InvalidReason::MustHaveSkippedRound(_) => carried(NONE, NONE, 0, 0, 0),
-        InvalidReason::DependencyTimeTooFarInFuture(_) => carried(NONE, NONE, 0, 0, 0),
-        InvalidReason::NewerAnchorInDependency { role, .. } => {
-            carried(NONE, role_number(role), 0, 0, 0)
+        InvalidReason::NoRoundInDag(map) => Values {
+            map: map as u8,
+            ..NOTHING
+        },
+        InvalidReason::NewerAnchorInDependency { role, .. }
+        | InvalidReason::AnchorLink { role, .. }
+        | InvalidReason::AnchorLinkRole { role, .. }
+        | InvalidReason::AnchorLinkBadPath { role, .. } => {
+            Values {
+                role: role as u8,
+                ..NOTHING
+            }
         }
-        InvalidReason::AnchorLink { role, .. } => carried(NONE, role_number(role), 0, 0, 0),
-        InvalidReason::AnchorLinkRole { role, .. } => carried(NONE, role_number(role), 0, 0, 0),
-        InvalidReason::AnchorLinkBadPath { role, .. } => carried(NONE, role_number(role), 0, 0, 0),
         InvalidReason::BadStickySequence {
             prev_seq_no: prev,
             seq_no,
             ..
-        } => carried(NONE, NONE, seq_no as u32, prev_seq_no(prev), 0),
+        } => Values {
+            first: seq_no as u32,
+            second: prev_seq_no(prev),
+            ..NOTHING
+        },
         InvalidReason::TriggerProofMismatch { is_target, .. } => {
-            carried(NONE, NONE, flag(is_target), 0, 0)
+            Values {
+                first: is_target as u32,
+                ..NOTHING
+            }
         }
-        InvalidReason::DepIllFormed { reason: n, .. } => carried(NONE, NONE, n as u32, 0, 0),
-        InvalidReason::DepNotFound(_) => carried(NONE, NONE, 0, 0, 0),
+        InvalidReason::DepIllFormed { reason: n, .. } => Values {
+            first: n as u32,
+            ..NOTHING
+        },
+        InvalidReason::DependencyRoundDropped
+        | InvalidReason::NotTrigger(_)
+        | InvalidReason::TerminalTriggerBeforeLastProof(_)
+        | InvalidReason::TimeNotGreaterThanInPrevPoint(_)
+        | InvalidReason::AnchorProofDoesntInheritAnchorTime(_)
+        | InvalidReason::AnchorTimeNotInheritedFromProof(_)
+        | InvalidReason::MustHaveReferencedPrevPoint(_)
+        | InvalidReason::MustHaveSkippedRound(_)
+        | InvalidReason::DependencyTimeTooFarInFuture(_)
+        | InvalidReason::DepNotFound(_) => NOTHING,
     }
 }
 
 // The point that a reason names, or none.
+#[tactic(auto, using(parts::proofs::Laws::number_zero))]
 fn id_of(reason: InvalidReason) -> PointId
     ensures { point_id_of result ≡ (invalid_answer (reason_of reason)).id }
 {
     match reason {
-        InvalidReason::NoRoundInDag(_) => point::NO_POINT,
-        InvalidReason::DependencyRoundDropped => point::NO_POINT,
-        InvalidReason::NotTrigger(id) => id,
-        InvalidReason::TerminalTriggerBeforeLastProof(id) => id,
-        InvalidReason::TimeNotGreaterThanInPrevPoint(id) => id,
-        InvalidReason::AnchorProofDoesntInheritAnchorTime(id) => id,
-        InvalidReason::AnchorTimeNotInheritedFromProof(id) => id,
-        InvalidReason::MustHaveReferencedPrevPoint(id) => id,
-        InvalidReason::MustHaveSkippedRound(id) => id,
-        InvalidReason::DependencyTimeTooFarInFuture(id) => id,
-        InvalidReason::NewerAnchorInDependency { dependency, .. } => dependency,
-        InvalidReason::AnchorLink { dependency, .. } => dependency,
-        InvalidReason::AnchorLinkRole { dependency, .. } => dependency,
-        InvalidReason::AnchorLinkBadPath { dependency, .. } => dependency,
-        InvalidReason::BadStickySequence { dependency, .. } => dependency,
-        InvalidReason::TriggerProofMismatch { dependency, .. } => dependency,
-        InvalidReason::DepIllFormed { dependency, .. } => dependency,
-        InvalidReason::DepNotFound(id) => id,
+        InvalidReason::NoRoundInDag(_) | InvalidReason::DependencyRoundDropped => point::NO_POINT,
+        InvalidReason::NotTrigger(id)
+        | InvalidReason::TerminalTriggerBeforeLastProof(id)
+        | InvalidReason::TimeNotGreaterThanInPrevPoint(id)
+        | InvalidReason::AnchorProofDoesntInheritAnchorTime(id)
+        | InvalidReason::AnchorTimeNotInheritedFromProof(id)
+        | InvalidReason::MustHaveReferencedPrevPoint(id)
+        | InvalidReason::MustHaveSkippedRound(id)
+        | InvalidReason::DependencyTimeTooFarInFuture(id)
+        | InvalidReason::DepNotFound(id) => id,
+        InvalidReason::NewerAnchorInDependency { dependency, .. }
+        | InvalidReason::AnchorLink { dependency, .. }
+        | InvalidReason::AnchorLinkRole { dependency, .. }
+        | InvalidReason::AnchorLinkBadPath { dependency, .. }
+        | InvalidReason::BadStickySequence { dependency, .. }
+        | InvalidReason::TriggerProofMismatch { dependency, .. }
+        | InvalidReason::DepIllFormed { dependency, .. } => dependency,
     }
 }
 
@@ -252,12 +270,11 @@ fn through_number(through: Through) -> u8
 fn of_dependency(d: InvalidDependency) -> Answer
     ensures { answer_of result ≡ verdict_answer (TransInvalid (dependency_of d)) }
 {
-    let id = d.to;
     let through = d.through;
     Answer {
         kind: 1,
         reason: 0,
-        id,
+        id: d.to,
         map: through_number(through),
         role: NONE,
         first: 0,
@@ -268,15 +285,16 @@ fn of_dependency(d: InvalidDependency) -> Answer
     }
 }
 
+#[tactic(auto, using(crate::proofs::Laws::ill_formed_parts, crate::proofs::Laws::invalid_parts))]
 pub fn of_verdict(verdict: Verdict) -> Answer
     ensures { answer_of result ≡ verdict_answer (verdict_of verdict) }
 {
     match verdict {
         Verdict::Fail(u) => of_fail(u),
         Verdict::IllFormed(reason) => plain(3, reason.number(), of_ill_formed(reason)),
-        Verdict::Invalid(reason) => { named(2, reason.number(), id_of(reason), of_invalid(reason)) }
+        Verdict::Invalid(reason) => named(2, reason.number(), id_of(reason), of_invalid(reason)),
         Verdict::TransInvalid(d) => of_dependency(d),
-        Verdict::Valid => plain(0, 0, carried(NONE, NONE, 0, 0, 0)),
+        Verdict::Valid => plain(0, 0, NOTHING),
     }
 }
 
@@ -284,12 +302,11 @@ fn put_head(out: &mut [u8], a: Answer)
     requires { 114 ≤ length out.old }
     ensures { out.new ≡ put_at out.old 0 (head_bytes (answer_of a)) }
 {
-    let id = a.id;
     out[0] = a.kind;
     out[1] = a.reason;
-    write::put_u32(out, 2, id.round);
-    write::put_id(out, 6, id.digest);
-    write::put_id(out, 38, id.author);
+    write::put_u32(out, 2, a.id.round);
+    write::put_id(out, 6, a.id.digest);
+    write::put_id(out, 38, a.id.author);
 }
 
 fn put_numbers(out: &mut [u8], a: Answer)

@@ -1,9 +1,9 @@
 -- Laws of an offer to a book's bytes: what is decided over them, and what the two writes make of them.
+use Rattle.std.specs.Prelude.{Option, None, Some}
 use Prim.Native.Nat.{ℕ, ◌+◌, ◌≤◌}
 use native.Mathlib.Omega.{arith}
 use mathlib.Core.Path.{◌≡◌, refl, ap, sym, ◌∙◌, subst}
 use mathlib.Core.Bool.{Bool}
-use mathlib.Core.Option.{Option, none, some}
 use mathlib.Core.List.{List, [], ◌∷◌, ◌++◌, append-nil}
 use lib.ListN.{length}
 use lib.Dec.{eqb}
@@ -33,21 +33,19 @@ use Rattle.books.proofs.Offered.{Accepted, accepted, marked-used}
 use Rattle.books.proofs.Bytes.{unmarked, append-bytes}
 use Rattle.book_read.specs.Code.{IsRead}
 use Rattle.book_judge.specs.Code.{over_book}
-use Rattle.book.specs.Code.{covered_by, Marked, left_from, LeftAt, Ready, refusal, Answers, Asks, Decides, ListJudged}
+use Rattle.book.specs.Code.{covered_by, Marked, LeftAt, Ready, Refuses, Judges, Asks, ListJudged}
 use Rattle.book.specs.declared.decide.Needs as goal
-use Rattle.book.specs.declared.decide.Decided as code-decided
 
--- ---- what an answer leaves
+-- ---- what a verdict leaves
 
 -- an entry's bytes have nothing of its point but the record
-left-bytes : (bytes : List ℕ) (p q : PointInfo) (a : JudgeAnswer) → entries_bytes (left_from bytes p a) ≡ entries_bytes (left_from bytes q a)
+left-bytes : (bytes : List ℕ) (p q : PointInfo) (v : verdict.Verdict) → entries_bytes (left_by bytes p v) ≡ entries_bytes (left_by bytes q v)
 unfolding entries_bytes kept_bytes
-left-bytes bytes p q (Number n) = refl
-left-bytes bytes p q (Given (verdict.Fail u)) = refl
-left-bytes bytes p q (Given (verdict.IllFormed r)) = refl
-left-bytes bytes p q (Given (verdict.Invalid r)) = refl
-left-bytes bytes p q (Given (verdict.TransInvalid d)) = refl
-left-bytes bytes p q (Given verdict.Valid) = refl
+left-bytes bytes p q (verdict.Fail u) = refl
+left-bytes bytes p q (verdict.IllFormed r) = refl
+left-bytes bytes p q (verdict.Invalid r) = refl
+left-bytes bytes p q (verdict.TransInvalid d) = refl
+left-bytes bytes p q verdict.Valid = refl
 
 -- so those of any point's entry serve
 any : PointInfo
@@ -74,14 +72,13 @@ module _ (settings : List ℕ) (len : ℕ) (b : Book) (at : ℕ) (l : length set
   unfolding entries_bytes
   append-one k = ap (put_at (book_bytes settings len b) at) (append-nil (kept_bytes k)) ∙ append-bytes settings len b k at l e
 
-  append_left : (bytes : List ℕ) (p : PointInfo) (a : JudgeAnswer) →
-      put_at (book_bytes settings len b) at (entries_bytes (left_from bytes p a)) ≡ book_bytes settings len (b ++ left_from bytes p a)
-  append_left bytes p (Number n) = append-none
-  append_left bytes p (Given (verdict.Fail u)) = append-none
-  append_left bytes p (Given (verdict.IllFormed r)) = append-one _
-  append_left bytes p (Given (verdict.Invalid r)) = append-one _
-  append_left bytes p (Given (verdict.TransInvalid d)) = append-one _
-  append_left bytes p (Given verdict.Valid) = append-one _
+  append_left : (bytes : List ℕ) (p : PointInfo) (v : verdict.Verdict) →
+      put_at (book_bytes settings len b) at (entries_bytes (left_by bytes p v)) ≡ book_bytes settings len (b ++ left_by bytes p v)
+  append_left bytes p (verdict.Fail u) = append-none
+  append_left bytes p (verdict.IllFormed r) = append-one _
+  append_left bytes p (verdict.Invalid r) = append-one _
+  append_left bytes p (verdict.TransInvalid d) = append-one _
+  append_left bytes p verdict.Valid = append-one _
 
 -- what `keep` does
 
@@ -96,27 +93,18 @@ left_one s t end l k e f = rw (e, append-nil (kept_bytes k)) f
 -- ---- a number in place of a verdict
 
 module _ (s : List ℕ) (o : Offer) where
-  pub unread : read_book s ≡ none → offer_bytes s o ≡ record { answer = Number 10; peers = o.peers; after = s }
+  pub unread : read_book s ≡ None → Refuses s o 10 o.peers
   unfolding offer_bytes
   unread h = ap (offer_to s o) h
-
-  pub number-answers : (n end : ℕ) → offer_bytes s o ≡ record { answer = Number n; peers = o.peers; after = s } → Answers s o (Number n) end o.peers
-  unfolding entries_bytes
-  number-answers n end h = record {
-    answer = sym (ap (λ (x : Result (List ℕ)). x.answer) h);
-    peers = sym (ap (λ (x : Result (List ℕ)). x.peers) h);
-    room = λ v f. impossible (cc);
-    bytes = λ q. ap (λ (x : Result (List ℕ)). x.after) h ∙ sym (put_nothing s end);
-  }
 
   -- what is answered and written is what the offer gives
   abbrev pub Written : JudgeAnswer → List ℕ → List ℕ → Type 0
   Written a buffer last = (a ≡ (offer_bytes s o).answer) × ((buffer ≡ (offer_bytes s o).peers) × (last ≡ (offer_bytes s o).after))
 
 -- a number comes only of a point that passed verification
-passed : (v : Option VerifyError) (g : Bool) (w : WaveChecked) (n : ℕ) → before_with v g w ≡ answered (Number n) → v ≡ none
-passed none g w n h = refl
-passed (some e) g w n h = impossible (cc)
+passed : (v : Option VerifyError) (g : Bool) (w : WaveChecked) (n : ℕ) → before_with v g w ≡ answered (Number n) → v ≡ None
+passed None g w n h = refl
+passed (Some e) g w n h = impossible (cc)
 
 -- then no peer is unknown
 unwritten : (i : Input) (leader : ℕ) (buffer : List ℕ) (n : ℕ) → before_in i leader ≡ answered (Number n) → verify_buffer (admitted i) buffer ≡ buffer
@@ -125,7 +113,7 @@ unwritten i leader buffer n h = rw (passed (verify i.settings i.schedule i.point
 
 -- ---- over the bytes of a book that was read
 
-module _ (s : List ℕ) (w : Bytes s) (z : Opened) (r : read_book s ≡ some z) where
+module _ (s : List ℕ) (w : Bytes s) (z : Opened) (r : read_book s ≡ Some z) where
   again : BookOf s z
   again = book-again s z w r
 
@@ -144,7 +132,7 @@ module _ (s : List ℕ) (w : Bytes s) (z : Opened) (r : read_book s ≡ some z) 
     as_found = rw again.whole (sym again.bytes)
 
     -- a number that comes of the tests
-    number-result : (n : ℕ) → offer_tested z o ≡ refused n → offer_bytes s o ≡ record { answer = Number n; peers = o.peers; after = s }
+    number-result : (n : ℕ) → offer_tested z o ≡ refused n → Refuses s o n o.peers
     unfolding offer offer_with
     number-result n t =
         to-book ∙ (ap (λ x. in_bytes (offer_with z o x)) t ∙ ap (λ (l : List ℕ). record { answer = Number n; peers = o.peers; after = l }) as_found)
@@ -160,7 +148,7 @@ module _ (s : List ℕ) (w : Bytes s) (z : Opened) (r : read_book s ≡ some z) 
 
         -- what an offer with a verdict leaves stands after the entries with its marks
         verdict-left : (v : verdict.Verdict) → answer_in z i o.leader ≡ Given v → (b : Book) → marked_in z i o.leader ≡ b →
-            LeftAt (book_bytes z.bytes (length s) b) end o.bytes (Given v) (offer_bytes s o).after
+            LeftAt (book_bytes z.bytes (length s) b) end o.bytes v (offer_bytes s o).after
         unfolding marked_in laid_out
         verdict-left v g b m = λ q.
             let l = settings-length _ _ again.reads in
@@ -168,67 +156,73 @@ module _ (s : List ℕ) (w : Bytes s) (z : Opened) (r : read_book s ≡ some z) 
             ap (λ (y : Result (List ℕ)). y.after) (taken-result (Given v) g)
             ∙ (ap (λ (n : ℕ). book_bytes z.bytes n (marked_in z i o.leader ++ left_by o.bytes i.point v)) again.whole
             ∙ (ap (λ (a : Book). book_bytes z.bytes (length s) (a ++ left_by o.bytes i.point v)) m
-            ∙ (sym (append_left z.bytes (length s) b end l (omega arith) o.bytes i.point (Given v))
-            ∙ ap (put_at (book_bytes z.bytes (length s) b) end) (left-bytes o.bytes i.point q (Given v)))))
+            ∙ (sym (append_left z.bytes (length s) b end l (omega arith) o.bytes i.point v)
+            ∙ ap (put_at (book_bytes z.bytes (length s) b) end) (left-bytes o.bytes i.point q v))))
 
         module _ (buffer : List ℕ) (f : buffer ≡ verify_buffer (admitted i) o.peers) where
-          -- an answer before a list is needed; it marks nothing
-          answered_with : (a : JudgeAnswer) → before_in i o.leader ≡ answered a → Answers s o a end buffer
+          -- a number before a list is needed
+          refused_before : (n : ℕ) → before_in i o.leader ≡ answered (Number n) → Refuses s o n buffer
           unfolding answer_in marked_in
-          answered_with (Number n) x =
+          refused_before n x =
               rw (f ∙ unwritten i o.leader o.peers n x)
-              (number-answers s o n end (taken-result (Number n) (rw x) ∙ ap (λ (l : List ℕ). record { answer = Number n; peers = o.peers; after = l }) as_found))
-          answered_with (Given v) x =
+              (taken-result (Number n) (rw x) ∙ ap (λ (l : List ℕ). record { answer = Number n; peers = o.peers; after = l }) as_found)
+
+          -- a verdict before a list is needed; it marks nothing
+          judged_before : (v : verdict.Verdict) → before_in i o.leader ≡ answered (Given v) → Judges s o v end buffer
+          unfolding answer_in marked_in
+          judged_before v x =
               let g : answer_in z i o.leader ≡ Given v = rw x in
               let r = taken-result (Given v) g in
               record {
                 answer = sym (ap (λ (y : Result (List ℕ)). y.answer) r);
                 peers = f ∙ sym (ap (λ (y : Result (List ℕ)). y.peers) r);
-                room = λ y h. room-left;
-                bytes = subst (λ (l : List ℕ). LeftAt l end o.bytes (Given v) (offer_bytes s o).after) (sym again.bytes)
+                room = room-left;
+                bytes = subst (λ (l : List ℕ). LeftAt l end o.bytes v (offer_bytes s o).after) (sym again.bytes)
                     (verdict-left v g z.book (ap (marked_by i.settings i.point z.book) x));
               }
 
           -- a verdict by the list over the book with its marks
-          listed : (required : Bool) → before_in i o.leader ≡ needed required → (a : JudgeAnswer) (last : List ℕ) →
-              a ≡ Given (over_book i.settings required i.point (covered_by i.settings i.point z.book)) →
-              LeftAt (book_bytes z.bytes (length s) (covered_by i.settings i.point z.book)) end o.bytes a last → Written s o a buffer last
+          listed : (required : Bool) → before_in i o.leader ≡ needed required → (v : verdict.Verdict) (last : List ℕ) →
+              v ≡ over_book i.settings required i.point (covered_by i.settings i.point z.book) →
+              LeftAt (book_bytes z.bytes (length s) (covered_by i.settings i.point z.book)) end o.bytes v last → Written s o (Given v) buffer last
           unfolding answer_in marked_in
-          listed required x a last given left =
+          listed required x v last given left =
               let k = accepted z o i t in
               let c = i.settings in
               let p = i.point in
               let b = covered_by c p z.book in
               let m : marked_in z i o.leader ≡ b = ap (marked_by c p z.book) x in
-              let v = over_book c required p b in
               let g : answer_in z i o.leader ≡ Given v =
-              rw x (whole c required o.bytes p b (mark-shape (covers c z.book (prev_id p)) z.book again.shape) (covers-prev c z.book (prev_id p)) k.read k.domain) in
+              rw x (whole c required o.bytes p b (mark-shape (covers c z.book (prev_id p)) z.book again.shape) (covers-prev c z.book (prev_id p)) k.read k.domain)
+              ∙ ap Given (sym given) in
               let r = taken-result (Given v) g in (
-                given ∙ sym (ap (λ (y : Result (List ℕ)). y.answer) r),
+                sym (ap (λ (y : Result (List ℕ)). y.answer) r),
                 (
                   f ∙ sym (ap (λ (y : Result (List ℕ)). y.peers) r),
-                  left any
-                      ∙ (ap (λ (y : JudgeAnswer). put_at (book_bytes z.bytes (length s) b) end (entries_bytes (left_from o.bytes any y))) given
-                      ∙ sym (verdict-left v g b m any)),
+                  left any ∙ sym (verdict-left v g b m any),
                 ),
               )
 
 -- ---- what is decided
 
-module _ {s : List ℕ} {o : Offer} {buffer : List ℕ} where
-  pub refuses : (x : List ℕ) {d : code-decided.Decided} {n : ℕ} → d ≡ refusal n → Answers s o (Number n) 0 buffer → Decides s o d x buffer
-  refuses x e a = rw e a
+-- a number, with the book as it was
+pub number-written : (s : List ℕ) (o : Offer) (buffer : List ℕ) (n : ℕ) → Refuses s o n buffer → Written s o (Number n) buffer s
+number-written s o buffer n h = (
+  sym (ap (λ (y : Result (List ℕ)). y.answer) h),
+  (sym (ap (λ (y : Result (List ℕ)). y.peers) h), sym (ap (λ (y : Result (List ℕ)). y.after) h)),
+)
 
-  -- an answer, with what it leaves
-  pub answer-written : {a : JudgeAnswer} {end : ℕ} → Answers s o a end buffer → (last : List ℕ) → LeftAt s end o.bytes a last → Written s o a buffer last
-  answer-written h last l = (h.answer, (h.peers, l any ∙ sym (h.bytes any)))
+module _ {s : List ℕ} {o : Offer} {buffer : List ℕ} where
+  -- a verdict, with what it leaves
+  pub verdict-written : {v : verdict.Verdict} {end : ℕ} → Judges s o v end buffer → (last : List ℕ) → LeftAt s end o.bytes v last → Written s o (Given v) buffer last
+  verdict-written h last l = (h.answer, (h.peers, l any ∙ sym (h.bytes any)))
 
 -- ---- an offer to a book that was read
 
 module _ {s : List ℕ} {c : Settings} {end : ℕ} {x : List ℕ} (h : IsRead s c end x) (w : Bytes s) where
   -- a number that comes of the tests
-  pub refused-answers : (o : Offer) (m : ℕ) → offer_tested h.opened o ≡ refused m → Answers s o (Number m) 0 o.peers
-  refused-answers o m t = number-answers s o m 0 (number-result s w h.opened h.read o m t)
+  pub refused-answers : (o : Offer) (m : ℕ) → offer_tested h.opened o ≡ refused m → Refuses s o m o.peers
+  refused-answers o m t = number-result s w h.opened h.read o m t
 
   pub end-within : end ≤ length s
   end-within = omega (arith, h.ends, ends-within s w h.opened h.read)
@@ -238,34 +232,38 @@ module _ {s : List ℕ} {o : Offer} {c : Settings} {end : ℕ} {x : List ℕ} {i
   pub ready-room : end + length o.bytes + 108 ≤ length s
   ready-room = room-left s w h.read.opened h.read.read o i h.taken end h.read.ends
 
-  pub ready-answered : (buffer : List ℕ) → buffer ≡ verify_buffer (admitted i) o.peers → (a : JudgeAnswer) →
-      before i.settings i.schedule (eqb o.leader 1) i.point ≡ answered a → Answers s o a end buffer
-  unfolding before_in
-  ready-answered buffer f a e = answered_with s w h.read.opened h.read.read o i h.taken end h.read.ends buffer f a e
+  module _ (buffer : List ℕ) (f : buffer ≡ verify_buffer (admitted i) o.peers) where
+    pub ready-refused : (n : ℕ) → before i.settings i.schedule (eqb o.leader 1) i.point ≡ answered (Number n) → Refuses s o n buffer
+    unfolding before_in
+    ready-refused n e = refused_before s w h.read.opened h.read.read o i h.taken end h.read.ends buffer f n e
+
+    pub ready-judged : (v : verdict.Verdict) → before i.settings i.schedule (eqb o.leader 1) i.point ≡ answered (Given v) → Judges s o v end buffer
+    unfolding before_in
+    ready-judged v e = judged_before s w h.read.opened h.read.read o i h.taken end h.read.ends buffer f v e
 
 -- one whose list is needed
 module _ {s : List ℕ} {o : Offer} {n : goal.Needs} {x buffer : List ℕ} (q : Asks s o n x buffer) (w : Bytes s) where
   taken : Accepted q.ready.read.opened o q.input
   taken = accepted q.ready.read.opened o q.input q.ready.taken
 
-  pub list_written : (a : JudgeAnswer) (last : List ℕ) → ListJudged s x o.bytes n a last → Written s o a buffer last
-  list_written a last l =
+  pub list_written : (v : verdict.Verdict) (last : List ℕ) → ListJudged s x o.bytes n v last → Written s o (Given v) buffer last
+  list_written v last l =
       let h = q.ready.read in
       let z = h.opened in
       let r = l h (rw q.point at taken.domain) in
       let same : settings_of n.conf ≡ q.input.settings = h.settings ∙ sym taken.settings in
-      let given = subst (λ (p : PointInfo). a ≡ Given (over_book (settings_of n.conf) n.required p (covered_by (settings_of n.conf) p z.book))) (sym q.point) r.0 in
-      let left = subst (λ (p : PointInfo). LeftAt (book_bytes z.bytes (length s) (covered_by (settings_of n.conf) p z.book)) n.end o.bytes a last) (sym q.point) r.1 in
-      listed s w z h.read o q.input q.ready.taken n.end h.ends buffer q.peers n.required q.list a last
-      (subst (λ (c : Settings). a ≡ Given (over_book c n.required q.input.point (covered_by c q.input.point z.book))) same given)
-      (subst (λ (c : Settings). LeftAt (book_bytes z.bytes (length s) (covered_by c q.input.point z.book)) n.end o.bytes a last) same left)
+      let given = subst (λ (p : PointInfo). v ≡ over_book (settings_of n.conf) n.required p (covered_by (settings_of n.conf) p z.book)) (sym q.point) r.0 in
+      let left = subst (λ (p : PointInfo). LeftAt (book_bytes z.bytes (length s) (covered_by (settings_of n.conf) p z.book)) n.end o.bytes v last) (sym q.point) r.1 in
+      listed s w z h.read o q.input q.ready.taken n.end h.ends buffer q.peers n.required q.list v last
+      (subst (λ (c : Settings). v ≡ over_book c n.required q.input.point (covered_by c q.input.point z.book)) same given)
+      (subst (λ (c : Settings). LeftAt (book_bytes z.bytes (length s) (covered_by c q.input.point z.book)) n.end o.bytes v last) same left)
 
 -- ---- without a previous point nothing is marked
 
-uncovered : (c : Settings) (a b : Book) → mark (covers c a none) b ≡ b
+uncovered : (c : Settings) (a b : Book) → mark (covers c a None) b ≡ b
 unfolding mark covers
 uncovered c a [] = refl
-uncovered c a (k ∷ b) = rw (unmarked (covers c a none) k refl, uncovered c a b)
+uncovered c a (k ∷ b) = rw (unmarked (covers c a None) k refl, uncovered c a b)
 
-pub none-marked : (c : Settings) (p : PointInfo) (s : List ℕ) → Bytes s → prev_id p ≡ none → Marked c p s s
+pub none-marked : (c : Settings) (p : PointInfo) (s : List ℕ) → Bytes s → prev_id p ≡ None → Marked c p s s
 none-marked c p s w h = λ z r. rw h ((book-again s z w r).bytes ∙ ap (book_bytes z.bytes (length s)) (sym (uncovered c z.book z.book)))

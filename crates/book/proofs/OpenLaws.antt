@@ -1,13 +1,17 @@
 -- Laws of opening a book: zeros after the settings.
+use Rattle.std.specs.Prelude.{None, Some}
+use mathlib.Core.Logic.{◌⊎◌, inl, inr}
+use borrow.Author.Rules.{rules}
 use Prim.Native.Nat.{ℕ, suc, ◌-◌, ◌≤◌, ◌<◌}
 use native.Mathlib.Nat.{sub-zero}
 use native.Mathlib.Omega.{arith}
 use mathlib.Core.Path.{◌≡◌, ap, sym, ◌∙◌}
 use mathlib.Core.Bool.{◌||◌}
-use mathlib.Core.Option.{none, some}
 use mathlib.Core.List.{List, [], ◌∷◌, ◌++◌, append_assoc, append-nil}
-use lib.ListN.{length, take, set, replicate, length-set}
-use lib.Seq.{take_all, take_at, take-suc-set}
+use lib.ListN.{length, take, drop, replicate, length-drop}
+use Rattle.std.proofs.lemmas.List.{drop_all}
+use borrow.Rule.Slice.PartMut.{put_mid}
+use lib.Seq.{take_at, length-take-le}
 use lib.Dec.{ltb}
 use borrow.Author.Tests.{lt-ltb, le-ltb}
 use Rattle.base.specs.Base.{pick}
@@ -24,15 +28,10 @@ use Rattle.books.proofs.RoundTrip.{settings-length}
 abbrev pub cleared : List ℕ → ℕ → List ℕ
 cleared s from = take from s ++ replicate (length s - from) 0
 
-pub clear_step : (s : List ℕ) (i : ℕ) → i < length s → cleared (set s i 0) (suc i) ≡ cleared s i
-clear_step s i h =
-    let e : length s - i ≡ suc (length s - suc i) = omega arith in
-    rw (length-set s i 0, take-suc-set s i 0 h, e) (append_assoc (take i s) (0 ∷ []) (replicate (length s - suc i) 0))
-
-pub clear-end : (s : List ℕ) (i : ℕ) → length s ≤ i → s ≡ cleared s i
-clear-end s i h =
-    let e : length s - i ≡ 0 = omega arith in
-    rw (e, take_all i s h) (simp append-nil)
+pub zeroed : (s t : List ℕ) → 47 ≤ length s → t ≡ replicate (length (take (length s - 47) (drop 47 s))) 0 → put_mid 47 (length s - 47) s t ≡ cleared s 47
+zeroed s t h e =
+    let n : length (take (length s - 47) (drop 47 s)) ≡ length s - 47 = length-take-le (length s - 47) (drop 47 s) (omega (arith, length-drop 47 s)) in
+    rw (e, n, drop_all (length s - 47) (drop 47 s) (omega (arith, length-drop 47 s))) (simp append-nil)
 
 -- ---- the numbers of opening
 
@@ -45,19 +44,17 @@ module _ (settings s : List ℕ) where
   unfolding open_bytes
   refused-by n h = (sym h, rw h)
 
-  pub no_settings : read_settings settings ≡ none → Refused 1
+  pub no_settings : read_settings settings ≡ None → Refused 1
   no_settings h = refused-by 0 (unfold open_number in rw h)
 
-  module _ (c : Settings) (h : read_settings settings ≡ some c) where
+  module _ (c : Settings) (h : read_settings settings ≡ Some c) where
     number_is : open_number settings (length s) ≡ pick (ltb (length s) 47 || ltb 16777216 (length s)) 5 0
     unfolding open_number
     number_is = rw h
 
-    pub too_short : length s < 47 → Refused 5
-    too_short l = refused-by 4 (number_is ∙ rw (lt-ltb (length s) 47 l))
-
-    pub too_long : 47 ≤ length s → 16777216 < length s → Refused 5
-    too_long l g = refused-by 4 (number_is ∙ rw (le-ltb (length s) 47 l, lt-ltb 16777216 (length s) g))
+    pub unfit : (length s < 47) ⊎ ((47 ≤ length s) × (16777216 < length s)) → Refused 5
+    unfit (inl l) = refused-by 4 (number_is ∙ rw (lt-ltb (length s) 47 l))
+    unfit (inr (l, g)) = refused-by 4 (number_is ∙ rw (le-ltb (length s) 47 l, lt-ltb 16777216 (length s) g))
 
     module _ (l : 47 ≤ length s) (g : length s ≤ 16777216) where
       number_open : open_number settings (length s) ≡ 0

@@ -1,10 +1,11 @@
 -- Laws of the tests on the way to a decision: the numbers in their order, whether there is room, and the previous point's id.
+use Rattle.std.specs.Prelude.{Option, None, Some, is_some, Ok, Err}
+use Rattle.reasons.specs.declared.refusal.Refusal.TheVariants as Refusal
 use Prim.Native.Nat.{ℕ, ◌+◌, ◌-◌, ◌≤◌, ◌<◌}
 use native.Mathlib.Omega.{arith}
 use native.Mathlib.Decide.{dec_lt}
 use mathlib.Core.Path.{◌≡◌, refl, ap, sym, ◌∙◌, subst}
 use mathlib.Core.Bool.{Bool, true, false, not, ◌&&◌, ◌||◌}
-use mathlib.Core.Option.{Option, none, some}
 use mathlib.Core.List.{List}
 use lib.ListN.{length}
 use lib.Dec.{leb, ltb}
@@ -17,9 +18,9 @@ use Rattle.point.specs.Reading.{read_point}
 use Rattle.schedule.specs.Settings.{Settings}
 use Rattle.schedule.specs.Schedule.{Schedule, read_schedule}
 use Rattle.rules.specs.Judge.{Input, Tested, refused, admitted, tested_with}
-use Rattle.books.specs.Kept.{Kept, find_kept, Opened}
+use Rattle.books.specs.Kept.{find_kept, Opened}
 use Rattle.books.specs.Offer.{Offer, used, is_full, tested_room, input_tested, offer_tested}
-use Rattle.book.specs.Code.{passed_or, InputTested}
+use Rattle.book.specs.Code.{InputTested}
 
 pub full-last : (a b : ℕ) → 108 ≤ a → ltb (a - 108) b ≡ ltb a (b + 108)
 full-last a b h = elim (dec_lt (a - 108) b) [
@@ -30,48 +31,41 @@ full-last a b h = elim (dec_lt (a - 108) b) [
 -- ---- the previous point
 
 module _ (p : PointInfo) where
-  pub prev-none : prev_digest p ≡ none → prev_id p ≡ none
+  pub prev-none : prev_digest p ≡ None → prev_id p ≡ None
   unfolding prev_id
   prev-none h = rw h
 
-  pub prev-some : (d round : ℕ) → prev_digest p ≡ some d → round ≡ p.id.round - 1 →
-      prev_id p ≡ some (record { round = round; digest = d; author = p.id.author })
+  pub prev-some : (d round : ℕ) → prev_digest p ≡ Some d → round ≡ p.id.round - 1 →
+      prev_id p ≡ Some (record { round = round; digest = d; author = p.id.author })
   unfolding prev_id
   prev-some d round h e = rw (h, e)
 
 -- ---- the numbers 2 to 5 in their order
 
-module _ (n : ℕ) (i : Input) where
-  pub passed_none : n ≡ 0 → passed_or n i ≡ admitted i
-  passed_none e = rw e
-
-  pub passed-number : (n ≡ 0 → ⊥) → passed_or n i ≡ refused n
-  passed-number d = rw (ne_eqb n 0 d)
-
 module _ (c : Settings) (o : Offer) where
-  pub no_schedule : read_schedule o.schedule ≡ none → input_tested c o ≡ refused 2
+  pub no_schedule : read_schedule o.schedule ≡ None → input_tested c o ≡ refused 2
   no_schedule h = rw h
 
-  module _ (s : Schedule) (h : read_schedule o.schedule ≡ some s) where
-    pub no_point_lem : read_point o.bytes ≡ none → input_tested c o ≡ refused 3
+  module _ (s : Schedule) (h : read_schedule o.schedule ≡ Some s) where
+    pub no_point_lem : read_point o.bytes ≡ None → input_tested c o ≡ refused 3
     no_point_lem g = rw (h, g)
 
-    pub with_point : (p : PointInfo) → read_point o.bytes ≡ some p → input_tested c o ≡ tested_with (some c) (some s) (some p) (leb o.leader 1) (length o.peers)
+    pub with_point : (p : PointInfo) → read_point o.bytes ≡ Some p → input_tested c o ≡ tested_with (Some c) (Some s) (Some p) (leb o.leader 1) (length o.peers)
     with_point p g = rw (h, g)
 
 module _ (rec : List ℕ) (info : code-info.PointInfo) (leader room : ℕ) where
-  pub no_domain : in_domain (point_of rec info) ≡ false → InputTested rec info leader room 4
+  pub no_domain : in_domain (point_of rec info) ≡ false → InputTested rec info leader room (Err Refusal.Domain)
   no_domain d = λ c s. rw d
 
   module _ (d : in_domain (point_of rec info) ≡ true) where
-    pub no_leader : 1 < leader → InputTested rec info leader room 4
+    pub no_leader : 1 < leader → InputTested rec info leader room (Err Refusal.Domain)
     no_leader l = λ c s. rw (d, lt-leb leader 1 l)
 
     module _ (l : leader ≤ 1) where
-      pub no_buffer : room < 8160 → InputTested rec info leader room 5
+      pub no_buffer : room < 8160 → InputTested rec info leader room (Err Refusal.Short)
       no_buffer m = λ c s. rw (d, le-leb leader 1 l, lt-ltb room 8160 m)
 
-      pub all-passed : 8160 ≤ room → InputTested rec info leader room 0
+      pub all-passed : 8160 ≤ room → InputTested rec info leader room (Ok tt)
       all-passed m = λ c s. rw (d, le-leb leader 1 l, le-ltb room 8160 m)
 
 abbrev Roomy : ℕ → Tested → Type 0
@@ -82,10 +76,10 @@ Roomy size (admitted i) = 8160 ≤ size
 pub passed_buffer : (c : Settings) (o : Offer) (i : Input) → input_tested c o ≡ admitted i → 8160 ≤ length o.peers
 passed_buffer c o i h = subst (Roomy (length o.peers)) h (all (read_schedule o.schedule) (read_point o.bytes))
   where
-    all : (s : Option Schedule) (p : Option PointInfo) → Roomy (length o.peers) (tested_with (some c) s p (leb o.leader 1) (length o.peers))
-    all none p = tt
-    all (some s) none = tt
-    all (some s) (some p) = go (not (in_domain p && leb o.leader 1)) (ltb (length o.peers) 8160) refl
+    all : (s : Option Schedule) (p : Option PointInfo) → Roomy (length o.peers) (tested_with (Some c) s p (leb o.leader 1) (length o.peers))
+    all None p = tt
+    all (Some s) None = tt
+    all (Some s) (Some p) = go (not (in_domain p && leb o.leader 1)) (ltb (length o.peers) 8160) refl
       where
         go : (x y : Bool) → ltb (length o.peers) 8160 ≡ y → Roomy (length o.peers) (pick x (refused 4) (pick y (refused 5) (admitted (record { settings = c; schedule = s; point = p }))))
         go true y e = tt
@@ -104,10 +98,10 @@ module _ (z : Opened) (c : Settings) (e : c ≡ z.settings) (o : Offer) where
   after-input i h = ap (λ (x : Settings). tested_room z o.bytes (input_tested x o)) (sym e) ∙ ap (tested_room z o.bytes) h
 
 module _ (z : Opened) (bytes : List ℕ) (i : Input) (id : PointId) (e : i.point.id ≡ id) where
-  pub is-there : (k : Kept) → find_kept z.book id ≡ some k → tested_room z bytes (admitted i) ≡ refused 11
-  is-there k f = rw (e, f)
+  pub is-there : is_some (find_kept z.book id) ≡ true → tested_room z bytes (admitted i) ≡ refused 11
+  is-there f = rw (e, f)
 
-  module _ (f : find_kept z.book id ≡ none) where
+  module _ (f : find_kept z.book id ≡ None) where
     pub no_room : is_full z bytes ≡ true → tested_room z bytes (admitted i) ≡ refused 12
     no_room r = rw (e, f, r)
 

@@ -1,6 +1,5 @@
-// What an offer comes to over the book as it stands: an answer, or that its list is needed.
-ghost use Rattle.std.specs.Prelude.{◌≡◌, ◌||◌, List, ℕ, ◌+◌, ◌-◌, ◌≤◌, length, replicate, leb, ltb};
-ghost use Rattle.std.proofs.Math.Option.{some};
+// What an offer comes to over the book as it stands: a refusal, a verdict, or that its list is needed.
+ghost use Rattle.std.specs.Prelude.{◌≡◌, ◌||◌, List, ℕ, ◌+◌, ◌-◌, ◌≤◌, length, replicate, leb, ltb, Some};
 ghost use Rattle.parts.specs.Bytes.{Bytes};
 ghost use Rattle.parts.specs.Limits.{tag33_length, most_kept, peers_room};
 ghost use Rattle.point.specs.Code.{point_id_of, Reads};
@@ -8,12 +7,11 @@ ghost use Rattle.schedule.specs.Code.{settings_of, schedule_of};
 ghost use Rattle.schedule.specs.Schedule.{read_schedule};
 ghost use Rattle.id_index.specs.Code.{Index};
 ghost use Rattle.books.specs.Offer.{offer_of};
-ghost use Rattle.book.specs.Code.{refusal, input_of, InputTested, RoomTested, Ready, Decides};
+ghost use Rattle.book.specs.Code.{input_of, InputTested, RoomTested, Ready, Decides};
 
-use book_read::ReadBook;
-use id_index::Place;
-use judge::{Before, JudgeAnswer};
-use point::{PointId, PointInfo, ReadPoint};
+use judge::Before;
+use point::{PointId, PointInfo};
+use reasons::{Refusal, Verdict};
 use schedule::{Schedule, Settings};
 
 // What was read of an offer to a book with these settings.
@@ -33,33 +31,24 @@ pub struct Needs {
     pub end: usize,
 }
 
-// An answer and where the entries end, or that the list is needed.
+// A verdict and where the entries end, or that the list is needed.
 #[derive(Clone, Copy)]
 pub enum Decided {
-    Answered(JudgeAnswer, usize),
+    Judged(Verdict, usize),
     Needed(Needs),
 }
 
-fn refused(number: u8) -> Decided
-    ensures { result ≡ refusal number }
-{
-    Decided::Answered(JudgeAnswer::Number(number), 0)
-}
-
-// The numbers 4 and 5 in their order, 0 if neither comes. The peer buffer has `room` bytes.
-fn input_number(rec: &[u8], info: PointInfo, leader: u8, room: usize) -> u8
+// The numbers 4 and 5 in their order. The peer buffer has `room` bytes.
+fn test_input(rec: &[u8], info: PointInfo, leader: u8, room: usize) -> Result<(), Refusal>
     ensures { InputTested rec.now info leader room result }
 {
-    if !point::is_in_domain(rec, info) {
-        return 4;
-    }
-    if 1 < leader {
-        return 4;
+    if !point::is_in_domain(rec, info) || 1 < leader {
+        return Err(Refusal::Domain);
     }
     if room < parts::PEERS_ROOM {
-        return 5;
+        return Err(Refusal::Short);
     }
-    0
+    Ok(())
 }
 
 // Whether a book of `len` bytes, whose n entries end at a place, has no room for a record of a length.
@@ -67,27 +56,22 @@ fn is_full(len: usize, n: usize, end: usize, rec_len: usize) -> bool
     requires { end ≤ len }
     ensures { result ≡ (leb most_kept n || ltb (len - end) (rec_len + tag33_length)) }
 {
-    if parts::MOST_KEPT <= n {
-        return true;
-    }
-    if len - end < parts::TAG33_LENGTH {
-        return true;
-    }
-    len - end - parts::TAG33_LENGTH < rec_len
+    let room = len - end;
+    parts::MOST_KEPT <= n || room < parts::TAG33_LENGTH || room - parts::TAG33_LENGTH < rec_len
 }
 
-// The numbers 11 and 12 in their order, 0 if neither comes.
-fn room_number(book: &[u8], end: usize, index: &[u16], rec: &[u8], id: PointId) -> u8
+// The numbers 11 and 12 in their order.
+fn test_room(book: &[u8], end: usize, index: &[u16], rec: &[u8], id: PointId) -> Result<(), Refusal>
     requires { Index book.now index.now × (end ≤ length book.now) }
     ensures { RoomTested book.now end index.now rec.now (point_id_of id) result }
 {
-    let Place::Absent = id_index::find(book, index, id) else {
-        return 11;
-    };
-    if is_full(book.len(), id_index::count(index), end, rec.len()) {
-        return 12;
+    if id_index::find(book, index, id).is_some() {
+        return Err(Refusal::Kept);
     }
-    0
+    if is_full(book.len(), id_index::count(index), end, rec.len()) {
+        return Err(Refusal::Full);
+    }
+    Ok(())
 }
 
 // Judges an offer that passed the tests, as far as no list is needed.
@@ -98,8 +82,8 @@ fn judge_input(
     leader: u8,
     rec: &[u8],
     peers: &mut [u8],
-) -> Decided
-    requires schedule_value { read_schedule schedule.now ≡ some (schedule_of schedule.now input.spans) }
+) -> Result<Decided, Refusal>
+    requires schedule_value { read_schedule schedule.now ≡ Some (schedule_of schedule.now input.spans) }
     requires reads { Reads rec.now input.info }
     requires peers_room_in_bounds { peers_room ≤ length peers.old }
     ensures { (s x : List ℕ) → Bytes s →
@@ -109,15 +93,15 @@ fn judge_input(
 {
     let conf = input.conf;
     let info = input.info;
-    let before = judge::before_list(conf, schedule, input.spans, rec, info, leader == 1, peers);
-    match before {
-        Before::Answered(answer) => Decided::Answered(answer, end),
-        Before::Needed(required) => Decided::Needed(Needs {
+    let known = judge::before_list(conf, schedule, input.spans, rec, info, leader == 1, peers)?;
+    match known {
+        Before::Judged(verdict) => Ok(Decided::Judged(verdict, end)),
+        Before::Needed(required) => Ok(Decided::Needed(Needs {
             conf,
             info,
             required,
             end,
-        }),
+        })),
     }
 }
 
@@ -129,30 +113,17 @@ pub fn decide(
     rec: &[u8],
     peers: &mut [u8],
     index: &mut [u16],
-) -> Decided
+) -> Result<Decided, Refusal>
     requires { index.old ≡ replicate 16386 0 }
     ensures { Decides book.now (offer_of schedule.now leader rec.now peers.old) result
         index.new peers.new }
 {
-    let ReadBook::Book(conf, end) = book_read::read_book(book, index) else {
-        return refused(10);
-    };
-    let read = schedule::read_schedule(schedule);
-    if !read.readable {
-        return refused(2);
-    }
-    let ReadPoint::Point(info) = point::read_point(rec) else {
-        return refused(3);
-    };
-    let number = input_number(rec, info, leader, peers.len());
-    if number != 0 {
-        return refused(number);
-    }
-    let number = room_number(book, end, index, rec, info.id);
-    if number != 0 {
-        return refused(number);
-    }
-    let spans = read.schedule;
+    let read = book_read::read_book(book, index).ok_or(Refusal::Book)?;
+    let (conf, end) = read;
+    let spans = schedule::read_schedule(schedule).ok_or(Refusal::Schedule)?;
+    let info = point::read_point(rec).ok_or(Refusal::Record)?;
+    test_input(rec, info, leader, peers.len())?;
+    test_room(book, end, index, rec, info.id)?;
     let input = Input { conf, spans, info };
     judge_input(input, end, schedule, leader, rec, peers)
 }

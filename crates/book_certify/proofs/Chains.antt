@@ -46,25 +46,25 @@ module _ {s x : List ℕ} {top history n : ℕ} {w : List ℕ} (c : Chained s x 
   -- ---- one entry more
 
   more-last : (d : ℕ) → d ≤ history → ((id_in s x n).round + d ≡ top → ⊥) → IsLast s x top d (n + 1) (get_or w (8192 + d) 0)
-  more-last d h none =
+  more-last d h None =
       let l = c.last d h in
       record {
         within = omega (arith, l.within);
         there = l.there;
         past = λ j a b e. elim (ℕ_discrete j n) [
-          | yes g ↦ none (subst (λ (m : ℕ). (id_in s x m).round + d ≡ top) g e)
+          | yes g ↦ None (subst (λ (m : ℕ). (id_in s x m).round + d ≡ top) g e)
           | no g ↦ l.past j a (omega arith) e
         ];
       }
 
   -- it has none of the depths
   pub chained_past : ((d : ℕ) → d ≤ history → (id_in s x n).round + d ≡ top → ⊥) → Chained s x top history (n + 1) w
-  chained_past none =
+  chained_past None =
       record {
         sized = c.sized;
-        last = λ d h. more-last d h (none d h);
+        last = λ d h. more-last d h (None d h);
         before = λ j d a b e. elim (ℕ_discrete j n) [
-          | yes g ↦ absurd (none d b (subst (λ (m : ℕ). (id_in s x m).round + d ≡ top) g e))
+          | yes g ↦ absurd (None d b (subst (λ (m : ℕ). (id_in s x m).round + d ≡ top) g e))
           | no g ↦ c.before j d (omega arith) b e
         ];
       }

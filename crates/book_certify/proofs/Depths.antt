@@ -1,11 +1,11 @@
 -- What a certificate covers, depth by depth.
+use Rattle.std.specs.Prelude.{None, Some}
 use Prim.Native.Nat.{ℕ, zero, suc, ◌+◌, ◌-◌, ◌≤◌, ◌<◌}
 use native.Mathlib.Omega.{arith}
 use native.Mathlib.Decide.{dec_lt, ℕ_discrete}
 use mathlib.Core.Path.{◌≡◌, refl, ap, sym, ◌∙◌}
 use mathlib.Core.Logic.{◌⊎◌, inl, inr}
 use mathlib.Core.Bool.{Bool, true, false, ◌&&◌}
-use mathlib.Core.Option.{none, some}
 use mathlib.Core.List.{List, [], ◌∷◌, Memᴰ}
 use lib.ListN.{get_or, drop}
 use lib.Seq.{drop-nil}
@@ -78,20 +78,20 @@ record Giver (c : Settings) (s : List ℕ) (t i : PointId) : Type 0 where
   there : drop number (book_in s) ≡ kept ∷ rest
   deps : has_deps c kept ≡ true
   names : is_dependency kept.point i ≡ true
-  covered : covers c (book_in s) (some t) kept.point.id ≡ true
+  covered : covers c (book_in s) (Some t) kept.point.id ≡ true
 
 module _ (c : Settings) {s : List ℕ} {end : ℕ} {x : List ℕ} (h : Stands s end x (book_in s)) (t : PointId) where
   -- ---- the rule, forth and back
 
-  covered-by : (i : PointId) → covers c (book_in s) (some t) i ≡ true → (same_id t i ≡ true) ⊎ Giver c s t i
+  covered-by : (i : PointId) → covers c (book_in s) (Some t) i ≡ true → (same_id t i ≡ true) ⊎ Giver c s t i
   covered-by i e =
       go (or_cases (same_id t i) _ (and_right (leb t.round (i.round + c.commit_history_rounds)) _ (sym (covers-by_rounds c (book_in s) h.shape t i) ∙ e)))
     where
-      go : (same_id t i ≡ true) ⊎ (any_kept (λ k. has_deps c k && (is_dependency k.point i && covers c (book_in s) (some t) k.point.id)) (book_in s) ≡ true) →
+      go : (same_id t i ≡ true) ⊎ (any_kept (λ k. has_deps c k && (is_dependency k.point i && covers c (book_in s) (Some t) k.point.id)) (book_in s) ≡ true) →
           (same_id t i ≡ true) ⊎ Giver c s t i
       go (inl f) = inl f
       go (inr f) =
-          let r = any_at (λ k. has_deps c k && (is_dependency k.point i && covers c (book_in s) (some t) k.point.id)) (book_in s) f in
+          let r = any_at (λ k. has_deps c k && (is_dependency k.point i && covers c (book_in s) (Some t) k.point.id)) (book_in s) f in
           let k = r.1 in
           let d = and_right (has_deps c k) _ r.4 in
           inr (record {
@@ -104,20 +104,20 @@ module _ (c : Settings) {s : List ℕ} {end : ℕ} {x : List ℕ} (h : Stands s 
             covered = and_right (is_dependency k.point i) _ d;
           })
 
-  covered_self : (i : PointId) → same_id t i ≡ true → covers c (book_in s) (some t) i ≡ true
+  covered_self : (i : PointId) → same_id t i ≡ true → covers c (book_in s) (Some t) i ≡ true
   covered_self i e =
       covers-by_rounds c (book_in s) h.shape t i
       ∙ and_both (leb t.round (i.round + c.commit_history_rounds)) _ (le-leb t.round (i.round + c.commit_history_rounds) (omega (arith, (same_fields t i e).0))) (or_first (same_id t i) _ e)
 
-  covered-from : (i : PointId) → Giver c s t i → t.round ≤ i.round + c.commit_history_rounds → covers c (book_in s) (some t) i ≡ true
+  covered-from : (i : PointId) → Giver c s t i → t.round ≤ i.round + c.commit_history_rounds → covers c (book_in s) (Some t) i ≡ true
   covered-from i g under =
       covers-by_rounds c (book_in s) h.shape t i
       ∙ and_both (leb t.round (i.round + c.commit_history_rounds)) _ (le-leb _ _ under)
       (or_second (same_id t i) _
-      (at-any (λ k. has_deps c k && (is_dependency k.point i && covers c (book_in s) (some t) k.point.id)) (book_in s) g.number g.kept g.rest g.there
+      (at-any (λ k. has_deps c k && (is_dependency k.point i && covers c (book_in s) (Some t) k.point.id)) (book_in s) g.number g.kept g.rest g.there
       (and_both (has_deps c g.kept) _ g.deps (and_both (is_dependency g.kept.point i) _ g.names g.covered))))
 
-  below : (i : PointId) → covers c (book_in s) (some t) i ≡ true → i.round ≤ t.round
+  below : (i : PointId) → covers c (book_in s) (Some t) i ≡ true → i.round ≤ t.round
   below i e = leads-below c (book_in s) h.shape i t (covers-leads c (book_in s) h.shape i t e).0
 
   -- ---- what is reached is covered
@@ -249,10 +249,10 @@ module _ (c : Settings) {s : List ℕ} {end : ℕ} {x : List ℕ} (h : Stands s 
 -- ---- nothing is covered where the previous point is not kept
 
 module _ (c : Settings) (b : Book) (h : Shape b) (i : PointId) (k : Kept) (m : Memᴰ k b) (e : k.point.id ≡ i) where
-  no_chain : (t : PointId) → LeadsTo c b i t → find_kept b t ≡ none → ⊥
+  no_chain : (t : PointId) → LeadsTo c b i t → find_kept b t ≡ None → ⊥
   no_chain t there f = none-some (sym f ∙ (ap (find_kept b) (sym e) ∙ once-found b h.once k m))
   no_chain t (down y p j w d l) f = none-some (sym f ∙ once-found b h.once y p.0)
 
-pub not_kept : (c : Settings) (b : Book) → Shape b → (t : PointId) → find_kept b t ≡ none → (k : Kept) → Memᴰ k b → covers c b (some t) k.point.id ≡ false
+pub not_kept : (c : Settings) (b : Book) → Shape b → (t : PointId) → find_kept b t ≡ None → (k : Kept) → Memᴰ k b → covers c b (Some t) k.point.id ≡ false
 not_kept c b h t f k m =
-    never (covers c b (some t) k.point.id) (λ e. no_chain c b h k.point.id k m refl t (covers-leads c b h k.point.id t e).0 f)
+    never (covers c b (Some t) k.point.id) (λ e. no_chain c b h k.point.id k m refl t (covers-leads c b h k.point.id t e).0 f)

@@ -1,11 +1,11 @@
 -- The marks that are written into a book's bytes, one after the other.
+use Rattle.std.specs.Prelude.{Some, None}
 use Prim.Native.Nat.{ℕ, zero, suc, ◌+◌, ◌-◌, ◌≤◌, ◌<◌}
 use native.Mathlib.Numerals.{add-one}
 use native.Mathlib.Omega.{arith}
 use native.Mathlib.Decide.{ℕ_discrete}
 use mathlib.Core.Path.{◌≡◌, refl, ap, sym, ◌∙◌, subst}
 use mathlib.Core.Bool.{Bool, true, false}
-use mathlib.Core.Option.{some}
 use mathlib.Core.List.{List, [], ◌∷◌, ◌++◌, Memᴰ, append-nil}
 use lib.ListN.{length, get_or, set, take, drop, drop_of_length-le}
 use lib.Seq.{take_all, drop-nil}
@@ -18,7 +18,6 @@ use Rattle.parts.specs.Bytes.{Bytes}
 use Rattle.point.specs.Point.{PointId}
 use Rattle.schedule.specs.Settings.{Settings}
 use Rattle.id_index.specs.Code.{count_of, FoundAt}
-use Rattle.id_index.specs.declared.Place.TheVariants.{Absent}
 use Rattle.books.specs.Kept.{Kept, Book, mark_one, mark}
 use Rattle.books.specs.Spread.{covers}
 use Rattle.books.specs.Offer.{used}
@@ -60,11 +59,11 @@ module _ (test : PointId → Bool) where
 
 -- the bytes of a book of which the first j entries have their marks
 abbrev pub Marking : Settings → List ℕ → PointId → ℕ → List ℕ → Type 0
-Marking c s t j u = u ≡ book_bytes (take 47 s) (length s) (marked (covers c (book_in s) (some t)) j (book_in s))
+Marking c s t j u = u ≡ book_bytes (take 47 s) (length s) (marked (covers c (book_in s) (Some t)) j (book_in s))
 
 module _ (c : Settings) {s : List ℕ} {end : ℕ} {x : List ℕ} (r : IsRead s c end x) (w : Bytes s) (t : PointId) where
   abbrev test : PointId → Bool
-  test = covers c (book_in s) (some t)
+  test = covers c (book_in s) (Some t)
 
   again : BookOf s r.opened
   again = book-again s r.opened w r.read
@@ -118,14 +117,14 @@ module _ (c : Settings) {s : List ℕ} {end : ℕ} {x : List ℕ} (r : IsRead s 
   certified-by {v} f z g =
       let y : book_in s ≡ z.book = ap entries_of g in
       let b : z.bytes ≡ take 47 s = (book-again s z w g).front in
-      rw b (subst (λ (l : Book). v ≡ book_bytes (take 47 s) (length s) (mark (covers c l (some t)) l)) y f)
+      rw b (subst (λ (l : Book). v ≡ book_bytes (take 47 s) (length s) (mark (covers c l (Some t)) l)) y f)
 
   pub marking_end : (j : ℕ) (v : List ℕ) → count_of x ≤ j → Marking c s t j v → Certified c s x t v
   marking_end j v h m =
       certified-by (m ∙ ap (book_bytes (take 47 s) (length s)) (marked_all test j (book_in s) (omega (arith, (stands w r).holds.placed.count))))
 
   -- the previous point is not kept
-  pub not_found : FoundAt s x t Absent → Certified c s x t s
+  pub not_found : FoundAt s x t None → Certified c s x t s
   not_found f =
       let h = stands w r in
       certified-by (laid_out ∙ ap (book_bytes (take 47 s) (length s)) (sym (unmarked-all test (book_in s) (not_kept c (book_in s) h.shape t (absent-kept h.holds t f)))))

@@ -1,7 +1,6 @@
 -- What certifying leaves of a book's bytes, and what its functions promise each other. s is the book's bytes, x its index, w the walk:
 -- 1 for each entry that is reached, from 4096 on the links of the chains, from 8192 on their heads.
-use Rattle.std.specs.Prelude.{ℕ, suc, ◌+◌, ◌-◌, ◌≤◌, ◌<◌, ◌≡◌, ◌⊎◌, Bool, true, ◌&&◌, List, [], ◌∷◌, length, get_or, drop, ltb, eqb}
-use Rattle.std.proofs.Math.Option.{Option, none, some}
+use Rattle.std.specs.Prelude.{ℕ, suc, ◌+◌, ◌-◌, ◌≤◌, ◌<◌, ◌≡◌, ◌⊎◌, Bool, true, ◌&&◌, List, [], ◌∷◌, length, get_or, drop, ltb, eqb, Option, None, Some}
 use Rattle.base.specs.Base.{pick}
 use Rattle.record.specs.Record.{next_at, content_at}
 use Rattle.map.specs.Rows.{Pair}
@@ -16,14 +15,14 @@ use Rattle.books.specs.Layout.{book_bytes, read_book}
 -- the book's bytes with the marks of what the certificate of i covers
 abbrev pub Certified : Settings → List ℕ → List ℕ → PointId → List ℕ → Type 0
 Certified c s x i t =
-    (z : Opened) → read_book s ≡ some z → t ≡ book_bytes z.bytes (length s) (mark (covers c z.book (some i)) z.book)
+    (z : Opened) → read_book s ≡ Some z → t ≡ book_bytes z.bytes (length s) (mark (covers c z.book (Some i)) z.book)
 
 -- ---- entries
 
 -- the entries that bytes are read as
 abbrev pub entries_of : Option Opened → Book
-entries_of none = []
-entries_of (some z) = z.book
+entries_of None = []
+entries_of (Some z) = z.book
 
 abbrev pub book_in : List ℕ → Book
 book_in s = entries_of (read_book s)
@@ -92,7 +91,7 @@ SameReached w v = (j : ℕ) → j < 4096 → get_or v j 0 ≡ get_or w j 0
 -- ---- what is covered
 
 abbrev pub is_covered : Settings → List ℕ → List ℕ → PointId → ℕ → Bool
-is_covered c s x t j = covers c (book_in s) (some t) (id_in s x j)
+is_covered c s x t j = covers c (book_in s) (Some t) (id_in s x j)
 
 -- all that is reached is covered
 abbrev pub Sound : Settings → List ℕ → List ℕ → PointId → List ℕ → Type 0

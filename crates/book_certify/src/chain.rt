@@ -30,10 +30,7 @@ pub fn chain_all(book: &[u8], index: &[u16], top: u32, history: usize, walk: &mu
     ensures chained { Chained book.now index.now top history (count_of index.now) walk.new }
     ensures same_reached { SameReached walk.old walk.new }
 {
-    let n = id_index::count(index);
-    let mut j = 0;
-    while j < n {
+    for j in 0..id_index::count(index) {
         chain_next(book, index, j, top, history, walk);
-        j += 1;
     }
 }

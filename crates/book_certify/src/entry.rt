@@ -18,7 +18,8 @@ pub fn end_of(index: &[u16], j: usize, end: usize) -> usize
     ensures { result ≡ end_in index.now end j }
 {
     if j + 1 < id_index::count(index) {
-        return id_index::place_at(index, j + 1);
+        id_index::place_at(index, j + 1)
+    } else {
+        end
     }
-    end
 }

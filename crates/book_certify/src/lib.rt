@@ -23,7 +23,6 @@ ghost use Rattle.id_index.specs.Code.{count_of, id_in};
 ghost use Rattle.book_read.specs.Code.{IsRead};
 ghost use Rattle.book_certify.specs.Code.{Chained, Sound, Done, Walked, Certified};
 
-use id_index::Place;
 use point::PointId;
 use schedule::Settings;
 
@@ -49,12 +48,9 @@ fn descend(by: Spread, book: &[u8], index: &[u16], walk: &mut [u16])
     requires done { Done (settings_of by.conf) book.now index.now (point_id_of by.prev) 1 walk.old }
     ensures { Walked (settings_of by.conf) book.now index.now (point_id_of by.prev) walk.new }
 {
-    let conf = by.conf;
-    let history = conf.commit_history_rounds as usize;
-    let mut depth = 1;
-    while depth <= history {
+    let history = by.conf.commit_history_rounds as usize;
+    for depth in 1..=history {
         pass::reach_depth(by, book, index, depth, walk);
-        depth += 1;
     }
 }
 
@@ -65,15 +61,8 @@ fn reach_all(by: Spread, book: &[u8], index: &[u16], first: usize, walk: &mut [u
     requires walk_value { walk.old ≡ replicate 8448 0 }
     ensures { Walked (settings_of by.conf) book.now index.now (point_id_of by.prev) walk.new }
 {
-    let conf = by.conf;
-    let prev = by.prev;
-    chain::chain_all(
-        book,
-        index,
-        prev.round,
-        conf.commit_history_rounds as usize,
-        walk,
-    );
+    let history = by.conf.commit_history_rounds as usize;
+    chain::chain_all(book, index, by.prev.round, history, walk);
     walk[first] = 1;
     descend(by, book, index, walk);
 }
@@ -93,12 +82,7 @@ pub fn certify(conf: Settings, book: &mut [u8], end: usize, index: &[u16], prev:
     requires { IsRead book.old (settings_of conf) end index.now }
     ensures { Certified (settings_of conf) book.old index.now (point_id_of prev) book.new }
 {
-    let found = id_index::find(book, index, prev);
-    match found {
-        Place::At(first) => {
-            let by = Spread { conf, end, prev };
-            certify_from(by, book, index, first)
-        }
-        Place::Absent => {}
+    if let Some(first) = id_index::find(book, index, prev) {
+        certify_from(Spread { conf, end, prev }, book, index, first)
     }
 }

@@ -17,11 +17,9 @@ fn mark_reached(book: &mut [u8], index: &[u16], j: usize, end: usize, walk: &[u1
     ensures { book.new ≡ pick (eqb (get_or walk.now j 0) 1)
         (set book.old (end_in index.now end j - 104) 1) book.old }
 {
-    if walk[j] != 1 {
-        return;
+    if walk[j] == 1 {
+        book[entry::end_of(index, j, end) - 104] = 1;
     }
-    let at = entry::end_of(index, j, end) - 104;
-    book[at] = 1;
 }
 
 pub fn write_marks(by: Spread, book: &mut [u8], index: &[u16], walk: &[u16])
@@ -29,10 +27,7 @@ pub fn write_marks(by: Spread, book: &mut [u8], index: &[u16], walk: &[u16])
     requires walk_len { (length walk.now ≡ 8448) × Walked (settings_of by.conf) book.old index.now (point_id_of by.prev) walk.now }
     ensures { Certified (settings_of by.conf) book.old index.now (point_id_of by.prev) book.new }
 {
-    let n = id_index::count(index);
-    let mut j = 0;
-    while j < n {
+    for j in 0..id_index::count(index) {
         mark_reached(book, index, j, by.end, walk);
-        j += 1;
     }
 }

@@ -10,21 +10,15 @@ ghost use Rattle.book_read.specs.Code.{IsRead};
 ghost use Rattle.book_certify.specs.Code.{rows_back, DepsTold, Adds, Taken};
 
 use crate::{Spread, entry};
-use id_index::Place;
-use point::PointId;
-
-// Where the includes start in a record: the two fields before them have one length.
-const INCLUDES: usize = 82;
+use point::{INCLUDES, PointId};
 
 // Reaches the entry of an id, if it is kept.
 fn reach_id(book: &[u8], index: &[u16], id: PointId, walk: &mut [u16])
     requires { IndexOf book.now index.now true × (length walk.old ≡ 8448) }
     ensures { Adds book.now index.now (same_id (point_id_of id)) walk.old walk.new }
 {
-    let found = id_index::find(book, index, id);
-    match found {
-        Place::At(j) => walk[j] = 1,
-        Place::Absent => {}
+    if let Some(j) = id_index::find(book, index, id) {
+        walk[j] = 1;
     }
 }
 
@@ -34,16 +28,13 @@ fn reach_rows(book: &[u8], index: &[u16], round: u32, rows: &[u8], walk: &mut [u
     ensures { Adds book.now index.now (is_among round (pairs_of rows.now))
         walk.old walk.new }
 {
-    let count = map::count(rows, 64);
-    let mut i = 0;
-    while i < count {
+    for i in 0..map::count(rows, 64) {
         let id = PointId {
             round,
             digest: map::digest_at(rows, i),
             author: map::peer_at(rows, 64, i),
         };
         reach_id(book, index, id, walk);
-        i += 1;
     }
 }
 
@@ -52,10 +43,10 @@ fn rows_back(s: &[u8], back: usize) -> &[u8]
     requires { 82 ≤ length s.now }
     ensures { result.now ≡ rows_back back s.now }
 {
-    if back == 1 {
-        return record::content_at(s, INCLUDES);
+    match back {
+        1 => record::content_at(s, INCLUDES),
+        _ => record::content_at(s, record::next(s, INCLUDES)),
     }
-    record::content_at(s, record::next(s, INCLUDES))
 }
 
 // Whether an entry passes its mark on: if it lies above genesis and is not ill-formed.
@@ -63,13 +54,8 @@ fn has_deps(by: Spread, book: &[u8], index: &[u16], j: usize) -> bool
     requires { IsRead book.now (settings_of by.conf) by.end index.now × (j < count_of index.now) }
     ensures { DepsTold (settings_of by.conf) book.now j result }
 {
-    let conf = by.conf;
-    let round = entry::round_of(book, index, j);
-    if round <= conf.genesis_round {
-        return false;
-    }
-    let at = entry::end_of(index, j, by.end) - 105;
-    book[at] != 3
+    by.conf.genesis_round < entry::round_of(book, index, j)
+        && book[entry::end_of(index, j, by.end) - 105] != 3
 }
 
 // Reaches what an entry passes its mark on to in one of its maps, if it is reached itself.

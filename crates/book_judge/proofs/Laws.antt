@@ -1,16 +1,16 @@
 -- Laws of judging over a book: the entry of an id, dependencies that are no versions, and the lists one after the other.
+use Rattle.std.specs.Prelude.{Option, None, Some, is_some}
 use Prim.Native.Nat.{ℕ, ◌+◌, ◌-◌, ◌≤◌, ◌<◌}
 use native.Mathlib.Omega.{arith}
 use mathlib.Core.Path.{◌≡◌, refl, ap, sym, ◌∙◌, subst}
 use mathlib.Core.Bool.{Bool, true, false, not, ◌&&◌, and-false}
-use mathlib.Core.Option.{Option, none, some}
 use mathlib.Core.List.{List, [], ◌∷◌, ◌++◌}
 use lib.ListN.{length, get_or, drop, drop_of_length-le}
 use lib.Seq.{drop-cons}
 use native.Mathlib.Numerals.{add-one}
 use lib.Dec.{eqb, leb}
 use borrow.Author.Tests.{eqb-true, ne_eqb, leb-true}
-use Rattle.base.specs.Base.{pick, is_some}
+use Rattle.base.specs.Base.{pick}
 use Rattle.base.proofs.Bool.{and_left, clash, last-false}
 use Rattle.base.proofs.Lists.{member-at}
 use Rattle.map.specs.Rows.{Pair, get, peers_of, pairs_of, digests}
@@ -40,12 +40,12 @@ Shows k e = shown k e.first_valid ≡ e
 
 module _ (b : Book) (q : PointInfo) (i : PointId) where
   -- an entry counts as certified by its mark
-  pub looked_kept : (k : Kept) → find_kept b i ≡ some k → Shows k (lookup b q i)
+  pub looked_kept : (k : Kept) → find_kept b i ≡ Some k → Shows k (lookup b q i)
   unfolding lookup kept_entry
   looked_kept k h = rw h
 
   -- an id that is not kept counts as certified as the previous point
-  pub looked_absent : find_kept b i ≡ none → lookup b q i ≡ record { state = NotFound i; certified = is_id (prev_id q) i; first_valid = false }
+  pub looked_absent : find_kept b i ≡ None → lookup b q i ≡ record { state = NotFound i; certified = is_id (prev_id q) i; first_valid = false }
   unfolding lookup
   looked_absent h = ap (entry_with b q i) h
 
@@ -66,10 +66,10 @@ taken-version q i = go (eqb i.round (q.id.round - 1) && eqb i.author q.id.author
     own false = refl
 
     go : (t : Bool) (o : Option ℕ) → is_as_version (pick t (taken_own i o) as_dependency) ≡ (not (is_some o) && t)
-    go true none = refl
-    go true (some d) = own (eqb d i.digest)
-    go false none = refl
-    go false (some d) = refl
+    go true None = refl
+    go true (Some d) = own (eqb d i.digest)
+    go false None = refl
+    go false (Some d) = refl
 
 abbrev entry : DagPoint → Bool → Bool → Entry
 entry d certified first = record { state = d; certified = certified; first_valid = first }
@@ -189,7 +189,7 @@ module _ (c : Settings) (required : Bool) (p : PointView) where
         (map-judged two (q.id.round - 2) witness q.witness j x (et ∙ ap (λ (n : ℕ). n - 2) r) ew (witness-none q d q.witness) f)
 
 -- after the maps, the versions where there is no previous point
-pub versions-after : (c : Settings) (required : Bool) (p : PointView) (b : Book) (q : PointInfo) (j x y : Judging) → p ≡ point_view q → prev_digest q ≡ none →
+pub versions-after : (c : Settings) (required : Bool) (p : PointView) (b : Book) (q : PointInfo) (j x y : Judging) → p ≡ point_view q → prev_digest q ≡ None →
     x ≡ in_maps c required p b q j → y ≡ direct_fold c required p x (versions b (p.id.round - 1) p.id.author b) →
     y ≡ direct_fold c required p j (direct_list b q)
 unfolding point_view

@@ -1,11 +1,11 @@
 -- Laws of what was looked up: an entry that was read at a place is the one that stands there.
+use Rattle.std.specs.Prelude.{is_some, None, Some}
 use Prim.Native.Nat.{ℕ, ◌+◌, ◌-◌, ◌≤◌}
 use native.Mathlib.Omega.{arith}
 use mathlib.Core.Path.{◌≡◌, ap, sym, ◌∙◌, subst}
 use mathlib.Core.Bool.{Bool, false}
 use mathlib.Core.List.{List}
 use lib.ListN.{length, take, drop, length-drop}
-use Rattle.base.specs.Base.{is_some}
 use Rattle.judge_valid.specs.Code.{point_view_of}
 use Rattle.point.specs.Point.{PointId, Through, AnchorLink, Indirect, PointInfo, prev_id, anchor_link}
 use Rattle.point.specs.declared.data.AnchorStageRole.{AnchorStageRole}
@@ -18,8 +18,6 @@ use Rattle.judge_valid.specs.declared.view.PointView as code_view
 use Rattle.rules.specs.Mismatch.{is_version, is_id}
 use Rattle.judge_list.specs.Code.{prev_in}
 use Rattle.id_index.specs.Code.{place_in, FoundAt, Index}
-use Rattle.id_index.specs.declared.Place.{Place}
-use Rattle.id_index.specs.declared.Place.TheVariants.{At, Absent}
 use Rattle.judge_entries.specs.Code.{dag_point_of, part_of, ReadFrom, EntryPlaced}
 use Rattle.judge_entries.specs.declared.DagPoint as code-point
 use Rattle.judge_entries.specs.declared.DagPoint.TheVariants as case-point
@@ -72,9 +70,6 @@ held-entries {s} {b} {x} h i =
 
 -- ---- the entry of an id
 
-pub found-there : (s x : List ℕ) (i : PointId) (r q : Place) → r ≡ q → FoundAt s x i r → FoundAt s x i q
-found-there s x i r q e h = rw e at h
-
 prev_in_lem : (v : PointView) (q : PointInfo) (i : PointId) (prev : Bool) → v ≡ point_view q → prev ≡ is_id (prev_in v) i → prev ≡ is_id (prev_id q) i
 unfolding point_view prev_id
 prev_in_lem v q i prev e h = h ∙ ap (λ (o : _). is_id o i) (ap prev_in e)
@@ -83,14 +78,14 @@ abbrev absent : PointId → Bool → Entry
 absent i prev = record { state = NotFound i; certified = prev; first_valid = false }
 
 module _ {s : List ℕ} {b : Book} {x : List ℕ} {v : code_view.PointView} {q : PointInfo} (a : Asked s b x v q) where
-  pub looks_found : (i : PointId) (j : ℕ) → FoundAt s x i (At j) → (place : ℕ) → place ≡ place_in x j → (y : code-looked.Looked) → LookedAt s place y →
+  pub looks_found : (i : PointId) (j : ℕ) → FoundAt s x i (Some j) → (place : ℕ) → place ≡ place_in x j → (y : code-looked.Looked) → LookedAt s place y →
       Looks s y (lookup b q i)
   looks_found i j f place e y l =
       let w = found-kept a.holds i j f in
       l.1 (record { kept = w.kept; size = length w.kept.bytes + 108 }) (rw e (a.holds.placed.fronts j w.kept w.rest w.there)) (lookup b q i).first_valid
       ∙ looked_kept b q i w.kept w.found
 
-  pub looks_absent : (i : code-id.PointId) (prev : Bool) → prev ≡ is_id (prev_in (point_view_of v)) (point_id_of i) → FoundAt s x (point_id_of i) Absent →
+  pub looks_absent : (i : code-id.PointId) (prev : Bool) → prev ≡ is_id (prev_in (point_view_of v)) (point_id_of i) → FoundAt s x (point_id_of i) None →
       Looks s (record { state = case-point.NotFound i; certified = prev; place = 0; end = 0 }) (lookup b q (point_id_of i))
   looks_absent i prev c f =
       rw (looked_absent b q (point_id_of i) (absent-kept a.holds (point_id_of i) f))

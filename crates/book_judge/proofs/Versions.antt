@@ -1,14 +1,14 @@
 -- Laws of the versions of an author: the first one that is Valid in the book's order is the first valid one, since no id stands twice.
+use Rattle.std.specs.Prelude.{Option, None, Some, is_some}
 use Prim.Native.Nat.{ℕ, ◌+◌, ◌-◌, ◌≤◌}
 use mathlib.Core.Path.{◌≡◌, refl, ap, sym, ◌∙◌}
 use mathlib.Core.Bool.{Bool, true, false, not, ◌&&◌, ◌||◌, and-false}
-use mathlib.Core.Option.{Option, none, some}
 use mathlib.Core.List.{List, [], ◌∷◌}
 use lib.ListN.{length, drop, drop_of_length-le}
 use lib.Seq.{drop-drop}
 use lib.Dec.{eqb}
 use borrow.Author.Tests.{eqb-true}
-use Rattle.base.specs.Base.{pick, is_some}
+use Rattle.base.specs.Base.{pick}
 use Rattle.base.proofs.Bool.{and_left, and_right, clash}
 use Rattle.base.proofs.Option.{none-some}
 use Rattle.point.specs.Point.{PointId, PointInfo, same_id}
@@ -32,13 +32,13 @@ versions_fold c required p w (k ∷ l) = versions_fold c required p (version_ste
 
 module _ (round author : ℕ) where
   -- the first valid one is kept
-  first-kept : (l : Book) (i : PointId) → first_valid l round author ≡ some i → is_some (find_kept l i) ≡ true
+  first-kept : (l : Book) (i : PointId) → first_valid l round author ≡ Some i → is_some (find_kept l i) ≡ true
   unfolding first_valid find_kept
   first-kept [] i h = none-some h
   first-kept (k ∷ l) i h = go (is_valid k.status && is_of round author k) (same_id k.point.id i) refl (first-kept l i) h
     where
-      go : (t u : Bool) → same_id k.point.id i ≡ u → (first_valid l round author ≡ some i → is_some (find_kept l i) ≡ true) →
-          pick t (some k.point.id) (first_valid l round author) ≡ some i → is_some (pick u (some k) (find_kept l i)) ≡ true
+      go : (t u : Bool) → same_id k.point.id i ≡ u → (first_valid l round author ≡ Some i → is_some (find_kept l i) ≡ true) →
+          pick t (Some k.point.id) (first_valid l round author) ≡ Some i → is_some (pick u (Some k) (find_kept l i)) ≡ true
       go t true q rec e = refl
       go true false q rec e = let g : k.point.id ≡ i = cc in clash (same_id k.point.id i) (eq_same _ _ g) q
       go false false q rec e = rec e
@@ -46,7 +46,7 @@ module _ (round author : ℕ) where
   -- what is left of a book after some entries: the first valid one is the first among them, or stood before and is not among them
   abbrev ToCome : Bool → Option PointId → List Kept → Type 0
   ToCome false o l = o ≡ first_valid l round author
-  ToCome true o l = (i : PointId) → o ≡ some i → find_kept l i ≡ none
+  ToCome true o l = (i : PointId) → o ≡ Some i → find_kept l i ≡ None
 
   -- an entry of another author or round
   come_other : (seen : Bool) (o : Option PointId) (k : Kept) (l : List Kept) → is_of round author k ≡ false → ToCome seen o (k ∷ l) → ToCome seen o l
@@ -57,12 +57,12 @@ module _ (round author : ℕ) where
   module _ (k : Kept) (l : List Kept) where
     -- the first valid one stood before, or comes after: then it is another
     other-before : (o : Option PointId) → ToCome true o (k ∷ l) → is_id o k.point.id ≡ false
-    other-before none t = refl
-    other-before (some i) t = same_sym i k.point.id ∙ (absent-first k l i (t i refl)).0
+    other-before None t = refl
+    other-before (Some i) t = same_sym i k.point.id ∙ (absent-first k l i (t i refl)).0
 
     other_after : is_twice (k ∷ l) ≡ false → (o : Option PointId) → o ≡ first_valid l round author → is_id o k.point.id ≡ false
-    other_after once none e = refl
-    other_after once (some i) e =
+    other_after once None e = refl
+    other_after once (Some i) e =
         differ i k.point.id (λ same. clash (is_some (find_kept l i)) (first-kept l i (sym e)) (rw same (ap (λ (x : Option Kept). is_some x) (once-first k l once))))
 
     -- an entry of the author and round is the first valid one if it is Valid and none before it was
@@ -71,7 +71,7 @@ module _ (round author : ℕ) where
     unfolding first_valid
     come_own true valid o once h v t = (and-false valid ∙ sym (other-before o t), λ i e. (absent-first k l i (t i e)).1)
     come_own false true o once h v t =
-        let e : o ≡ some k.point.id = t ∙ rw (v, h) in
+        let e : o ≡ Some k.point.id = t ∙ rw (v, h) in
         (rw e (sym (same_refl k.point.id)), λ i f. let same : k.point.id ≡ i = cc in rw same at (once-first k l once))
     come_own false false o once h v t = let e : o ≡ first_valid l round author = t ∙ rw v in (sym (other_after once o e), e)
 

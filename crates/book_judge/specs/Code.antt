@@ -1,8 +1,8 @@
 -- Judging a point by the lists that a book builds of its entries, and what the code's values stand for.
-use Rattle.std.specs.Prelude.{ℕ, ◌-◌, ◌+◌, ◌<◌, ◌≡◌, Bool, true, false, not, ◌&&◌, ◌||◌, drop}
+use Rattle.std.specs.Prelude.{ℕ, ◌-◌, ◌+◌, ◌<◌, ◌≡◌, Bool, true, false, not, ◌&&◌, ◌||◌, drop, Some, is_some}
 use mathlib.Core.List.{List, Memᴰ}
 use Rattle.judge_valid.specs.Code.{point_view_of}
-use Rattle.base.specs.Base.{pick, is_some}
+use Rattle.base.specs.Base.{pick}
 use Rattle.map.specs.Rows.{Pair, pairs_of}
 use Rattle.point.specs.Point.{PointInfo, PointId, AnchorLink, anchor_link, in_domain}
 use Rattle.schedule.specs.Settings.{Settings}
@@ -19,7 +19,6 @@ use Rattle.book_read.specs.Code.{Holds}
 use Rattle.judge_valid.specs.declared.view.PointView as code_view
 use Rattle.book_judge.specs.declared.look.Looked as code-looked
 use Rattle.book_judge.specs.declared.direct.Versions as code-versions
-use Rattle.std.proofs.Math.Option.{some}
 use Rattle.parts.specs.Code.{number}
 use Rattle.point.specs.Reading.{point_id_at}
 use Rattle.point.specs.Code.{point_of}
@@ -95,7 +94,7 @@ version_step c required p w k =
 -- what stands at a place, if it is an entry, is handed on as the judge is told of it
 abbrev pub KeptLooked : List ℕ → ℕ → code-looked.Looked → Type 0
 KeptLooked s place r =
-    (x : KeptFront) → kept_front (drop place s) ≡ some x → (first : Bool) → looked_of s r first ≡ shown x.kept first
+    (x : KeptFront) → kept_front (drop place s) ≡ Some x → (first : Bool) → looked_of s r first ≡ shown x.kept first
 
 -- what was looked up is what the book says of an id
 abbrev pub LookedUp : List ℕ → List ℕ → code_view.PointView → PointId → code-looked.Looked → Type 0
@@ -110,7 +109,7 @@ MapJudged c required v round rows s x old new =
 -- the entry at a place was judged, if it is a version
 abbrev pub VersionJudged : Settings → Bool → code_view.PointView → List ℕ → ℕ → Versions → Versions → Type 0
 VersionJudged c required v s place old new =
-    (x : KeptFront) → kept_front (drop place s) ≡ some x → point_id_at s (place + 3) ≡ x.kept.point.id →
+    (x : KeptFront) → kept_front (drop place s) ≡ Some x → point_id_at s (place + 3) ≡ x.kept.point.id →
     new ≡ version_step c required (point_view_of v) old x.kept
 
 -- the versions of the author's point at r-1 were judged, in the book's order

@@ -1,6 +1,5 @@
 // The direct entries, looked up and judged one by one.
-ghost use Rattle.std.specs.Prelude.{◌≡◌, true, not, ◌&&◌, ◌||◌, List, ℕ, ◌+◌, ◌≤◌, length, drop};
-ghost use Rattle.base.specs.Base.{is_some};
+ghost use Rattle.std.specs.Prelude.{◌≡◌, true, not, ◌&&◌, ◌||◌, List, ℕ, ◌+◌, ◌≤◌, length, drop, is_some};
 ghost use Rattle.judge_valid.specs.Code.{point_view_of};
 ghost use Rattle.point.specs.Code.{Reads};
 ghost use Rattle.schedule.specs.Code.{settings_of};
@@ -10,22 +9,12 @@ ghost use Rattle.books.specs.Layout.{kept_front};
 ghost use Rattle.book_judge.specs.Code.{Entries, looked_of, is_valid_state, versions_of, MapJudged};
 ghost use Rattle.book_judge.specs.Code.{VersionJudged, VersionsJudged, DirectListJudged};
 
-use crate::look;
 use crate::look::Looked;
+use crate::{By, look};
 use judge_entries::DagPoint;
 use judge_step::Judging;
-use judge_valid::{PointView, Quick};
-use map::Found;
+use judge_valid::Quick;
 use point::{PointId, PointInfo};
-use schedule::Settings;
-
-// What every entry is judged by: the settings, whether regular points are required, and the view of the point.
-#[derive(Clone, Copy)]
-struct By {
-    conf: Settings,
-    required: bool,
-    view: PointView,
-}
 
 // What the versions of an author have given so far; seen says that one was Valid.
 #[derive(Clone, Copy)]
@@ -34,29 +23,17 @@ struct Versions {
     seen: bool,
 }
 
-fn either(a: bool, b: bool) -> bool
-    ensures { result ≡ (a || b) }
-{
-    if a {
-        return true;
-    }
-    b
-}
-
 // Judges an entry that was looked up.
 fn judge_looked(by: By, book: &[u8], x: Looked, first_valid: bool, so_far: Judging) -> Judging
     requires { EntryPlaced book.now x.state x.place x.end }
     ensures { judging_of result ≡ direct_step (settings_of by.conf) by.required (point_view_of by.view) (judging_of so_far) (looked_of book.now x first_valid) }
 {
-    let state = x.state;
-    let place = x.place;
-    let end = x.end;
     let gives = judge_step::direct_gives(
         by.conf,
         by.required,
         by.view,
-        &book[place..end],
-        state,
+        &book[x.place..x.end],
+        x.state,
         x.certified,
         first_valid,
     );
@@ -68,10 +45,7 @@ fn is_quiet(quick: Quick, book: &[u8], x: Looked) -> bool
     requires { EntryPlaced book.now x.state x.place x.end }
     ensures { result ≡ true → Quiet quick (part_of book.now x.place x.end) x.state }
 {
-    let state = x.state;
-    let place = x.place;
-    let end = x.end;
-    judge_step::is_quiet(quick, &book[place..end], state)
+    judge_step::is_quiet(quick, &book[x.place..x.end], &x.state)
 }
 
 // Judges the dependencies of a map. They are never taken as versions, so that it doesn't matter whether one is first valid.
@@ -88,21 +62,17 @@ fn judge_map(
         (judging_of result) }
 {
     let quick = judge_valid::quick_of(by.conf, by.view);
-    let count = map::count(rows, 64);
     let mut judging = so_far;
-    let mut i = 0;
-    while i < count {
+    for i in 0..map::count(rows, 64) {
         let id = PointId {
             round,
             digest: map::digest_at(rows, i),
             author: map::peer_at(rows, 64, i),
         };
         let x = look::lookup(by.view, id, book, index);
-        i += 1;
-        if is_quiet(quick, book, x) {
-            continue;
+        if !is_quiet(quick, book, x) {
+            judging = judge_looked(by, book, x, false, judging);
         }
-        judging = judge_looked(by, book, x, false, judging);
     }
     judging
 }
@@ -111,14 +81,7 @@ fn judge_map(
 fn is_first(state: DagPoint, seen: bool) -> bool
     ensures { (s : List ℕ) → result ≡ (is_valid_state (dag_point_of s state) && not seen) }
 {
-    match state {
-        DagPoint::Valid(_) => !seen,
-        DagPoint::TransInvalid(_, _, _) => false,
-        DagPoint::Invalid(_, _) => false,
-        DagPoint::IllFormed(_, _) => false,
-        DagPoint::NotFound(_) => false,
-        DagPoint::Dropped => false,
-    }
+    matches!(state, DagPoint::Valid(_)) && !seen
 }
 
 // Judges the entry at a place, if it is a version of the author's point at the round before.
@@ -126,19 +89,15 @@ fn judge_version(by: By, book: &[u8], place: usize, so_far: Versions) -> Version
     requires { (place + 71 ≤ length book.now) × (is_some (kept_front (drop place book.now)) ≡ true) }
     ensures { VersionJudged (settings_of by.conf) by.required by.view book.now place (versions_of so_far) (versions_of result) }
 {
-    let p = by.view;
-    let own = p.id;
     let id = point::point_id_at(book, place + 3);
-    if !judge_entries::is_own_before(own, id) {
+    if !judge_entries::is_own_before(by.view.id, id) {
         return so_far;
     }
     let x = look::kept_at(book, place);
-    let state = x.state;
-    let first = is_first(state, so_far.seen);
-    let judging = so_far.judging;
+    let first = is_first(x.state, so_far.seen);
     Versions {
-        judging: judge_looked(by, book, x, first, judging),
-        seen: either(so_far.seen, first),
+        judging: judge_looked(by, book, x, first, so_far.judging),
+        seen: so_far.seen || first,
     }
 }
 
@@ -151,45 +110,26 @@ fn judge_versions(by: By, book: &[u8], index: &[u16], judging: Judging) -> Judgi
         judging,
         seen: false,
     };
-    let n = id_index::count(index);
-    let mut j = 0;
-    while j < n {
+    for j in 0..id_index::count(index) {
         so_far = judge_version(by, book, id_index::place_at(index, j), so_far);
-        j += 1;
     }
     so_far.judging
 }
 
 // Judges the direct entries: witness, includes, and with no previous digest the kept versions of the author.
-pub fn judge_direct_list(
-    conf: Settings,
-    required: bool,
-    rec: &[u8],
-    info: PointInfo,
-    p: PointView,
-    book: &[u8],
-    index: &[u16],
-) -> Judging
+pub fn judge_direct_list(by: By, rec: &[u8], info: PointInfo, book: &[u8], index: &[u16]) -> Judging
     requires reads { Reads rec.now info }
     requires entries { Entries book.now index.now }
-    ensures { DirectListJudged (settings_of conf) required p rec.now book.now index.now (judging_of result) }
+    ensures { DirectListJudged (settings_of by.conf) by.required by.view rec.now book.now index.now (judging_of result) }
 {
-    let by = By {
-        conf,
-        required,
-        view: p,
-    };
-    let own = p.id;
-    let two = parts::rounds_back(own.round, 2);
-    let one = parts::rounds_back(own.round, 1);
+    let two = parts::rounds_back(by.view.id.round, 2);
+    let one = parts::rounds_back(by.view.id.round, 1);
     let far = point::witness(rec, info);
     let near = point::includes(rec, info);
-    let start = judge_step::START;
-    let done = judge_map(by, two, far, book, index, start);
+    let done = judge_map(by, two, far, book, index, judge_step::START);
     let both = judge_map(by, one, near, book, index, done);
-    let prev_digest = p.prev_digest;
-    match prev_digest {
-        Found::Digest(_) => both,
-        Found::Absent => judge_versions(by, book, index, both),
+    match by.view.prev_digest {
+        Some(_) => both,
+        None => judge_versions(by, book, index, both),
     }
 }

@@ -19,10 +19,17 @@ use point::{AnchorLink, AnchorStageRole, PointInfo};
 use reasons::Verdict;
 use schedule::Settings;
 
+// What every entry is judged by: the settings, whether regular points are required, and the view of the point.
+#[derive(Clone, Copy)]
+struct By {
+    conf: Settings,
+    required: bool,
+    view: PointView,
+}
+
 // Judges the target of a link, if it is indirect.
 fn judge_target(
-    conf: Settings,
-    p: PointView,
+    by: By,
     role: AnchorStageRole,
     link: AnchorLink,
     book: &[u8],
@@ -30,70 +37,49 @@ fn judge_target(
     so_far: Judging,
 ) -> Judging
     requires { Entries book.now index.now }
-    ensures { TargetJudged (settings_of conf) p role (link_of link) book.now index.now (judging_of so_far) (judging_of result) }
+    ensures { TargetJudged (settings_of by.conf) by.view role (link_of link) book.now index.now (judging_of so_far) (judging_of result) }
 {
-    match link {
-        AnchorLink::Direct(_) => so_far,
-        AnchorLink::Indirect(indirect) => {
-            let to = indirect.to;
-            let through = indirect.through;
-            let x = look::lookup(p, to, book, index);
-            let state = x.state;
-            let place = x.place;
-            let end = x.end;
-            let gives = judge_step::indirect_gives(
-                conf,
-                role,
-                through,
-                p,
-                &book[place..end],
-                state,
-                x.certified,
-            );
-            judge_step::with_indirect(so_far, gives)
-        }
-    }
+    let AnchorLink::Indirect(indirect) = link else {
+        return so_far;
+    };
+    let x = look::lookup(by.view, indirect.to, book, index);
+    let gives = judge_step::indirect_gives(
+        by.conf,
+        role,
+        indirect.through,
+        by.view,
+        &book[x.place..x.end],
+        x.state,
+        x.certified,
+    );
+    judge_step::with_indirect(so_far, gives)
 }
 
 // Whether the trigger link's target has the higher round.
 fn is_trigger_first(proof: AnchorLink, trigger: AnchorLink) -> bool
     ensures { result ≡ is_trigger_first (link_of proof) (link_of trigger) }
 {
-    match proof {
-        AnchorLink::Direct(_) => false,
-        AnchorLink::Indirect(first) => match trigger {
-            AnchorLink::Direct(_) => false,
-            AnchorLink::Indirect(second) => {
-                let a = first.to;
-                let b = second.to;
-                a.round < b.round
-            }
-        },
+    match (proof, trigger) {
+        (AnchorLink::Indirect(first), AnchorLink::Indirect(second)) => {
+            first.to.round < second.to.round
+        }
+        _ => false,
     }
 }
 
 // Judges the indirect entries: the target with the higher round first, the proof's on a tie.
-fn judge_targets(
-    conf: Settings,
-    p: PointView,
-    info: PointInfo,
-    book: &[u8],
-    index: &[u16],
-    so_far: Judging,
-) -> Judging
+fn judge_targets(by: By, info: PointInfo, book: &[u8], index: &[u16], so_far: Judging) -> Judging
     requires { Entries book.now index.now }
-    ensures { TargetsJudged (settings_of conf) p info book.now index.now (judging_of so_far) (judging_of result) }
+    ensures { TargetsJudged (settings_of by.conf) by.view info book.now index.now (judging_of so_far) (judging_of result) }
 {
     let proof = info.anchor_proof;
     let trigger = info.anchor_trigger;
-    let to_proof = AnchorStageRole::Proof;
-    let to_trigger = AnchorStageRole::Trigger;
     if is_trigger_first(proof, trigger) {
-        let first = judge_target(conf, p, to_trigger, trigger, book, index, so_far);
-        return judge_target(conf, p, to_proof, proof, book, index, first);
+        let first = judge_target(by, AnchorStageRole::Trigger, trigger, book, index, so_far);
+        return judge_target(by, AnchorStageRole::Proof, proof, book, index, first);
     }
-    let first = judge_target(conf, p, to_proof, proof, book, index, so_far);
-    judge_target(conf, p, to_trigger, trigger, book, index, first)
+    let first = judge_target(by, AnchorStageRole::Proof, proof, book, index, so_far);
+    judge_target(by, AnchorStageRole::Trigger, trigger, book, index, first)
 }
 
 // Judges a point whose list is needed.
@@ -109,7 +95,11 @@ pub fn judge_book(
     requires entries { Entries book.now index.now }
     ensures { BookJudged (settings_of conf) required (point_of rec.now info) book.now index.now (verdict_of result) }
 {
-    let p = judge_valid::point_view(rec, info);
-    let direct = direct::judge_direct_list(conf, required, rec, info, p, book, index);
-    judge_list::verdict(judge_targets(conf, p, info, book, index, direct))
+    let by = By {
+        conf,
+        required,
+        view: judge_valid::point_view(rec, info),
+    };
+    let direct = direct::judge_direct_list(by, rec, info, book, index);
+    judge_list::verdict(judge_targets(by, info, book, index, direct))
 }

@@ -1,12 +1,10 @@
 // What a book says of a dependency.
-ghost use Rattle.std.specs.Prelude.{◌≡◌, true, ◌≤◌, length, drop};
-ghost use Rattle.base.specs.Base.{is_some};
+ghost use Rattle.std.specs.Prelude.{◌≡◌, true, ◌≤◌, length, drop, is_some};
 ghost use Rattle.point.specs.Code.{point_id_of};
 ghost use Rattle.judge_entries.specs.Code.{EntryPlaced};
 ghost use Rattle.books.specs.Layout.{kept_front};
 ghost use Rattle.book_judge.specs.Code.{Entries, KeptLooked, LookedUp};
 
-use id_index::Place;
 use judge_entries::DagPoint;
 use judge_valid::PointView;
 use point::PointId;
@@ -27,15 +25,11 @@ pub fn kept_at(book: &[u8], place: usize) -> Looked
     ensures kept_looked { KeptLooked book.now place result }
 {
     let k = book_layout::known_kept(&book[place..]);
-    let info = k.info;
-    let status = k.status;
-    let end = place + k.len;
-    let state = book_layout::dag_point(info, status);
     Looked {
-        state,
+        state: book_layout::dag_point(k.info, k.status),
         certified: k.certified,
         place,
-        end,
+        end: place + k.len,
     }
 }
 
@@ -45,10 +39,9 @@ pub fn lookup(p: PointView, id: PointId, book: &[u8], index: &[u16]) -> Looked
     ensures entry_placed { EntryPlaced book.now result.state result.place result.end }
     ensures looked_up { LookedUp book.now index.now p (point_id_of id) result }
 {
-    let found = id_index::find(book, index, id);
-    match found {
-        Place::At(j) => kept_at(book, id_index::place_at(index, j)),
-        Place::Absent => Looked {
+    match id_index::find(book, index, id) {
+        Some(j) => kept_at(book, id_index::place_at(index, j)),
+        None => Looked {
             state: DagPoint::NotFound(id),
             certified: judge_list::is_prev(p, id),
             place: 0,

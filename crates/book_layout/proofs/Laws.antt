@@ -1,30 +1,28 @@
 -- Laws of one entry: runs of zeros, the steps of reading it, and how its bytes are put together.
+use Rattle.std.specs.Prelude.{Option, None, Some, option_map, is_some}
+use Rattle.std.specs.Bool.{then_some}
+use Rattle.std.specs.List.{list_all}
 use Prim.Native.Nat.{ℕ, zero, suc, ◌+◌, ◌*◌, ◌-◌, ◌≤◌, ◌<◌}
 use native.Mathlib.Omega.{arith}
 use native.Mathlib.Decide.{ℕ_discrete}
-use native.Mathlib.Numerals.{add-one, add-two}
+use native.Mathlib.Numerals.{add-one}
 use mathlib.Core.Path.{◌≡◌, refl, ap, sym, ◌∙◌}
 use mathlib.Core.Bool.{Bool, true, false, ◌&&◌, and_assoc}
-use mathlib.Core.Option.{Option, none, some, map}
 use mathlib.Core.List.{List, [], ◌∷◌, ◌++◌, append_assoc}
-use lib.ListN.{length, get_or, set, take, drop, take-append-drop, drop_of_length-le, length-take, length-drop}
-use lib.Seq.{drop-cons, drop-drop, take-add}
+use lib.ListN.{length, get_or, take, drop, take-append-drop, length-take, length-drop}
+use lib.Seq.{drop-cons, take_all}
 use lib.Dec.{leb, eqb}
 use borrow.Author.Tests.{le-leb, lt-leb, eq-eqb, ne_eqb}
-use Rattle.base.specs.Base.{pick, is_some}
+use Rattle.base.specs.Base.{pick}
 use Rattle.base.proofs.Bool.{clash}
 use Rattle.base.proofs.Option.{picked, and_then_lem, some_of, unfound}
 use Rattle.base.proofs.Impossible.{impossible}
-use Rattle.parts.specs.Bytes.{bytes_at, little, little_at, big_at, little_bytes, big_bytes, put_at}
+use Rattle.parts.specs.Bytes.{little, little_at, little_bytes, big_bytes, put_at}
 use Rattle.parts.specs.Limits.{tag33_length}
-use Rattle.write.proofs.Laws.{put_is, put_three}
+use Rattle.write.proofs.Laws.{put_three}
 use Rattle.record.specs.Record.{field_row, field_ok, record_end}
-use Rattle.record.specs.Code.{Shaped, ShapeOf}
-use Rattle.record.specs.declared.Shape.{Shape}
-use Rattle.record.specs.declared.ReadShape as code-read-shape
-use Rattle.record.specs.declared.ReadShape.TheVariants as case-read-shape
 use Rattle.record.proofs.Laws.{fitting}
-use Rattle.point.specs.Point.{PointId, Through, Includes, Witness, PointInfo, in_domain}
+use Rattle.point.specs.Point.{PointId, Through, PointInfo, in_domain}
 use Rattle.point.specs.Reading.{point_id_at, read_point}
 use Rattle.point.specs.Code.{point_of, Reads}
 use Rattle.point.specs.declared.info.PointInfo as code-info
@@ -33,7 +31,7 @@ use Rattle.reasons.specs.Invalid.{dag_round}
 use Rattle.rules.specs.List.{is_named, is_listable}
 use Rattle.books.specs.Kept.{Status, Valid, TransInvalid, Invalid, IllFormed, Kept}
 use Rattle.books.specs.Layout.{id_bytes, is_zeros, through_at, root_at, is_root_ok, read_status, is_keepable, read_kept, KeptFront, kept_front}
-use Rattle.book_layout.specs.Code.{status_of, KeptAt, EntryTo}
+use Rattle.book_layout.specs.Code.{status_of, KeptAt, EntryTo, KeptEnd}
 use Rattle.book_layout.specs.declared.status.Status as code-status
 
 -- ---- zeros
@@ -54,111 +52,45 @@ little-zeros (zero ∷ l) = times_zero (little l) ∙ little-zeros l
     times_zero (suc n) = ne_eqb (0 + 256 * suc n) 0 (λ e. omega arith) ∙ sym (ne_eqb (suc n) 0 (λ e. omega arith))
 little-zeros (suc x ∷ l) = ne_eqb (suc x + 256 * little l) 0 (λ e. omega arith) ∙ sym (rw (ne_eqb (suc x) 0 (λ e. omega arith)))
 
-and_true : (b : Bool) → (b && true) ≡ b
-and_true true = refl
-and_true false = refl
+-- the first n, and those after them
+zeros-split : (n : ℕ) (s : List ℕ) → is_zeros s ≡ (is_zeros (take n s) && is_zeros (drop n s))
+zeros-split n s = ap is_zeros (sym (take-append-drop n s)) ∙ zeros-append (take n s) (drop n s)
 
-module _ (s : List ℕ) (at : ℕ) where
-  -- a byte, and those after it
-  module _ (h : at < length s) where
-    by_one : is_zeros (drop at s) ≡ (eqb (get_or s at 0) 0 && is_zeros (drop (at + 1) s))
-    unfolding is_zeros
-    by_one = rw (add-one, drop-cons s at 0)
+module _ (n : ℕ) (s front : List ℕ) (e : front ≡ take n s) where
+  pub front_not : is_zeros front ≡ false → is_zeros s ≡ false
+  front_not f = zeros-split n s ∙ rw (← e, f)
 
-    pub byte_not : (get_or s at 0 ≡ 0 → ⊥) → is_zeros (drop at s) ≡ false
-    byte_not n = by_one ∙ rw (ne_eqb (get_or s at 0) 0 n)
+  pub front_zero : is_zeros front ≡ true → is_zeros (drop n s) ≡ is_zeros s
+  front_zero t = sym (zeros-split n s ∙ rw (← e, t))
 
-    pub byte_zero : get_or s at 0 ≡ 0 → is_zeros (drop (at + 1) s) ≡ is_zeros (drop at s)
-    byte_zero e = sym (by_one ∙ rw (eq-eqb (get_or s at 0) 0 e))
+-- eight bytes
+pub word_is : (s : List ℕ) (w : ℕ) → length s ≡ 8 → w ≡ little_at 8 s 0 → is_zeros s ≡ eqb w 0
+unfolding little_at
+word_is s w h e = sym (little-zeros s) ∙ rw (e, take_all 8 s (omega arith))
 
-  -- n bytes, and those after them
-  by_bytes : (n : ℕ) → is_zeros (drop at s) ≡ (is_zeros (bytes_at n s at) && is_zeros (drop (at + n) s))
-  by_bytes n =
-      ap is_zeros (sym (take-append-drop n (drop at s)))
-      ∙ (zeros-append (take n (drop at s)) (drop n (drop at s))
-      ∙ rw (drop-drop n at s))
+by_one : (s : List ℕ) (at : ℕ) → at < length s → is_zeros (drop at s) ≡ (eqb (get_or s at 0) 0 && is_zeros (drop (at + 1) s))
+unfolding is_zeros
+by_one s at h = rw (add-one, drop-cons s at 0)
 
-  by_number : (n : ℕ) → is_zeros (bytes_at n s at) ≡ eqb (little_at n s at) 0
-  unfolding little_at
-  by_number n = sym (little-zeros (take n (drop at s)))
-
-  module _ (n w : ℕ) (e : w ≡ little_at n s at) where
-    pub word_is : is_zeros (bytes_at n s at) ≡ eqb w 0
-    word_is = by_number n ∙ rw (← e)
-
-    pub word_not : (w ≡ 0 → ⊥) → is_zeros (drop at s) ≡ false
-    word_not d = by_bytes n ∙ rw (word_is, ne_eqb w 0 d)
-
-    pub word_zero : w ≡ 0 → is_zeros (drop (at + n) s) ≡ is_zeros (drop at s)
-    word_zero z = sym (by_bytes n ∙ rw (word_is, eq-eqb w 0 z))
-
-    pub word_last : length s ≤ at + n → is_zeros (drop at s) ≡ eqb w 0
-    unfolding is_zeros
-    word_last h = by_bytes n ∙ rw (word_is, drop_of_length-le s h) (and_true (eqb w 0))
-
-  -- n bytes of which the first eight are a word
-  module _ (n m w : ℕ) (g : n ≡ 8 + m) (e : w ≡ little_at 8 s at) where
-    front : is_zeros (bytes_at n s at) ≡ (eqb w 0 && is_zeros (bytes_at m s (at + 8)))
-    front =
-        rw g (ap is_zeros (take-add 8 m (drop at s)) ∙ (zeros-append (take 8 (drop at s)) (take m (drop 8 (drop at s))) ∙ rw (word_is 8 w e, drop-drop 8 at s)))
-
-    pub front_not : (w ≡ 0 → ⊥) → is_zeros (bytes_at n s at) ≡ false
-    front_not d = front ∙ rw (ne_eqb w 0 d)
-
-    pub front_zero : (q : ℕ) → q ≡ at + 8 → w ≡ 0 → is_zeros (bytes_at n s at) ≡ is_zeros (bytes_at m s q)
-    front_zero q f z = front ∙ rw (eq-eqb w 0 z, f)
-
-  -- 64 bytes, and those after them
-  module _ (b : Bool) (e : b ≡ is_zeros (bytes_at 64 s at)) where
-    pub line_not : b ≡ false → is_zeros (drop at s) ≡ false
-    line_not f = by_bytes 64 ∙ rw (← e, f)
-
-    pub line_zero : b ≡ true → is_zeros (drop (at + 64) s) ≡ is_zeros (drop at s)
-    line_zero t = sym (by_bytes 64 ∙ rw (← e, t))
-
-  pub none_left : length s ≤ at → is_zeros (drop at s) ≡ true
-  unfolding is_zeros
-  none_left h = rw (drop_of_length-le s h)
+pub zeros_all : (s : List ℕ) → list_all (λ b. eqb b 0) s ≡ is_zeros s
+unfolding is_zeros
+zeros_all [] = refl
+zeros_all (x ∷ s) = ap (λ (b : Bool). eqb x 0 && b) (zeros_all s)
 
 -- ---- the status that tag 33 says
 
-some-picked : {A : Type 0} (b : Bool) (x : A) → is_some (pick b (some x) none) ≡ b
+some-picked : {A : Type 0} (b : Bool) (x : A) → is_some (pick b (Some x) None) ≡ b
 some-picked true x = refl
 some-picked false x = refl
 
 module _ (t : List ℕ) where
-  module _ (r : ℕ) (e : r ≡ little_at 4 t 3) where
-    pub root-low : r < 4 → is_root_ok t ≡ false
-    unfolding is_root_ok point_id_at
-    root-low l = rw (← e, lt-leb 4 r l)
-
-    pub root_high : 4 ≤ r → 2147483647 < r → is_root_ok t ≡ false
-    unfolding is_root_ok point_id_at
-    root_high l h = rw (← e, le-leb 4 r l, lt-leb r 2147483647 h)
-
-    module _ (l : 4 ≤ r) (h : r ≤ 2147483647) where
-      pub root_reasonless : is_some (dag_round (get_or t 71 0)) ≡ false → is_root_ok t ≡ false
-      unfolding is_root_ok point_id_at
-      root_reasonless n = rw (← e, le-leb 4 r l, le-leb r 2147483647 h, n)
-
-      pub root-last : is_some (dag_round (get_or t 71 0)) ≡ true → is_root_ok t ≡ leb (get_or t 72 0) 1
-      unfolding is_root_ok point_id_at
-      root-last n = rw (← e, le-leb 4 r l, le-leb r 2147483647 h, n)
-
-  module _ (at x : ℕ) (e : x ≡ big_at 32 t (at + 1)) where
-    pub through-includes : get_or t at 0 ≡ 0 → through_at t at ≡ Includes x
-    through-includes h = rw (eq-eqb (get_or t at 0) 0 h, e)
-
-    pub through-witness : (get_or t at 0 ≡ 0 → ⊥) → through_at t at ≡ Witness x
-    through-witness h = rw (ne_eqb (get_or t at 0) 0 h, e)
-
   -- whether a status is there, by the state
   module _ (e : get_or t 0 0 ≡ 0) where
-    pub valid-some : 3 ≤ length t → is_some (read_status t) ≡ (eqb (get_or t 2 0) 0 && is_zeros (drop 3 t))
+    pub valid_some : 3 ≤ length t → is_some (read_status t) ≡ (eqb (get_or t 2 0) 0 && is_zeros (drop 3 t))
     unfolding read_status
-    valid-some h = rw e (some-picked (is_zeros (drop 2 t)) Valid ∙ by_one t 2 (omega arith))
+    valid_some h = rw e (some-picked (is_zeros (drop 2 t)) Valid ∙ by_one t 2 (omega arith))
 
-    pub valid : is_some (read_status t) ≡ true → read_status t ≡ some Valid
+    pub valid : is_some (read_status t) ≡ true → read_status t ≡ Some Valid
     unfolding read_status
     valid = rw e (picked-some (is_zeros (drop 2 t)) Valid)
 
@@ -167,66 +99,66 @@ module _ (t : List ℕ) where
     unfolding read_status
     trans_some = rw e (some-picked (eqb (get_or t 2 0) 0 && is_root_ok t) (TransInvalid (root_at t)))
 
-    trans_root : is_some (read_status t) ≡ true → read_status t ≡ some (TransInvalid (root_at t))
+    trans_root : is_some (read_status t) ≡ true → read_status t ≡ Some (TransInvalid (root_at t))
     unfolding read_status
     trans_root = rw e (picked-some (eqb (get_or t 2 0) 0 && is_root_ok t) (TransInvalid (root_at t)))
 
     pub trans_invalid_lem : (to : PointId) (through : Through) → is_some (read_status t) ≡ true → to ≡ point_id_at t 3 → through ≡ through_at t 72 →
-        read_status t ≡ some (TransInvalid (record { to = to; reason = get_or t 71 0; through = through }))
+        read_status t ≡ Some (TransInvalid (record { to = to; reason = get_or t 71 0; through = through }))
     trans_invalid_lem to through h f g = trans_root h ∙ rw (f, g)
 
   module _ (e : get_or t 0 0 ≡ 2) where
-    pub invalid-some : is_some (read_status t) ≡ (is_some (dag_round (get_or t 2 0)) && is_zeros (drop 3 t))
+    pub invalid_some : is_some (read_status t) ≡ (is_some (dag_round (get_or t 2 0)) && is_zeros (drop 3 t))
     unfolding read_status
-    invalid-some = rw e (some-picked (is_some (dag_round (get_or t 2 0)) && is_zeros (drop 3 t)) (Invalid (get_or t 2 0)))
+    invalid_some = rw e (some-picked (is_some (dag_round (get_or t 2 0)) && is_zeros (drop 3 t)) (Invalid (get_or t 2 0)))
 
-    pub invalid : is_some (read_status t) ≡ true → read_status t ≡ some (Invalid (get_or t 2 0))
+    pub invalid : is_some (read_status t) ≡ true → read_status t ≡ Some (Invalid (get_or t 2 0))
     unfolding read_status
     invalid = rw e (picked-some (is_some (dag_round (get_or t 2 0)) && is_zeros (drop 3 t)) (Invalid (get_or t 2 0)))
 
   module _ (e : get_or t 0 0 ≡ 3) where
-    pub ill-formed-some : is_some (read_status t) ≡ ((leb 1 (get_or t 2 0) && leb (get_or t 2 0) 16) && is_zeros (drop 3 t))
+    pub ill_formed_some : is_some (read_status t) ≡ ((leb 1 (get_or t 2 0) && leb (get_or t 2 0) 16) && is_zeros (drop 3 t))
     unfolding read_status
-    ill-formed-some = rw e (some-picked ((leb 1 (get_or t 2 0) && leb (get_or t 2 0) 16) && is_zeros (drop 3 t)) (IllFormed (get_or t 2 0)))
+    ill_formed_some = rw e (some-picked ((leb 1 (get_or t 2 0) && leb (get_or t 2 0) 16) && is_zeros (drop 3 t)) (IllFormed (get_or t 2 0)))
 
-    pub ill-formed : is_some (read_status t) ≡ true → read_status t ≡ some (IllFormed (get_or t 2 0))
+    pub ill_formed : is_some (read_status t) ≡ true → read_status t ≡ Some (IllFormed (get_or t 2 0))
     unfolding read_status
-    ill-formed = rw e (picked-some ((leb 1 (get_or t 2 0) && leb (get_or t 2 0) 16) && is_zeros (drop 3 t)) (IllFormed (get_or t 2 0)))
+    ill_formed = rw e (picked-some ((leb 1 (get_or t 2 0) && leb (get_or t 2 0) 16) && is_zeros (drop 3 t)) (IllFormed (get_or t 2 0)))
 
   module _ (a : get_or t 0 0 ≡ 0 → ⊥) (b : get_or t 0 0 ≡ 1 → ⊥) (c : get_or t 0 0 ≡ 2 → ⊥) where
-    pub status-none : (get_or t 0 0 ≡ 3 → ⊥) → is_some (read_status t) ≡ false
+    pub status_none : (get_or t 0 0 ≡ 3 → ⊥) → is_some (read_status t) ≡ false
     unfolding read_status
-    status-none d = rw (ne_eqb (get_or t 0 0) 0 a, ne_eqb (get_or t 0 0) 1 b, ne_eqb (get_or t 0 0) 2 c, ne_eqb (get_or t 0 0) 3 d)
+    status_none d = rw (ne_eqb (get_or t 0 0) 0 a, ne_eqb (get_or t 0 0) 1 b, ne_eqb (get_or t 0 0) 2 c, ne_eqb (get_or t 0 0) 3 d)
 
     -- the state that is left
-    pub state-three : is_some (read_status t) ≡ true → get_or t 0 0 ≡ 3
-    state-three h = elim (ℕ_discrete (get_or t 0 0) 3) [
+    pub state_three : is_some (read_status t) ≡ true → get_or t 0 0 ≡ 3
+    state_three h = elim (ℕ_discrete (get_or t 0 0) 3) [
       | yes e ↦ e
-      | no d ↦ clash (is_some (read_status t)) h (status-none d)
+      | no d ↦ clash (is_some (read_status t)) h (status_none d)
     ]
 
 -- ---- the entry of a record and tag 33
 
 module _ (bytes : List ℕ) (q : PointInfo) (t : List ℕ) where
-  pub entry_unflagged : 1 < get_or t 1 0 → read_kept bytes q t ≡ none
+  pub entry_unflagged : 1 < get_or t 1 0 → is_some (read_kept bytes q t) ≡ false
   unfolding read_kept
   entry_unflagged h = rw (lt-leb (get_or t 1 0) 1 h)
 
   module _ (h : get_or t 1 0 ≤ 1) where
-    pub entry_statusless : read_status t ≡ none → read_kept bytes q t ≡ none
+    pub entry_statusless : is_some (read_status t) ≡ false → is_some (read_kept bytes q t) ≡ false
     unfolding read_kept
-    entry_statusless n = rw (le-leb (get_or t 1 0) 1 h, n)
+    entry_statusless n = rw (le-leb (get_or t 1 0) 1 h, unfound (read_status t) n)
 
     -- with a status, an entry is up to whether it may be kept
-    pub entry-some : (s : Status) → read_status t ≡ some s → is_some (read_kept bytes q t) ≡ is_keepable q s
+    pub entry_some : (s : Status) → read_status t ≡ Some s → is_some (read_kept bytes q t) ≡ is_keepable q s
     unfolding read_kept
-    entry-some s e = rw (le-leb (get_or t 1 0) 1 h, e) (some-picked (is_keepable q s) _)
+    entry_some s e = rw (le-leb (get_or t 1 0) 1 h, e) (some-picked (is_keepable q s) _)
 
   -- which point may be kept is up to the state
-  module _ (s : Status) (e : read_status t ≡ some s) where
+  module _ (s : Status) (e : read_status t ≡ Some s) where
     keepable-by : is_keepable q s ≡ pick (eqb (get_or t 0 0) 3) (in_domain q) (is_listable q)
     keepable-by = elim (ℕ_discrete (get_or t 0 0) 3) [
-      | yes z ↦ rw (eq-eqb (get_or t 0 0) 3 z) (let f = ill-formed t z (ap is_some e) in let x : s ≡ IllFormed (get_or t 2 0) = cc in ap (is_keepable q) x)
+      | yes z ↦ rw (eq-eqb (get_or t 0 0) 3 z) (let f = ill_formed t z (ap is_some e) in let x : s ≡ IllFormed (get_or t 2 0) = cc in ap (is_keepable q) x)
       | no d ↦ rw (ne_eqb (get_or t 0 0) 3 d) (other d)
     ]
       where
@@ -237,34 +169,34 @@ module _ (bytes : List ℕ) (q : PointInfo) (t : List ℕ) where
             | yes z ↦ let f = trans_root t z (ap is_some e) in let x : s ≡ TransInvalid (root_at t) = cc in ap (is_keepable q) x
             | no b ↦ elim (ℕ_discrete (get_or t 0 0) 2) [
               | yes z ↦ let f = invalid t z (ap is_some e) in let x : s ≡ Invalid (get_or t 2 0) = cc in ap (is_keepable q) x
-              | no c ↦ absurd (d (state-three t a b c (ap is_some e)))
+              | no c ↦ absurd (d (state_three t a b c (ap is_some e)))
             ]
           ]
         ]
 
   module _ (h : get_or t 1 0 ≤ 1) (g : is_some (read_status t) ≡ true) where
     entry-by : is_some (read_kept bytes q t) ≡ pick (eqb (get_or t 0 0) 3) (in_domain q) (is_listable q)
-    entry-by = let s = some_of (read_status t) g in entry-some h s.0 s.1 ∙ keepable-by s.0 s.1
+    entry-by = let s = some_of (read_status t) g in entry_some h s.0 s.1 ∙ keepable-by s.0 s.1
 
-    pub entry-outside : in_domain q ≡ false → is_some (read_kept bytes q t) ≡ false
+    pub entry_outside : in_domain q ≡ false → is_some (read_kept bytes q t) ≡ false
     unfolding is_listable
-    entry-outside d = entry-by ∙ either (eqb (get_or t 0 0) 3)
+    entry_outside d = entry-by ∙ either (eqb (get_or t 0 0) 3)
       where
         either : (b : Bool) → pick b (in_domain q) (is_listable q) ≡ false
         either true = d
         either false = rw d
 
     module _ (d : in_domain q ≡ true) where
-      pub entry-ill-formed : get_or t 0 0 ≡ 3 → is_some (read_kept bytes q t) ≡ true
-      entry-ill-formed e = entry-by ∙ rw (eq-eqb (get_or t 0 0) 3 e) d
+      pub entry_ill_formed : get_or t 0 0 ≡ 3 → is_some (read_kept bytes q t) ≡ true
+      entry_ill_formed e = entry-by ∙ rw (eq-eqb (get_or t 0 0) 3 e) d
 
       pub entry_listed : (get_or t 0 0 ≡ 3 → ⊥) → is_some (read_kept bytes q t) ≡ (is_named q q.anchor_proof && is_named q q.anchor_trigger)
       unfolding is_listable
       entry_listed e = entry-by ∙ rw (ne_eqb (get_or t 0 0) 3 e, d)
 
   -- an entry has its record, its point, the status and the mark
-  pub entry-parts : (k : Kept) → read_kept bytes q t ≡ some k →
-      (s : Status) × (read_status t ≡ some s) × (k ≡ record { bytes = bytes; point = q; status = s; certified = eqb (get_or t 1 0) 1 })
+  pub entry-parts : (k : Kept) → read_kept bytes q t ≡ Some k →
+      (s : Status) × (read_status t ≡ Some s) × (k ≡ record { bytes = bytes; point = q; status = s; certified = eqb (get_or t 1 0) 1 })
   unfolding read_kept
   entry-parts k h =
       let s = and_then_lem (read_status t) _ k (picked (leb (get_or t 1 0) 1) _ k h).1 in
@@ -274,16 +206,9 @@ module _ (bytes : List ℕ) (q : PointInfo) (t : List ℕ) where
 -- ---- the entry at the front of a slice
 
 abbrev sized : ℕ → Option Kept → Option KeptFront
-sized n o = map (λ k. record { kept = k; size = n }) o
+sized n o = option_map (λ k. record { kept = k; size = n }) o
 
--- what the walk over a record tells
-pub walk-told : (s : List ℕ) (r : code-read-shape.ReadShape) (x : Shape) → r ≡ case-read-shape.Shape x → ShapeOf s r → Shaped s x
-walk-told s r x e h = rw e at h
-
-pub walk_untold : (s : List ℕ) (r : code-read-shape.ReadShape) → r ≡ case-read-shape.Unreadable → ShapeOf s r → record_end s ≡ none
-walk_untold s r e h = rw e at h
-
-pub front_endless : (s : List ℕ) → record_end s ≡ none → kept_front s ≡ none
+pub front_endless : (s : List ℕ) → record_end s ≡ None → kept_front s ≡ None
 unfolding kept_front
 front_endless s h = rw h
 
@@ -300,13 +225,13 @@ pub tag-length : (n : ℕ) (s : List ℕ) → n + tag33_length ≤ length s → 
 tag-length n s h = simp (length-take, length-drop) (omega arith)
 
 -- the part of a slice up to where its record ends
-module _ (s part : List ℕ) (n : ℕ) (e : record_end s ≡ some n) (p : part ≡ take n s) where
-  pub front-unread : read_point part ≡ none → kept_front s ≡ none
+module _ (s part : List ℕ) (n : ℕ) (e : record_end s ≡ Some n) (p : part ≡ take n s) where
+  pub front-unread : read_point part ≡ None → kept_front s ≡ None
   unfolding kept_front
   front-unread h = rw (e, ← p, h)
 
-  module _ (q : PointInfo) (h : read_point part ≡ some q) where
-    pub front_tagless : field_ok (field_row 33 105 105) s n ≡ false → kept_front s ≡ none
+  module _ (q : PointInfo) (h : read_point part ≡ Some q) where
+    pub front_tagless : field_ok (field_row 33 105 105) s n ≡ false → kept_front s ≡ None
     unfolding kept_front
     front_tagless f = rw (e, ← p, h, f)
 
@@ -319,15 +244,15 @@ module _ (s part : List ℕ) (n : ℕ) (e : record_end s ≡ some n) (p : part �
       front_read : kept_front s ≡ sized (n + tag33_length) (read_kept part q tag)
       front_read = front-tagged f ∙ rw g
 
-      pub front_no_entry : is_some (read_kept part q tag) ≡ false → kept_front s ≡ none
+      pub front_no_entry : is_some (read_kept part q tag) ≡ false → kept_front s ≡ None
       front_no_entry d = front_read ∙ rw (unfound (read_kept part q tag) d)
 
-      pub front-entry-to : is_some (read_kept part q tag) ≡ true → EntryTo s n
+      front-entry-to : is_some (read_kept part q tag) ≡ true → EntryTo s n
       front-entry-to d = go (read_kept part q tag) refl d
         where
           go : (o : Option Kept) → read_kept part q tag ≡ o → is_some o ≡ true → EntryTo s n
-          go none e d = impossible (cc)
-          go (some k) e d =
+          go None e d = impossible (cc)
+          go (Some k) e d =
               let w = (entry-parts part q tag k e).2 in
               record {
                 kept = k;
@@ -337,21 +262,25 @@ module _ (s part : List ℕ) (n : ℕ) (e : record_end s ≡ some n) (p : part �
                 inside = tag-inside n s f;
               }
 
+      pub front-entry : (b : Bool) → is_some (read_kept part q tag) ≡ b → KeptEnd s (then_some b n)
+      front-entry true d = front-entry-to d
+      front-entry false d = front_no_entry d
+
 -- ---- an entry that is known to stand there
 
 module _ (s : List ℕ) (h : is_some (kept_front s) ≡ true) where
-  there : {A : Type 0} (o : Option A) → (o ≡ none → kept_front s ≡ none) → is_some o ≡ true
-  there none f = clash (is_some (kept_front s)) h (ap is_some (f refl))
-  there (some x) f = refl
+  there : {A : Type 0} (o : Option A) → (o ≡ None → kept_front s ≡ None) → is_some o ≡ true
+  there None f = clash (is_some (kept_front s)) h (ap is_some (f refl))
+  there (Some x) f = refl
 
-  holds : (b : Bool) → (b ≡ false → kept_front s ≡ none) → b ≡ true
+  holds : (b : Bool) → (b ≡ false → kept_front s ≡ None) → b ≡ true
   holds true f = refl
   holds false f = clash (is_some (kept_front s)) h (ap is_some (f refl))
 
   pub known-end : is_some (record_end s) ≡ true
   known-end = there (record_end s) (front_endless s)
 
-  module _ (part : List ℕ) (n : ℕ) (e : record_end s ≡ some n) (p : part ≡ take n s) where
+  module _ (part : List ℕ) (n : ℕ) (e : record_end s ≡ Some n) (p : part ≡ take n s) where
     pub known-point : is_some (read_point part) ≡ true
     known-point = there (read_point part) (front-unread s part n e p)
 
@@ -362,7 +291,7 @@ module _ (s : List ℕ) (h : is_some (kept_front s) ≡ true) where
     known-inside = tag-inside n s known-tag
 
     module _ (tag : List ℕ) (g : tag ≡ take 105 (drop (n + 3) s)) where
-      known-entry : (q : PointInfo) → read_point part ≡ some q → (k : Kept) × (read_kept part q tag ≡ some k)
+      known-entry : (q : PointInfo) → read_point part ≡ Some q → (k : Kept) × (read_kept part q tag ≡ Some k)
       known-entry q r = some_of (read_kept part q tag) (holds (is_some (read_kept part q tag)) (front_no_entry s part n e p q r known-tag tag g))
 
       pub known-status : is_some (read_status tag) ≡ true
@@ -371,7 +300,7 @@ module _ (s : List ℕ) (h : is_some (kept_front s) ≡ true) where
           let k = known-entry q.0 q.1 in
           ap is_some (entry-parts part q.0 tag k.0 k.1).1
 
-      pub known_kept : (i : code-info.PointInfo) (x : code-status.Status) → Reads part i → read_status tag ≡ some (status_of x) →
+      pub known_kept : (i : code-info.PointInfo) (x : code-status.Status) → Reads part i → read_status tag ≡ Some (status_of x) →
           KeptAt s (record { info = i; status = x; certified = eqb (get_or tag 1 0) 1; len = n })
       known_kept i x r t =
           let k = known-entry (point_of part i) r.read in
@@ -385,18 +314,11 @@ module _ (s : List ℕ) (h : is_some (kept_front s) ≡ true) where
 
 -- ---- an entry's bytes
 
--- stores in a row are a run
-pub two_stores : (l : List ℕ) (at a b : ℕ) → at + 2 ≤ length l → set (set l at a) (at + 1) b ≡ put_at l at (a ∷ b ∷ [])
-two_stores l at a b h = rw add-one (put_is l at (a ∷ b ∷ []) h)
-
-pub three_stores : (l : List ℕ) (at a b c : ℕ) → at + 3 ≤ length l → set (set (set l at a) (at + 1) b) (at + 2) c ≡ put_at l at (a ∷ b ∷ c ∷ [])
-three_stores l at a b c h = rw (add-one, add-two) (put_is l at (a ∷ b ∷ c ∷ []) h)
-
 -- three runs, each after the one before, grouped to the right
 pub put_right : (l : List ℕ) (at : ℕ) (xs ys zs : List ℕ) (m n : ℕ) → at + length xs ≡ m → m + length ys ≡ n → n + length zs ≤ length l →
     put_at (put_at (put_at l at xs) m ys) n zs ≡ put_at l at (xs ++ (ys ++ zs))
 put_right l at xs ys zs m n e f h = put_three l at xs ys zs m n e f h ∙ ap (put_at l at) (append_assoc xs ys zs)
 
-pub id-length : (i : PointId) → length (id_bytes i) ≡ 68
+pub id_length : (i : PointId) → length (id_bytes i) ≡ 68
 unfolding little_bytes big_bytes
-id-length i = refl
+id_length i = refl

@@ -1,9 +1,6 @@
 -- What the code's values of one entry stand for in the plain book.
-use Rattle.std.specs.Prelude.{ℕ, ◌+◌, ◌≤◌, ◌≡◌, List, [], ◌∷◌, length, take}
-use Rattle.std.proofs.Math.Option.{none, some}
+use Rattle.std.specs.Prelude.{ℕ, ◌+◌, ◌≤◌, ◌≡◌, List, [], ◌∷◌, length, take, None, Some, Option}
 use Rattle.parts.specs.Limits.{tag33_length}
-use Rattle.record.specs.declared.End.{End}
-use Rattle.record.specs.declared.End.TheVariants.{At, Unreadable}
 use Rattle.point.specs.Point.{PointInfo}
 use Rattle.point.specs.Reading.{read_point}
 use Rattle.point.specs.Code.{point_of, Reads}
@@ -13,8 +10,6 @@ use Rattle.books.specs.Offer.{kept_as}
 use Rattle.books.specs.Layout.{kept_front}
 use Rattle.book_layout.specs.declared.status.Status as code-status
 use Rattle.book_layout.specs.declared.status.Status.TheVariants as case-status
-use Rattle.book_layout.specs.declared.status.Left as code-left
-use Rattle.book_layout.specs.declared.status.Left.TheVariants as case-left
 use Rattle.book_layout.specs.declared.read.Kept as code-kept
 
 abbrev pub status_of : code-status.Status → Status
@@ -24,9 +19,9 @@ status_of (case-status.Invalid n) = Invalid n
 status_of (case-status.IllFormed n) = IllFormed n
 
 -- what a verdict on a record leaves in the book
-abbrev pub left_of : List ℕ → PointInfo → code-left.Left → List Kept
-left_of bytes q (case-left.Entry s) = kept_as bytes q (status_of s) ∷ []
-left_of bytes q case-left.Nothing = []
+abbrev pub left_of : List ℕ → PointInfo → Option code-status.Status → List Kept
+left_of bytes q (Some s) = kept_as bytes q (status_of s) ∷ []
+left_of bytes q None = []
 
 -- an entry of the code has neither its record nor its point's maps
 abbrev pub kept_of : List ℕ → code-kept.Kept → Kept
@@ -35,18 +30,18 @@ kept_of bytes k =
 
 -- an entry stands at the front of a slice, which holds its record and tag 33, and its point is what the record says
 pub record KeptAt (s : List ℕ) (k : code-kept.Kept) : Type 0 where
-  pub front : kept_front s ≡ some (record { kept = kept_of (take k.len s) k; size = k.len + tag33_length })
+  pub front : kept_front s ≡ Some (record { kept = kept_of (take k.len s) k; size = k.len + tag33_length })
   pub inside : k.len + tag33_length ≤ length s
   pub read : Reads (take k.len s) k.info
 
 -- the entry at the front of a slice, whose record takes n bytes
 pub record EntryTo (s : List ℕ) (n : ℕ) : Type 0 where
   pub kept : Kept
-  pub front : kept_front s ≡ some (record { kept = kept; size = n + tag33_length })
+  pub front : kept_front s ≡ Some (record { kept = kept; size = n + tag33_length })
   pub bytes : kept.bytes ≡ take n s
-  pub read : read_point (take n s) ≡ some kept.point
+  pub read : read_point (take n s) ≡ Some kept.point
   pub inside : n + tag33_length ≤ length s
 
-abbrev pub KeptEnd : List ℕ → End → Type 0
-KeptEnd s (At n) = EntryTo s n
-KeptEnd s Unreadable = kept_front s ≡ none
+abbrev pub KeptEnd : List ℕ → Option ℕ → Type 0
+KeptEnd s (Some n) = EntryTo s n
+KeptEnd s None = kept_front s ≡ None

@@ -8,5 +8,5 @@ mod zeros;
 
 pub use put::put_kept;
 pub use read::{Kept, kept_end, known_kept};
-pub use status::{Left, Status, dag_point, of_verdict};
+pub use status::{Status, dag_point, of_verdict};
 pub use zeros::is_zeros;

@@ -21,22 +21,15 @@ pub enum Status {
     IllFormed(u8),
 }
 
-// What a verdict leaves in the book.
-#[derive(Clone, Copy)]
-pub enum Left {
-    Entry(Status),
-    Nothing,
-}
-
-pub fn of_verdict(verdict: Verdict) -> Left
+pub fn of_verdict(verdict: Verdict) -> Option<Status>
     ensures { (s : List ℕ) (q : point.PointInfo) → left_of s q result ≡ left_by s q (verdict_of verdict) }
 {
     match verdict {
-        Verdict::Fail(_) => Left::Nothing,
-        Verdict::IllFormed(reason) => Left::Entry(Status::IllFormed(reason.number())),
-        Verdict::Invalid(reason) => Left::Entry(Status::Invalid(reason.number())),
-        Verdict::TransInvalid(d) => Left::Entry(Status::TransInvalid(d)),
-        Verdict::Valid => Left::Entry(Status::Valid),
+        Verdict::Fail(_) => None,
+        Verdict::IllFormed(reason) => Some(Status::IllFormed(reason.number())),
+        Verdict::Invalid(reason) => Some(Status::Invalid(reason.number())),
+        Verdict::TransInvalid(d) => Some(Status::TransInvalid(d)),
+        Verdict::Valid => Some(Status::Valid),
     }
 }
 
@@ -47,14 +40,8 @@ pub fn dag_point(info: PointInfo, status: Status) -> DagPoint
 {
     match status {
         Status::Valid => DagPoint::Valid(info),
-        Status::TransInvalid(d) => {
-            let root = d.to;
-            DagPoint::TransInvalid(info, root, d.reason)
-        }
+        Status::TransInvalid(d) => DagPoint::TransInvalid(info, d.to, d.reason),
         Status::Invalid(n) => DagPoint::Invalid(info, n),
-        Status::IllFormed(n) => {
-            let id = info.id;
-            DagPoint::IllFormed(id, n)
-        }
+        Status::IllFormed(n) => DagPoint::IllFormed(info.id, n),
     }
 }

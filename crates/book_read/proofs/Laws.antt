@@ -1,20 +1,19 @@
 -- What the index of a book's entries finds is what the plain book has.
+use Rattle.std.specs.Prelude.{None, Some, is_some}
 use Prim.Native.Nat.{ℕ, zero, suc, ◌≤◌, ◌<◌}
 use native.Mathlib.Omega.{arith}
 use mathlib.Core.Path.{◌≡◌, refl, ap, sym, ◌∙◌}
 use mathlib.Core.Bool.{Bool, true, false, or-true}
-use mathlib.Core.Option.{none, some}
 use mathlib.Core.List.{List, [], ◌∷◌, ◌++◌}
 use lib.ListN.{length, take, drop, take-append-drop}
 use lib.Seq.{drop-nil}
-use Rattle.base.specs.Base.{pick, is_some}
+use Rattle.base.specs.Base.{pick}
 use Rattle.base.proofs.Impossible.{impossible}
 use Rattle.point.specs.Point.{PointId, same_id}
 use Rattle.point.proofs.Ids.{same_sym}
 use Rattle.books.specs.Kept.{Kept, Book, find_kept, is_twice}
 use Rattle.books.proofs.Find.{find-after, once_around}
 use Rattle.id_index.specs.Code.{FoundAt, Once, Twice, Built, count_of, place_in}
-use Rattle.id_index.specs.declared.Place.TheVariants.{At, Absent}
 use Rattle.book_read.specs.Code.{Placed, Holds}
 
 -- entry j of a book, with the rest after it, is the one of an id
@@ -22,7 +21,7 @@ pub record KeptAt (b : Book) (i : PointId) (j : ℕ) : Type 0 where
   pub kept : Kept
   pub rest : Book
   pub there : drop j b ≡ kept ∷ rest
-  pub found : find_kept b i ≡ some kept
+  pub found : find_kept b i ≡ Some kept
 
 pub standing : (b : Book) (j : ℕ) → j < length b → (k : Kept) × (rest : Book) × (drop j b ≡ k ∷ rest)
 standing [] j lt = absurd (omega arith)
@@ -35,14 +34,14 @@ inside [] j k rest e = impossible (cc (drop-nil {A = Kept} j))
 inside (x ∷ b) zero k rest e = omega arith
 inside (x ∷ b) (suc j) k rest e = omega (arith, inside b j k rest e)
 
-not_found : (b : Book) (i : PointId) → ((j : ℕ) (k : Kept) (rest : Book) → drop j b ≡ k ∷ rest → same_id k.point.id i ≡ false) → find_kept b i ≡ none
+not_found : (b : Book) (i : PointId) → ((j : ℕ) (k : Kept) (rest : Book) → drop j b ≡ k ∷ rest → same_id k.point.id i ≡ false) → find_kept b i ≡ None
 unfolding find_kept
 not_found [] i h = refl
 not_found (k ∷ b) i h = rw (h 0 k b refl) (not_found b i (λ j. h (suc j)))
 
 module _ {s : List ℕ} {b : Book} {x : List ℕ} (h : Holds s b x) (i : PointId) where
   -- the entry that the index finds is the book's entry of the id
-  pub found-kept : (j : ℕ) → FoundAt s x i (At j) → KeptAt b i j
+  pub found-kept : (j : ℕ) → FoundAt s x i (Some j) → KeptAt b i j
   unfolding find_kept
   found-kept j f =
       let p = h.placed in
@@ -59,12 +58,12 @@ module _ {s : List ℕ} {b : Book} {x : List ℕ} (h : Holds s b x) (i : PointId
         found = ap (λ (l : Book). find_kept l i) parts ∙ (find-after (take j b) (k ∷ rest) i o.0 ∙ rw e);
       }
 
-  module _ (f : FoundAt s x i Absent) where
+  module _ (f : FoundAt s x i None) where
     pub others : (j : ℕ) (k : Kept) (rest : Book) → drop j b ≡ k ∷ rest → same_id k.point.id i ≡ false
     others j k rest e = rw (h.placed.ids j k rest e) at (f j (omega (arith, h.placed.count, inside b j k rest e)))
 
     -- an id that the index doesn't find has no entry
-    pub absent-kept : find_kept b i ≡ none
+    pub absent-kept : find_kept b i ≡ None
     absent-kept = not_found b i others
 
 -- ---- an id that stands twice
@@ -83,7 +82,7 @@ some-found [] k y q i e t = impossible (cc (drop-nil {A = Kept} k))
 some-found (w ∷ b) zero y q i e t = let f : w ≡ y = cc in rw (f, t)
 some-found (w ∷ b) (suc k) y q i e t = either (same_id w.point.id i) (some-found b k y q i e t)
   where
-    either : (c : Bool) → is_some (find_kept b i) ≡ true → is_some (pick c (some w) (find_kept b i)) ≡ true
+    either : (c : Bool) → is_some (find_kept b i) ≡ true → is_some (pick c (Some w) (find_kept b i)) ≡ true
     either true h = refl
     either false h = h
 

@@ -1,9 +1,9 @@
 -- Marks change neither where entries stand nor their ids: what was read of a book serves after its marks are written.
+use Rattle.std.specs.Prelude.{Some}
 use Prim.Native.Nat.{ℕ, zero, suc, ◌+◌, ◌-◌, ◌≤◌, ◌<◌}
 use native.Mathlib.Omega.{arith}
 use mathlib.Core.Path.{◌≡◌, refl, ap, sym, ◌∙◌, subst}
 use mathlib.Core.Bool.{Bool}
-use mathlib.Core.Option.{some}
 use mathlib.Core.List.Memᴰ
 use mathlib.Core.List.{List, [], ◌∷◌, ◌++◌, Memᴰ, append_assoc}
 use lib.ListN.{length, take, drop, replicate, take-append-drop, length-append}
@@ -89,7 +89,7 @@ module _ (settings : List ℕ) (len : ℕ) (l : length settings ≡ 47) (b : Boo
 
 -- ---- a book whose marks are written
 
-module _ {s : List ℕ} (w : Bytes s) {z : Opened} (r : read_book s ≡ some z) (test : PointId → Bool)
+module _ {s : List ℕ} (w : Bytes s) {z : Opened} (r : read_book s ≡ Some z) (test : PointId → Bool)
     {t : List ℕ} (e : t ≡ book_bytes z.bytes (length s) (mark test z.book)) {x : List ℕ} (h : Holds s z.book x) where
   again : BookOf s z
   again = book-again s z w r

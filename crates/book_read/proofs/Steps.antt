@@ -1,9 +1,9 @@
 -- Reading a book, step by step: an entry after those that are read, and where the entries end.
+use Rattle.std.specs.Prelude.{Option, None, Some, option_map}
 use Prim.Native.Nat.{ℕ, zero, suc, ◌+◌, ◌-◌, ◌≤◌, ◌<◌}
 use native.Mathlib.Omega.{arith}
 use mathlib.Core.Path.{◌≡◌, refl, ap, sym, subst, ◌∙◌}
 use mathlib.Core.Bool.{Bool, true, false}
-use mathlib.Core.Option.{Option, none, some, map}
 use mathlib.Core.List.{List, [], ◌∷◌, ◌++◌, append-nil}
 use lib.ListN.{length, get_or, take, drop, replicate, length-append, length-take, length-drop}
 use lib.Seq.{take-append-le, take-append_seam, drop-nil, drop-drop, get_or-drop, length-take-le}
@@ -48,7 +48,7 @@ which (y ∷ b) k (suc j) x rest e = go (which b k j x rest e)
 
 -- ---- the id of an entry stands after the tag and the length of its record's first field
 
-module _ (s : List ℕ) (p : PointInfo) (h : read_point s ≡ some p) where
+module _ (s : List ℕ) (p : PointInfo) (h : read_point s ≡ Some p) where
   record_id : (71 ≤ length s) × (p.id ≡ point_id_at s 3)
   unfolding content_of start_of content_at row_of rows
   record_id =
@@ -60,7 +60,7 @@ module _ (s : List ℕ) (p : PointInfo) (h : read_point s ≡ some p) where
 
 -- what the entry at a place is, whose record takes n bytes
 pub record EntryAt (s : List ℕ) (place n : ℕ) (k : Kept) : Type 0 where
-  pub front : kept_front (drop place s) ≡ some (record { kept = k; size = length k.bytes + 108 })
+  pub front : kept_front (drop place s) ≡ Some (record { kept = k; size = length k.bytes + 108 })
   pub size : length k.bytes ≡ n
   pub room : place + 71 ≤ length s
   pub within : place + n + 108 ≤ length s
@@ -86,38 +86,38 @@ module _ (s : List ℕ) (place : ℕ) (t : List ℕ) (e : t ≡ drop place s) (n
 -- an entry of a book stands where the index says
 record Stands (s : List ℕ) (b : Book) (x : List ℕ) (j : ℕ) (k : Kept) : Type 0 where
   start : place_in x j ≡ 47 + used (take j b)
-  front : kept_front (drop (place_in x j) s) ≡ some (record { kept = k; size = length k.bytes + 108 })
+  front : kept_front (drop (place_in x j) s) ≡ Some (record { kept = k; size = length k.bytes + 108 })
   id : id_in s x j ≡ k.point.id
 
-before-none : (b : Book) → entries_before b none ≡ none
+before-none : (b : Book) → entries_before b None ≡ None
 before-none [] = refl
-before-none (k ∷ b) = ap (map (λ b. k ∷ b)) (before-none b)
+before-none (k ∷ b) = ap (option_map (λ b. k ∷ b)) (before-none b)
 
-before-some : (b c : Book) → entries_before b (some c) ≡ some (b ++ c)
+before-some : (b c : Book) → entries_before b (Some c) ≡ Some (b ++ c)
 before-some [] c = refl
-before-some (k ∷ b) c = ap (map (λ b. k ∷ b)) (before-some b c)
+before-some (k ∷ b) c = ap (option_map (λ b. k ∷ b)) (before-some b c)
 
-before_more : (b : Book) (k : Kept) (o : Option Book) → entries_before b (map (λ c. k ∷ c) o) ≡ entries_before (b ++ (k ∷ [])) o
+before_more : (b : Book) (k : Kept) (o : Option Book) → entries_before b (option_map (λ c. k ∷ c) o) ≡ entries_before (b ++ (k ∷ [])) o
 before_more [] k o = refl
-before_more (x ∷ b) k o = ap (map (λ b. x ∷ b)) (before_more b k o)
+before_more (x ∷ b) k o = ap (option_map (λ b. x ∷ b)) (before_more b k o)
 
-before_last : (b : Book) (z : Bool) → entries_before b (pick z (some []) none) ≡ pick z (some b) none
-before_last b true = before-some b [] ∙ ap some (append-nil b)
+before_last : (b : Book) (z : Bool) → entries_before b (pick z (Some []) None) ≡ pick z (Some b) None
+before_last b true = before-some b [] ∙ ap Some (append-nil b)
 before_last b false = before-none b
 
 -- what is read at the front of a list, with room for n entries
-ends-here : (m : ℕ) (t : List ℕ) → get_or t 0 0 ≡ 0 → entries_from m t ≡ pick (is_zeros t) (some []) none
+ends-here : (m : ℕ) (t : List ℕ) → get_or t 0 0 ≡ 0 → entries_from m t ≡ pick (is_zeros t) (Some []) None
 unfolding entries_from
 ends-here zero t h = refl
 ends-here (suc m) t h = rw (eq-eqb (get_or t 0 0) 0 h)
 
-no_room : (t : List ℕ) → eqb (get_or t 0 0) 0 ≡ false → entries_from 0 t ≡ none
+no_room : (t : List ℕ) → eqb (get_or t 0 0) 0 ≡ false → entries_from 0 t ≡ None
 unfolding entries_from is_zeros
 no_room [] h = impossible (cc)
 no_room (x ∷ t) h = rw h
 
 with_front : (m : ℕ) (t : List ℕ) → eqb (get_or t 0 0) 0 ≡ false → (o : Option KeptFront) → kept_front t ≡ o →
-    entries_from (suc m) t ≡ and_then o (λ x. map (λ b. x.kept ∷ b) (entries_from m (drop x.size t)))
+    entries_from (suc m) t ≡ and_then o (λ x. option_map (λ b. x.kept ∷ b) (entries_from m (drop x.size t)))
 unfolding entries_from
 with_front m t h o f = rw (h, f)
 
@@ -125,11 +125,11 @@ module _ {s : List ℕ} {end : ℕ} {x : List ℕ} (r : Reading s end x) where
   first : get_or (drop end s) 0 0 ≡ get_or s end 0
   first = let e : end + 0 ≡ end = omega arith in get_or-drop end s 0 0 ∙ ap (λ (m : ℕ). get_or s m 0) e
 
-  unread : entries_from (4096 - count_of x) (drop end s) ≡ none → NoBook s
+  unread : entries_from (4096 - count_of x) (drop end s) ≡ None → NoBook s
   unread h = λ c. ap (λ o. and_then o (opened_once s c)) (r.left ∙ (ap (entries_before r.book) h ∙ before-none r.book))
 
   -- the entries end at a 0 or with the bytes
-  pub all_read : get_or s end 0 ≡ 0 → entries_from 4096 (drop 47 s) ≡ pick (is_zeros (drop end s)) (some r.book) none
+  pub all_read : get_or s end 0 ≡ 0 → entries_from 4096 (drop 47 s) ≡ pick (is_zeros (drop end s)) (Some r.book) None
   all_read h = r.left ∙ (ap (entries_before r.book) (ends-here (4096 - count_of x) (drop end s) (first ∙ h)) ∙ before_last r.book (is_zeros (drop end s)))
 
   module _ (h : eqb (get_or s end 0) 0 ≡ false) where
@@ -141,13 +141,13 @@ module _ {s : List ℕ} {end : ℕ} {x : List ℕ} (r : Reading s end x) where
 
     module _ (room : count_of x < 4096) where
       one_left : (o : Option KeptFront) → kept_front (drop end s) ≡ o →
-          entries_from (4096 - count_of x) (drop end s) ≡ and_then o (λ x'. map (λ b. x'.kept ∷ b) (entries_from (4096 - (count_of x + 1)) (drop x'.size (drop end s))))
+          entries_from (4096 - count_of x) (drop end s) ≡ and_then o (λ x'. option_map (λ b. x'.kept ∷ b) (entries_from (4096 - (count_of x + 1)) (drop x'.size (drop end s))))
       one_left o f =
           let z : 4096 - count_of x ≡ suc (4096 - (count_of x + 1)) = omega arith in
           ap (λ (m : ℕ). entries_from m (drop end s)) z ∙ with_front (4096 - (count_of x + 1)) (drop end s) begins o f
 
-      pub no_entry : kept_front (drop end s) ≡ none → NoBook s
-      no_entry f = unread (one_left none f)
+      pub no_entry : kept_front (drop end s) ≡ None → NoBook s
+      no_entry f = unread (one_left None f)
 
       module _ (c : ℕ) (k : Kept) (w : EntryAt s end c k) where
         abbrev more : List ℕ
@@ -228,39 +228,39 @@ none_read {s} {x} l e =
 -- ---- a book
 
 module _ (s : List ℕ) where
-  pub too_long : 16777216 < length s → read_book s ≡ none
+  pub too_long : 16777216 < length s → read_book s ≡ None
   unfolding read_book
-  too_long h = pick-false (leb (length s) 16777216) _ none (lt-leb (length s) 16777216 h)
+  too_long h = pick-false (leb (length s) 16777216) _ None (lt-leb (length s) 16777216 h)
 
   module _ (h : length s ≤ 16777216) where
     in_limit : read_book s ≡ and_then (read_settings (take 47 s)) (λ c. and_then (entries_from 4096 (drop 47 s)) (opened_once s c))
     unfolding read_book
-    in_limit = pick_true (leb (length s) 16777216) _ none (le-leb (length s) 16777216 h)
+    in_limit = pick_true (leb (length s) 16777216) _ None (le-leb (length s) 16777216 h)
 
-    pub no_settings : read_settings (take 47 s) ≡ none → read_book s ≡ none
+    pub no_settings : read_settings (take 47 s) ≡ None → read_book s ≡ None
     no_settings e = in_limit ∙ rw e
 
-    pub no_book : NoBook s → read_book s ≡ none
+    pub no_book : NoBook s → read_book s ≡ None
     no_book e = in_limit ∙ go (read_settings (take 47 s))
       where
-        go : (o : Option Settings) → and_then o (λ c. and_then (entries_from 4096 (drop 47 s)) (opened_once s c)) ≡ none
-        go none = refl
-        go (some c) = e c
+        go : (o : Option Settings) → and_then o (λ c. and_then (entries_from 4096 (drop 47 s)) (opened_once s c)) ≡ None
+        go None = refl
+        go (Some c) = e c
 
     module _ {end : ℕ} {y : List ℕ} (r : Reading s end y) (e : get_or s end 0 ≡ 0) where
-      pub no_zeros : is_zeros (drop end s) ≡ false → read_book s ≡ none
-      no_zeros z = let b : entries_from 4096 (drop 47 s) ≡ none = all_read r e ∙ rw z in no_book (λ c. ap (λ o. and_then o (opened_once s c)) b)
+      pub no_zeros : is_zeros (drop end s) ≡ false → read_book s ≡ None
+      no_zeros z = let b : entries_from 4096 (drop 47 s) ≡ None = all_read r e ∙ rw z in no_book (λ c. ap (λ o. and_then o (opened_once s c)) b)
 
       module _ (z : is_zeros (drop end s) ≡ true) where
-        entries : entries_from 4096 (drop 47 s) ≡ some r.book
+        entries : entries_from 4096 (drop 47 s) ≡ Some r.book
         entries = all_read r e ∙ rw z
 
-        pub id-twice : {x : List ℕ} → Built s y x false → read_book s ≡ none
+        pub id-twice : {x : List ℕ} → Built s y x false → read_book s ≡ None
         id-twice u =
             let t = twice-book (built-placed r.noted.places.room r.placed u) u.index in
             no_book (λ c. ap (λ o. and_then o (opened_once s c)) entries ∙ rw t)
 
-        pub book-read : {x : List ℕ} (c : Settings) → read_settings (take 47 s) ≡ some c → Built s y x true → IsRead s c end x
+        pub book-read : {x : List ℕ} (c : Settings) → read_settings (take 47 s) ≡ Some c → Built s y x true → IsRead s c end x
         book-read c f u =
             let p = built-placed r.noted.places.room r.placed u in
             let o = once-book p u.index.1 in
@@ -274,6 +274,6 @@ module _ (s : List ℕ) where
               index = u.index.0;
             }
 
-pub too_short : (s : List ℕ) → length s < 47 → read_book s ≡ none
+pub too_short : (s : List ℕ) → length s < 47 → read_book s ≡ None
 unfolding read_settings
 too_short s h = no_settings s (omega arith) (rw (ne_eqb (length (take 47 s)) 47 (λ e. omega (arith, length-take 47 s))))

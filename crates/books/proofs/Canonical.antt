@@ -1,5 +1,6 @@
 -- Reading then writing: bytes that are read as an entry, as entries or as a book are the bytes of what was read, and what was read
 -- is such as bytes can hold.
+use Rattle.std.specs.Prelude.{None, Some, is_some}
 use Prim.Native.Nat.{ℕ, zero, suc, ◌+◌, ◌-◌, ◌^◌, ◌≤◌, ◌<◌}
 use native.Mathlib.Nat.{sub-zero}
 use native.Mathlib.Numerals.{add-one, add-three}
@@ -7,14 +8,13 @@ use native.Mathlib.Omega.{arith}
 use mathlib.Core.Path.{◌≡◌, refl, ap, sym, ◌∙◌, subst}
 use mathlib.Core.Logic.{◌⊎◌, inl, inr}
 use mathlib.Core.Bool.{Bool, true, false, ◌&&◌}
-use mathlib.Core.Option.{none, some}
 use mathlib.Core.List.Memᴰ
 use mathlib.Core.List.{List, [], ◌∷◌, ◌++◌, Memᴰ, append_assoc}
 use lib.ListN.{length, get_or, take, drop, replicate, length-take, length-drop, take-append-drop}
 use lib.Seq.{take_all, take-add, drop-cons, drop-drop, length-take-le}
 use lib.Dec.{leb, eqb}
 use borrow.Author.Tests.{leb-true, eqb-true}
-use Rattle.base.specs.Base.{pick, is_some}
+use Rattle.base.specs.Base.{pick}
 use Rattle.base.proofs.Bool.{and_left, and_right}
 use Rattle.base.proofs.Option.{picked, IfSome, pick-has, then_has, map-has, has}
 use Rattle.parts.specs.Bytes.{bytes_at, little_at, id_at, big_bytes, Bytes}
@@ -171,16 +171,16 @@ module _ (t : List ℕ) (b : Bytes t) (l : length t ≡ 105) (m : get_or t 1 0 �
       let zeros = is_zeros (drop 3 t) in
       let reason = is_some (dag_round n) in
       let number = leb 1 n && leb n 16 in
-      pick-has P (eqb state 0) _ _ (λ e. pick-has P (is_zeros (drop 2 t)) _ none (λ z. valid-again (eqb-true state 0 e) z) tt)
+      pick-has P (eqb state 0) _ _ (λ e. pick-has P (is_zeros (drop 2 t)) _ None (λ z. valid-again (eqb-true state 0 e) z) tt)
       (pick-has P (eqb state 1) _ _
-      (λ e. pick-has P (eqb n 0 && is_root_ok t) _ none (λ z. trans_again (eqb-true state 1 e) (eqb-true n 0 (and_left (eqb n 0) _ z)) (and_right (eqb n 0) _ z)) tt)
+      (λ e. pick-has P (eqb n 0 && is_root_ok t) _ None (λ z. trans_again (eqb-true state 1 e) (eqb-true n 0 (and_left (eqb n 0) _ z)) (and_right (eqb n 0) _ z)) tt)
       (pick-has P (eqb state 2) _ _
-      (λ e. pick-has P (reason && zeros) _ none (λ z. invalid-again (eqb-true state 2 e) (and_left reason zeros z) (and_right reason zeros z)) tt)
-      (pick-has P (eqb state 3) _ none
-      (λ e. pick-has P (number && zeros) _ none (λ z. ill-formed-again (eqb-true state 3 e) (and_left number zeros z) (and_right number zeros z)) tt)
+      (λ e. pick-has P (reason && zeros) _ None (λ z. invalid-again (eqb-true state 2 e) (and_left reason zeros z) (and_right reason zeros z)) tt)
+      (pick-has P (eqb state 3) _ None
+      (λ e. pick-has P (number && zeros) _ None (λ z. ill-formed-again (eqb-true state 3 e) (and_left number zeros z) (and_right number zeros z)) tt)
       tt)))
 
-  status-again : (s : Status) → read_status t ≡ some s → Again t s
+  status-again : (s : Status) → read_status t ≡ Some s → Again t s
   status-again s h = has (Again t) (read_status t) s any-again h
 
 -- ---- an entry
@@ -205,9 +205,9 @@ module _ (bytes : List ℕ) (q : PointInfo) (t : List ℕ) (b : Bytes t) (l : le
   unfolding read_kept
   kept_of =
       let P = KeptOf bytes q t in
-      pick-has P (leb (get_or t 1 0) 1) _ none (λ m. then_has P (read_status t) _ (λ s e.
+      pick-has P (leb (get_or t 1 0) 1) _ None (λ m. then_has P (read_status t) _ (λ s e.
       let a = status-again t b l (leb-true (get_or t 1 0) 1 m) s e in
-      pick-has P (is_keepable q s) _ none (λ h. record { whose = refl; point = refl; written = a.bytes; domain = keepable-domain q s h; status = a.shape q h }) tt)) tt
+      pick-has P (is_keepable q s) _ None (λ h. record { whose = refl; point = refl; written = a.bytes; domain = keepable-domain q s h; status = a.shape q h }) tt)) tt
 
 -- what stands at the front of a slice that is read as an entry
 pub record FrontOf (s : List ℕ) (x : KeptFront) : Type 0 where
@@ -231,8 +231,8 @@ three s n b f =
     let p = two_bytes s (suc n) b (omega arith) e in
     rw (add-three n, drop-cons s n 0 (omega arith), drop-cons s (suc n) 0 (omega arith), drop-cons s (suc (suc n)) 0 (omega arith), f.tag, p.0, p.1)
 
-module _ (s : List ℕ) (b : Bytes s) (n : ℕ) (e : record_end s ≡ some n) where
-  front_kept : (q : PointInfo) (k : Kept) → read_point (take n s) ≡ some q → Fitting (field_row 33 105 105) s n →
+module _ (s : List ℕ) (b : Bytes s) (n : ℕ) (e : record_end s ≡ Some n) where
+  front_kept : (q : PointInfo) (k : Kept) → read_point (take n s) ≡ Some q → Fitting (field_row 33 105 105) s n →
       KeptOf (take n s) q (take 105 (drop (n + 3) s)) k → FrontOf s (record { kept = k; size = n + 108 })
   unfolding kept_bytes
   front_kept q k p f h =
@@ -244,21 +244,21 @@ module _ (s : List ℕ) (b : Bytes s) (n : ℕ) (e : record_end s ≡ some n) wh
         within = omega (arith, f.end, f.least);
       }
 
-  front_with_lem : (q : PointInfo) (k : Kept) → read_point (take n s) ≡ some q → Fitting (field_row 33 105 105) s n →
-      read_kept (take n s) q (take 105 (drop (n + 3) s)) ≡ some k → FrontOf s (record { kept = k; size = n + 108 })
+  front_with_lem : (q : PointInfo) (k : Kept) → read_point (take n s) ≡ Some q → Fitting (field_row 33 105 105) s n →
+      read_kept (take n s) q (take 105 (drop (n + 3) s)) ≡ Some k → FrontOf s (record { kept = k; size = n + 108 })
   front_with_lem q k p f r =
       let t = take 105 (drop (n + 3) s) in
       let l : length t ≡ 105 = length-take-le 105 (drop (n + 3) s) (omega (arith, length-drop (n + 3) s, f.end, f.least)) in
       front_kept q k p f (has (KeptOf (take n s) q t) (read_kept (take n s) q t) k (kept_of (take n s) q t (at-bytes 105 s (n + 3) b) l) r)
 
 -- bytes that are read as an entry are that entry's
-pub front-again : (s : List ℕ) (x : KeptFront) → Bytes s → kept_front s ≡ some x → FrontOf s x
+pub front-again : (s : List ℕ) (x : KeptFront) → Bytes s → kept_front s ≡ Some x → FrontOf s x
 unfolding kept_front
 front-again s x b h =
     let P = FrontOf s in
     has P (kept_front s) x
     (then_has P (record_end s) _ (λ n e. then_has P (read_point (take n s)) _ (λ q p.
-    pick-has P (field_ok (field_row 33 105 105) s n) _ none
+    pick-has P (field_ok (field_row 33 105 105) s n) _ None
     (λ w. map-has P _ (read_kept (take n s) q (take 105 (drop (n + 3) s))) (λ k r. front_with_lem s b n e q k p (fitting (field_row 33 105 105) s n w) r)) tt)))
     h
 
@@ -298,16 +298,16 @@ module _ (n : ℕ) (s : List ℕ) (x : KeptFront) (f : FrontOf s x) where
 
 all-again : (n : ℕ) (s : List ℕ) → Bytes s → IfSome (EntriesOf n s) (entries_from n s)
 unfolding entries_from
-all-again zero s b = pick-has (EntriesOf zero s) (is_zeros s) _ none (λ z. none-again zero s z) tt
+all-again zero s b = pick-has (EntriesOf zero s) (is_zeros s) _ None (λ z. none-again zero s z) tt
 all-again (suc n) s b =
     let P = EntriesOf (suc n) s in
     pick-has P (eqb (get_or s 0 0) 0) _ _
-    (λ e. pick-has P (is_zeros s) _ none (λ z. none-again (suc n) s z) tt)
+    (λ e. pick-has P (is_zeros s) _ None (λ z. none-again (suc n) s z) tt)
     (then_has P (kept_front s) _ (λ x e. map-has P _ (entries_from n (drop x.size s)) (λ c r.
     more-again n s x (front-again s x b e) c (has (EntriesOf n (drop x.size s)) _ c (all-again n (drop x.size s) (rest-bytes x.size s b)) r))))
 
 -- bytes that are read as entries are those entries' and zeros
-pub entries-again : (n : ℕ) (s : List ℕ) (b : Book) → Bytes s → entries_from n s ≡ some b → EntriesOf n s b
+pub entries-again : (n : ℕ) (s : List ℕ) (b : Book) → Bytes s → entries_from n s ≡ Some b → EntriesOf n s b
 entries-again n s b w h = has (EntriesOf n s) (entries_from n s) b (all-again n s w) h
 
 -- ---- a book
@@ -317,13 +317,13 @@ pub record BookOf (s : List ℕ) (z : Opened) : Type 0 where
   pub bytes : s ≡ book_bytes z.bytes (length s) z.book
   pub front : z.bytes ≡ take 47 s
   pub whole : z.length ≡ length s
-  pub reads : read_settings z.bytes ≡ some z.settings
+  pub reads : read_settings z.bytes ≡ Some z.settings
   pub short : length s ≤ 16777216
   pub shape : Shape z.book
   pub room : 47 + used z.book ≤ length s
 
 module _ (s : List ℕ) (w : Bytes s) (h : length s ≤ 16777216) where
-  opened-again : (c : Settings) (b : Book) → read_settings (take 47 s) ≡ some c → EntriesOf 4096 (drop 47 s) b → is_twice b ≡ false →
+  opened-again : (c : Settings) (b : Book) → read_settings (take 47 s) ≡ Some c → EntriesOf 4096 (drop 47 s) b → is_twice b ≡ false →
       BookOf s (record { bytes = take 47 s; settings = c; length = length s; book = b })
   unfolding book_bytes
   opened-again c b r e o =
@@ -339,13 +339,13 @@ module _ (s : List ℕ) (w : Bytes s) (h : length s ≤ 16777216) where
         room = omega (arith, e.room);
       }
 
-  once-again : (c : Settings) (b : Book) → read_settings (take 47 s) ≡ some c → EntriesOf 4096 (drop 47 s) b → (t : Bool) → is_twice b ≡ t →
-      IfSome (BookOf s) (pick t none (some (record { bytes = take 47 s; settings = c; length = length s; book = b })))
+  once-again : (c : Settings) (b : Book) → read_settings (take 47 s) ≡ Some c → EntriesOf 4096 (drop 47 s) b → (t : Bool) → is_twice b ≡ t →
+      IfSome (BookOf s) (pick t None (Some (record { bytes = take 47 s; settings = c; length = length s; book = b })))
   once-again c b r e true o = tt
   once-again c b r e false o = opened-again c b r e o
 
 -- bytes that are read as a book are that book's
-pub book-again : (s : List ℕ) (z : Opened) → Bytes s → read_book s ≡ some z → BookOf s z
+pub book-again : (s : List ℕ) (z : Opened) → Bytes s → read_book s ≡ Some z → BookOf s z
 unfolding read_book
 book-again s z w h =
     let p = picked (leb (length s) 16777216) _ z h in

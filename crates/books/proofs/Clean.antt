@@ -1,10 +1,10 @@
 -- A point is Valid only if each bad one that it depends on is marked at that moment, and TransInvalid only by one that is not.
+use Rattle.std.specs.Prelude.{Option, None, Some}
 use Prim.Native.Nat.{◌≤◌, ◌<◌}
 use native.Mathlib.Omega.{arith}
 use mathlib.Core.Path.{◌≡◌, refl, sym, ap, ◌∙◌, subst}
 use mathlib.Core.Logic.{◌↔◌}
 use mathlib.Core.Bool.{Bool, true, false, ◌||◌}
-use mathlib.Core.Option.{Option, none, some}
 use mathlib.Core.List.{List, Memᴰ}
 use lib.Dec.{T, eqb}
 use borrow.Author.Tests.{ne_eqb}
@@ -57,15 +57,15 @@ module _ (c : Settings) (p : PointInfo) (b : Book) (v : Verdict) where
   GivenBy x = answer_with c 3 p (marked_by c p b x) x ≡ Given v
 
   from-lists : (e : Option VerifyError) (g : Bool) (w : WaveChecked) → IsOfLists g v → GivenBy (before_with e g w) → (required : Bool) × (before_with e g w ≡ needed required)
-  from-lists (some (case-error.Fail u)) g w l h = let f : v ≡ verdict.Fail u = cc in absurd (subst (IsOfLists g) f l)
-  from-lists (some (case-error.IllFormed r)) g w l h = let f : v ≡ verdict.IllFormed r = cc in absurd (subst (IsOfLists g) f l)
-  from-lists none true w l h =
+  from-lists (Some (case-error.Fail u)) g w l h = let f : v ≡ verdict.Fail u = cc in absurd (subst (IsOfLists g) f l)
+  from-lists (Some (case-error.IllFormed r)) g w l h = let f : v ≡ verdict.IllFormed r = cc in absurd (subst (IsOfLists g) f l)
+  from-lists None true w l h =
       let f : v ≡ verdict.Valid = cc in
       let n : true ≡ false = subst (IsOfLists true) f l in
       impossible (cc)
-  from-lists none false case-wave.Horizon l h = impossible (cc)
-  from-lists none false (case-wave.IllFormed r) l h = let f : v ≡ verdict.IllFormed r = cc in absurd (subst (IsOfLists false) f l)
-  from-lists none false (case-wave.Sound required) l h = (required, refl)
+  from-lists None false case-wave.Horizon l h = impossible (cc)
+  from-lists None false (case-wave.IllFormed r) l h = let f : v ≡ verdict.IllFormed r = cc in absurd (subst (IsOfLists false) f l)
+  from-lists None false (case-wave.Sound required) l h = (required, refl)
 
   over-given : (required : Bool) (es : List Entry) (ts : List IndirectEntry) → answer_over c required 3 p es ts ≡ Given v → validate c required 3 p es ts ≡ v
   over-given required es ts =
@@ -120,11 +120,11 @@ module _ (z : Opened) (o : Offer) (v : Verdict) where
             ∙ (ap (λ (x : Before). covers_with i.settings i.point z.book x j) n.1 ∙ ap (λ (c : Settings). covers c z.book (prev_id i.point) j) a.settings);
       }
 
-  listed : (p : PointInfo) → read_point o.bytes ≡ some p → (offer z o).answer ≡ Given v → IsOfLists (eqb p.id.round z.settings.genesis_round) v →
+  listed : (p : PointInfo) → read_point o.bytes ≡ Some p → (offer z o).answer ≡ Given v → IsOfLists (eqb p.id.round z.settings.genesis_round) v →
       Listed z o v p
   listed p read h l =
       let w = judged h in
-      let r : read_point o.bytes ≡ some w.0.point = (accepted z o w.0 w.1).read in
+      let r : read_point o.bytes ≡ Some w.0.point = (accepted z o w.0 w.1).read in
       let e : w.0.point ≡ p = cc in
       subst (Listed z o v) e (listed-input w.0 w.1 w.2 (rw e l))
 
@@ -138,17 +138,17 @@ module _ (plain : Run Opened) (o : Offer) (h : Sound plain.last)
   abbrev is_marked : PointInfo → PointId → Kept → Bool
   is_marked p i k = k.certified || covers plain.last.settings book (prev_id p) i
 
-  ever : (v : Verdict) (p : PointInfo) → Listed plain.last o v p → (i : PointId) (k : Kept) → find_kept book i ≡ some k →
+  ever : (v : Verdict) (p : PointInfo) → Listed plain.last o v p → (i : PointId) (k : Kept) → find_kept book i ≡ Some k →
       (is_marked p i k ≡ true) ↔ EverMarked (with_next plain o) i
   ever v p w i k f =
       subst (λ (x : Bool). ((k.certified || x) ≡ true) ↔ EverMarked (with_next plain o) i) (w.marks i) (next-ever plain o h.settings h.shape marks i k f)
 
-  pub next-clean : (p : PointInfo) → read_point o.bytes ≡ some p → (offer plain.last o).answer ≡ Given verdict.Valid → plain.last.settings.genesis_round < p.id.round →
+  pub next-clean : (p : PointInfo) → read_point o.bytes ≡ Some p → (offer plain.last o).answer ≡ Given verdict.Valid → plain.last.settings.genesis_round < p.id.round →
       (k : Kept) → Memᴰ k book → (t : Through) → DependsOn p k.point.id t → T (is_bad plain.last.settings p.id.round k.status) →
       EverMarked (with_next plain o) k.point.id
   next-clean p read given above k m t depends bad =
       let i : PointId = k.point.id in
-      let f : find_kept book i ≡ some k = once-found book h.shape.once k m in
+      let f : find_kept book i ≡ Some k = once-found book h.shape.once k m in
       let c : Settings = plain.last.settings in
       let w : Listed plain.last o verdict.Valid p =
       listed plain.last o verdict.Valid p read given (ne_eqb p.id.round c.genesis_round (λ e. omega arith)) in
@@ -157,7 +157,7 @@ module _ (plain : Run Opened) (o : Offer) (h : Sound plain.last)
       (ever verdict.Valid p w i k f).0
       (bad-certified c p.id.round _ t k.point k.status bad (sym (kept_record c book (covers c book (prev_id p)) p i t k f) ∙ r))
 
-  pub next-caught : (p : PointInfo) → read_point o.bytes ≡ some p → (d : InvalidDependency) → (offer plain.last o).answer ≡ Given (verdict.TransInvalid d) →
+  pub next-caught : (p : PointInfo) → read_point o.bytes ≡ Some p → (d : InvalidDependency) → (offer plain.last o).answer ≡ Given (verdict.TransInvalid d) →
       Caught plain.last.settings book (with_next plain o) p d
   next-caught p read d given =
       let c : Settings = plain.last.settings in

@@ -1,16 +1,16 @@
 -- The lists that a book builds for a point never give the numbers 7, 8 and 9: no entry lies outside the domain, each has its place
 -- and stands once, none lacks, and the previous point is certified.
+use Rattle.std.specs.Prelude.{Option, None, Some, is_some}
 use Prim.Native.Nat.{ℕ, zero, ◌-◌, ◌≤◌, ◌<◌}
 use native.Mathlib.Omega.{arith}
 use mathlib.Core.Path.{◌≡◌, refl, ap, sym, ◌∙◌, subst}
 use mathlib.Core.Logic.{◌⊎◌, inl, inr}
 use mathlib.Core.Bool.{Bool, true, false, not, ◌&&◌, ◌||◌, not-and_self}
-use mathlib.Core.Option.{Option, none, some}
 use mathlib.Core.List.Memᴰ
 use mathlib.Core.List.{List, [], ◌∷◌, ◌++◌, Memᴰ}
 use lib.Dec.{eqb}
 use borrow.Author.Tests.{eqb-true, eq-eqb, le-ltb}
-use Rattle.base.specs.Base.{pick, is_some}
+use Rattle.base.specs.Base.{pick}
 use Rattle.base.proofs.Bool.{and_left, and_right, clash, and_both, last-false, or_first, or_second, or_none}
 use Rattle.map.specs.Rows.{Pair, rising, peers, get}
 use Rattle.map.proofs.Pairs.{rising_tail, rising-below, get-there}
@@ -54,16 +54,16 @@ unfolding lookup kept_entry
 lookup-id b p i = go (find_kept b i) refl
   where
     go : (o : Option Kept) → find_kept b i ≡ o → entry_id (entry_with b p i o).state ≡ i
-    go none h = refl
-    go (some k) h = dag_id k.point k.status ∙ find-id b i k h
+    go None h = refl
+    go (Some k) h = dag_id k.point k.status ∙ find-id b i k h
 
 lookup_then : (b : Book) (p : PointInfo) (i : PointId) (l : List PointId) → id_then (lookup b p i).state l ≡ i ∷ l
 unfolding lookup
 lookup_then b p i l = go (find_kept b i) refl
   where
     go : (o : Option Kept) → find_kept b i ≡ o → id_then (entry_with b p i o).state l ≡ i ∷ l
-    go none h = refl
-    go (some k) h = kept_then b k l ∙ ap (λ (j : PointId). j ∷ l) (find-id b i k h)
+    go None h = refl
+    go (Some k) h = kept_then b k l ∙ ap (λ (j : PointId). j ∷ l) (find-id b i k h)
 
 then_append : (t : Bool) (i : PointId) (l m : List PointId) → pick t (l ++ m) (i ∷ l ++ m) ≡ pick t l (i ∷ l) ++ m
 then_append true i l m = refl
@@ -282,7 +282,7 @@ own_distinct b p d = go (is_some (prev_digest p))
     go false = versions_distinct (p.id.round - 1) p.id.author b d
 
 -- an id that is not found stands nowhere
-absent : (b : Book) (i : PointId) → find_kept b i ≡ none → Apart i (book_ids b)
+absent : (b : Book) (i : PointId) → find_kept b i ≡ None → Apart i (book_ids b)
 unfolding book_ids
 absent [] i h j m e = Memᴰ.not-nil m
 absent (k ∷ b) i h j m e = let p = absent-first k b i h in go p.0 (λ n. absent b i p.1 j n e) (Memᴰ.cases_cons m)
@@ -380,8 +380,8 @@ unfolding lookup
 lookup-target b p to t = go (find_kept b to) refl
   where
     go : (o : Option Kept) → find_kept b to ≡ o → is_target_of (Indirect to t) (entry_with b p to o).state ≡ true
-    go none h = same_refl to
-    go (some k) h =
+    go None h = same_refl to
+    go (Some k) h =
         unfold kept_entry in
         or_second (is_dropped (dag_point k.point k.status)) _ (eq_same (entry_id (dag_point k.point k.status)) to (dag_id k.point k.status ∙ find-id b to k h))
 
@@ -433,14 +433,14 @@ entries-append [] b = refl
 entries-append (x ∷ a) b = ap (λ (l : List Entry). x.entry ∷ l) (entries-append a b)
 
 module _ (P : Entry → Type 0) (b : Book) (p : PointInfo)
-    (lost : (i : PointId) → P (entry_with b p i none)) (kept : (k : Kept) → Memᴰ k b → P (kept_entry b k)) where
+    (lost : (i : PointId) → P (entry_with b p i None)) (kept : (k : Kept) → Memᴰ k b → P (kept_entry b k)) where
   each_lookup : (i : PointId) → P (lookup b p i)
   unfolding lookup
   each_lookup i = go (find_kept b i) refl
     where
       go : (o : Option Kept) → find_kept b i ≡ o → P (entry_with b p i o)
-      go none h = lost i
-      go (some k) h = kept k (find-member b i k h)
+      go None h = lost i
+      go (Some k) h = kept k (find-member b i k h)
 
   each_lookups : (round : ℕ) (l : List Pair) → All P (lookups b p round l)
   unfolding lookups
@@ -519,7 +519,7 @@ module _ (b : Book) (p : PointInfo) where
       (none-uncovers (prev_id p) (direct_list b p) (each_direct (λ e. uncovers (prev_id p) e ≡ false) b p lost kept))
       (none-uncovers (prev_id p) (entries_in (indirect_list b p)) (each_indirect (λ e. uncovers (prev_id p) e ≡ false) b p lost kept))
     where
-      lost : (i : PointId) → uncovers (prev_id p) (entry_with b p i none) ≡ false
+      lost : (i : PointId) → uncovers (prev_id p) (entry_with b p i None) ≡ false
       lost i = unfold uncovers in not-and_self (is_id (prev_id p) i)
 
       kept : (k : Kept) → Memᴰ k b → uncovers (prev_id p) (kept_entry b k) ≡ false

@@ -1,10 +1,10 @@
 -- What it says of a point's dependencies that no check gave a reason: each is kept, not ill-formed, and passed every rule.
+use Rattle.std.specs.Prelude.{Option, None, Some}
 use Prim.Native.Nat.{ℕ, ◌-◌, ◌≤◌}
 use native.Mathlib.Omega.{arith}
 use mathlib.Core.Path.{◌≡◌, refl, sym, ap, ◌∙◌, subst}
 use mathlib.Core.Logic.{◌⊎◌, inl, inr}
 use mathlib.Core.Bool.{Bool, true, false, not, ◌&&◌}
-use mathlib.Core.Option.{Option, none, some}
 use mathlib.Core.List.Memᴰ
 use mathlib.Core.List.{List, [], ◌∷◌, Memᴰ}
 use lib.Dec.{eqb}
@@ -63,7 +63,7 @@ module _ (p : PointInfo) (q : Pair) where
   unfolding taken point_view
   includes-taken r m = go (eqb q.peer p.id.author) refl
     where
-      own : p.id.author ≡ q.peer → prev_digest p ≡ some q.digest
+      own : p.id.author ≡ q.peer → prev_digest p ≡ Some q.digest
       own e = unfold prev_digest in (ap (get p.includes) e ∙ member-get p.includes q r m)
 
       go : (t : Bool) → eqb q.peer p.id.author ≡ t → IsTaken (point_view p) (pair_id (p.id.round - 1) q)
@@ -78,7 +78,7 @@ module _ (p : PointInfo) (q : Pair) where
 
 record Clean (c : Settings) (b : Book) (p : PointInfo) (required : Bool) (i : PointId) : Type 0 where
   pub entry : Kept
-  pub kept : find_kept b i ≡ some entry
+  pub kept : find_kept b i ≡ Some entry
   pub formed : IsFormed entry.status
   pub is_prev_point : Bool
   pub rows : AllNone (point_rows c required is_prev_point (point_view p) (dep_view entry.point))
@@ -88,15 +88,15 @@ module _ (c : Settings) (b : Book) (p : PointInfo) (required : Bool) where
   unfolding lookup kept_entry
   clean-state is_prev_point i h = go (find_kept b i) refl h
     where
-      of : (k : Kept) → find_kept b i ≡ some k → (s : Status) → k.status ≡ s → RowsNone c required is_prev_point (point_view p) (dag_point k.point s) → Clean c b p required i
+      of : (k : Kept) → find_kept b i ≡ Some k → (s : Status) → k.status ≡ s → RowsNone c required is_prev_point (point_view p) (dag_point k.point s) → Clean c b p required i
       of k f Valid e r = record { entry = k; kept = f; formed = λ m q. impossible (cc); is_prev_point = is_prev_point; rows = by_position _ r }
       of k f (TransInvalid d) e r = record { entry = k; kept = f; formed = λ m q. impossible (cc); is_prev_point = is_prev_point; rows = by_position _ r }
       of k f (Invalid n) e r = record { entry = k; kept = f; formed = λ m q. impossible (cc); is_prev_point = is_prev_point; rows = by_position _ r }
       of k f (IllFormed n) e r = absurd r
 
       go : (o : Option Kept) → find_kept b i ≡ o → RowsNone c required is_prev_point (point_view p) (entry_with b p i o).state → Clean c b p required i
-      go none f r = absurd r
-      go (some k) f r = of k f k.status refl r
+      go None f r = absurd r
+      go (Some k) f r = of k f k.status refl r
 
   taken-rows : (is_prev_point : Bool) (e : Entry) → EntryRowsNone c required (point_view p) (taken_as is_prev_point) e → RowsNone c required is_prev_point (point_view p) e.state
   taken-rows true e h = h
@@ -196,7 +196,7 @@ module _ (c : Settings) (b : Book) (p : PointInfo) (required : Bool) (rise : ris
       clean c b p required (pair_id (p.id.round - 2) q) (witness-taken p q second) (passed _ (witness-listed b p q m)).1
 
   -- what a link goes through is a dependency
-  through-clean : (t : Through) (d : ℕ) → digest_safe p t ≡ some d →
+  through-clean : (t : Through) (d : ℕ) → digest_safe p t ≡ Some d →
       Clean c b p required (record { round = through_round t p.id.round; digest = d; author = through_peer t })
   unfolding digest_safe
   through-clean (Includes x) d h = includes-clean (record { peer = x; digest = d }) (get-member p.includes x d h)
@@ -208,6 +208,6 @@ module _ (c : Settings) (b : Book) (p : PointInfo) (required : Bool) (rise : ris
   pub witness-held : (q : Pair) → Memᴰ q p.witness → HeldById b p (pair_id (p.id.round - 2) q)
   witness-held q m = held c b p required (pair_id (p.id.round - 2) q) (witness-clean q m)
 
-  pub source-linked : (g : AnchorStageRole) (d : ℕ) → digest_safe p (through (anchor_link g p)) ≡ some d → Linked b p g
+  pub source-linked : (g : AnchorStageRole) (d : ℕ) → digest_safe p (through (anchor_link g p)) ≡ Some d → Linked b p g
   unfolding source
   source-linked g d h = linked c b p required _ (through-clean (through (anchor_link g p)) d h) g (rw h)

@@ -1,15 +1,15 @@
 -- What a point depends on, through its maps and links, stands in its lists, and what their entries record is what that records.
+use Rattle.std.specs.Prelude.{Option, None, Some, option_map, is_some}
 use Prim.Native.Nat.{ℕ, ◌+◌, ◌-◌, ◌≤◌}
 use native.Mathlib.Omega.{arith}
 use mathlib.Core.Path.{◌≡◌, refl, sym, ap, ◌∙◌, subst}
 use mathlib.Core.Logic.{◌⊎◌, inl, inr}
 use mathlib.Core.Bool.{Bool, true, false, ◌||◌, or-false}
-use mathlib.Core.Option.{Option, none, some, map}
 use mathlib.Core.List.Memᴰ
 use mathlib.Core.List.{List, [], ◌∷◌, ◌++◌, Memᴰ}
 use lib.Dec.{T, leb, ltb, ltb→lt, lt→ltb}
 use borrow.Author.Tests.{leb-false, lt-leb, eq-eqb, ne_eqb}
-use Rattle.base.specs.Base.{pick, is_some}
+use Rattle.base.specs.Base.{pick}
 use Rattle.base.proofs.Bool.{or_left, or_right}
 use Rattle.base.proofs.Option.{none-some, some-none, unfound}
 use Rattle.base.proofs.Impossible.{impossible}
@@ -105,9 +105,9 @@ module _ (b : Book) (p : PointInfo) where
 
   -- or of a version of the author's point, where the point has no previous one
   abbrev IsVersion : Entry → Type 0
-  IsVersion e = (k : Kept) × (is_of (p.id.round - 1) p.id.author k ≡ true) × (prev_digest p ≡ none) × (e ≡ kept_entry b k)
+  IsVersion e = (k : Kept) × (is_of (p.id.round - 1) p.id.author k ≡ true) × (prev_digest p ≡ None) × (e ≡ kept_entry b k)
 
-  versions-cases : (l : List Kept) (e : Entry) → prev_digest p ≡ none → Memᴰ e (versions b (p.id.round - 1) p.id.author l) → IsVersion e
+  versions-cases : (l : List Kept) (e : Entry) → prev_digest p ≡ None → Memᴰ e (versions b (p.id.round - 1) p.id.author l) → IsVersion e
   unfolding versions
   versions-cases [] e h m = absurd (Memᴰ.not-nil m)
   versions-cases (k ∷ l) e h m = go (is_of (p.id.round - 1) p.id.author k) refl (versions-cases l e h) m
@@ -176,8 +176,8 @@ module _ (c : Settings) (b : Book) (p : PointInfo) where
     witness_record q = looked_record _ ∙ ap (record_at (pair_id (p.id.round - 2) q)) (witness-through p.id.round q second)
 
     -- where no entry records, nothing that the point depends on does
-    pub depends-none : ((e : Entry) → Memᴰ e (direct_list b p) → IsTaken (point_view p) (entry_id e.state) → taken_record c p.id.round e ≡ none) →
-        NoneIn (target_record c p) (indirect_list b p) → (i : PointId) (t : Through) → DependsOn p i t → record_at i t ≡ none
+    pub depends-none : ((e : Entry) → Memᴰ e (direct_list b p) → IsTaken (point_view p) (entry_id e.state) → taken_record c p.id.round e ≡ None) →
+        NoneIn (target_record c p) (indirect_list b p) → (i : PointId) (t : Through) → DependsOn p i t → record_at i t ≡ None
     depends-none direct indirect i t (inl (inl (q, (m, (e, f))))) =
         rw (e, f) (sym (includes_record q) ∙ direct _ (includes-listed b p q m) (looked_taken _ (includes-taken p q rise m)))
     depends-none direct indirect i t (inl (inr (q, (m, (e, f))))) =
@@ -186,7 +186,7 @@ module _ (c : Settings) (b : Book) (p : PointInfo) where
 
     -- what an entry records is what something that the point depends on does
     abbrev Cause : InvalidDependency → Type 0
-    Cause d = (i : PointId) × (t : Through) × DependsOn p i t × (record_at i t ≡ some d)
+    Cause d = (i : PointId) × (t : Through) × DependsOn p i t × (record_at i t ≡ Some d)
 
     pub cause : (d : InvalidDependency) → IsRoot c p (direct_list b p) (indirect_list b p) d → Cause d
     cause d (inl (e, m, w, h)) = go (direct-cases b p e m)
@@ -205,11 +205,11 @@ module _ (c : Settings) (b : Book) (p : PointInfo) where
 -- ---- what a kept one records: it is bad, and has no mark
 
 -- what a choice between none and one gives
-unrecorded : (t : Bool) (d : InvalidDependency) → pick t none (some d) ≡ none → t ≡ true
+unrecorded : (t : Bool) (d : InvalidDependency) → pick t None (Some d) ≡ None → t ≡ true
 unrecorded true d h = refl
 unrecorded false d h = some-none h
 
-chosen : (t : Bool) (e d : InvalidDependency) → pick t none (some e) ≡ some d → (t ≡ false) × (e ≡ d)
+chosen : (t : Bool) (e d : InvalidDependency) → pick t None (Some e) ≡ Some d → (t ≡ false) × (e ≡ d)
 chosen true e d h = none-some h
 chosen false e d h = (refl, cc)
 
@@ -224,7 +224,7 @@ module _ (c : Settings) (round : ℕ) (certified : Bool) (t : Through) where
   abbrev is_past : InvalidDependency → Bool
   is_past e = leb (e.to.round + c.commit_history_rounds) (round - 1)
 
-  pub bad-certified : (q : PointInfo) (s : Status) → T (is_bad c round s) → record_of c round certified t (dag_point q s) ≡ none → certified ≡ true
+  pub bad-certified : (q : PointInfo) (s : Status) → T (is_bad c round s) → record_of c round certified t (dag_point q s) ≡ None → certified ≡ true
   unfolding record_of
   bad-certified q Valid bad h = absurd bad
   bad-certified q (TransInvalid e) bad h =
@@ -239,11 +239,11 @@ module _ (c : Settings) (round : ℕ) (certified : Bool) (t : Through) where
     pub through : d.through ≡ t
     pub root : IsRootOf k d k.status
 
-  pub recorded-by : (k : Kept) (d : InvalidDependency) → record_of c round certified t (dag_point k.point k.status) ≡ some d → RecordedBy k d
+  pub recorded-by : (k : Kept) (d : InvalidDependency) → record_of c round certified t (dag_point k.point k.status) ≡ Some d → RecordedBy k d
   unfolding record_of
   recorded-by k d h = go k.status refl h
     where
-      go : (s : Status) → k.status ≡ s → record_of c round certified t (dag_point k.point s) ≡ some d → RecordedBy k d
+      go : (s : Status) → k.status ≡ s → record_of c round certified t (dag_point k.point s) ≡ Some d → RecordedBy k d
       go Valid e f = none-some f
       go (TransInvalid x) e f =
           let w = chosen (certified || is_past x) (record { to = x.to; reason = x.reason; through = t }) d f in
@@ -269,23 +269,23 @@ module _ (c : Settings) (b : Book) (covers : PointId → Bool) (p : PointInfo) (
   abbrev record_with : Option Kept → Option InvalidDependency
   record_with o = record_of c p.id.round (entry_with (mark covers b) p i o).certified t (entry_with (mark covers b) p i o).state
 
-  looked_up : record_at c (mark covers b) p i t ≡ record_with (map (mark_one covers) (find_kept b i))
+  looked_up : record_at c (mark covers b) p i t ≡ record_with (option_map (mark_one covers) (find_kept b i))
   unfolding lookup
   looked_up = ap record_with (find-marked covers b i)
 
-  pub kept_record : (k : Kept) → find_kept b i ≡ some k →
+  pub kept_record : (k : Kept) → find_kept b i ≡ Some k →
       record_at c (mark covers b) p i t ≡ record_of c p.id.round (k.certified || covers i) t (dag_point k.point k.status)
   unfolding kept_entry mark_one
   kept_record k f =
       looked_up
-      ∙ (ap (λ (o : Option Kept). record_with (map (mark_one covers) o)) f
+      ∙ (ap (λ (o : Option Kept). record_with (option_map (mark_one covers) o)) f
       ∙ ap (λ (j : PointId). record_of c p.id.round (k.certified || covers j) t (dag_point k.point k.status)) (find-id b i k f))
 
   -- one that is not kept records nothing
-  pub recorded-kept : (d : InvalidDependency) → record_at c (mark covers b) p i t ≡ some d → (k : Kept) × (find_kept b i ≡ some k)
+  pub recorded-kept : (d : InvalidDependency) → record_at c (mark covers b) p i t ≡ Some d → (k : Kept) × (find_kept b i ≡ Some k)
   unfolding record_of
   recorded-kept d h = go (find_kept b i) refl
     where
-      go : (o : Option Kept) → find_kept b i ≡ o → (k : Kept) × (find_kept b i ≡ some k)
-      go none f = none-some (sym (looked_up ∙ ap (λ (o : Option Kept). record_with (map (mark_one covers) o)) f) ∙ h)
-      go (some k) f = (k, f)
+      go : (o : Option Kept) → find_kept b i ≡ o → (k : Kept) × (find_kept b i ≡ Some k)
+      go None f = none-some (sym (looked_up ∙ ap (λ (o : Option Kept). record_with (option_map (mark_one covers) o)) f) ∙ h)
+      go (Some k) f = (k, f)

@@ -1,9 +1,9 @@
 -- The example: the checker computes it.
+use Rattle.std.specs.Prelude.{Some}
 use Prim.Native.Nat.{ℕ, zero, suc}
 use mathlib.Core.Path.{◌≡◌, refl, ap, ◌∙◌}
 use mathlib.Core.Logic.{inl, inr}
 use mathlib.Core.Bool.{Bool, true, ◌&&◌}
-use mathlib.Core.Option.{some}
 use mathlib.Core.List.{List, [], ◌∷◌}
 use lib.ListN.{length}
 use lib.Dec.{ltb, lit<, lit≤}
@@ -50,7 +50,7 @@ below_all (o ∷ l) h =
 
 -- ---- the offers
 
-reads : read_settings (settings_bytes conf) ≡ some conf
+reads : read_settings (settings_bytes conf) ≡ Some conf
 unfolding read_settings settings_bytes little_at big_at
 reads = refl
 

@@ -1,10 +1,10 @@
 -- From what holds of each entry's own links to the end of a link that is followed through the book.
+use Rattle.std.specs.Prelude.{Some}
 use Prim.Native.Nat.{ℕ, zero, suc, ◌+◌, ◌-◌, ◌≤◌, ◌<◌}
 use native.Mathlib.Omega.{arith}
 use mathlib.Core.Path.{◌≡◌, refl, sym, ap, ◌∙◌, subst}
 use mathlib.Core.Logic.{◌⊎◌, inl, inr}
 use mathlib.Core.Bool.{Bool, true, false, not}
-use mathlib.Core.Option.{some}
 use mathlib.Core.List.{Memᴰ}
 use lib.Dec.{T}
 use Rattle.base.proofs.Impossible.{impossible}
@@ -28,14 +28,14 @@ Inherited Trigger p q = Unit
 -- Held, with the entry found by its id
 pub record HeldById (b : Book) (p : PointInfo) (i : PointId) : Type 0 where
   pub entry : Kept
-  pub kept : find_kept b i ≡ some entry
+  pub kept : find_kept b i ≡ Some entry
   pub formed : IsFormed entry.status
   pub topped : (g : AnchorStageRole) → (top g entry.point).round ≤ (target g p).round
 
 -- the source of a link is kept, and its top is the link's target
 pub record Linked (b : Book) (p : PointInfo) (g : AnchorStageRole) : Type 0 where
   pub entry : Kept
-  pub kept : find_kept b (source g p) ≡ some entry
+  pub kept : find_kept b (source g p) ≡ Some entry
   pub formed : IsFormed entry.status
   pub leads : top g entry.point ≡ target g p
   pub inherited : Inherited g p entry.point
@@ -96,7 +96,7 @@ abbrev pub Ends : Book → AnchorStageRole → PointId → ℕ → PointInfo →
 Ends b g to n p = (e : Kept) × (Way b g to n p e × (IsReached g to e ⊎ IsStopped g to e))
 
 -- one step ends a way, or a way goes on after it
-step : (b : Book) (g : AnchorStageRole) (to : PointId) (n : ℕ) (p : PointInfo) (k : Kept) → find_kept b (source g p) ≡ some k →
+step : (b : Book) (g : AnchorStageRole) (to : PointId) (n : ℕ) (p : PointInfo) (k : Kept) → find_kept b (source g p) ≡ Some k →
     (IsPassed g to k → Ends b g to n k.point) → IsReached g to k ⊎ (IsStopped g to k ⊎ IsPassed g to k) → Ends b g to (suc n) p
 step b g to n p k f next (inl r) = (k, ((k, (f, inl refl)), inl r))
 step b g to n p k f next (inr (inl s)) = (k, ((k, (f, inl refl)), inr s))
@@ -140,7 +140,7 @@ module _ (c : Settings) (b : Book) (all : AllStand c b) where
       let x : Linked b p Proof = w.linked u a Proof in
       let k : Kept = h.0 in
       let m : Memᴰ k b = find-member b (source Proof p) k h.1.0 in
-      let f : some x.entry ≡ some k = sym x.kept ∙ h.1.0 in
+      let f : Some x.entry ≡ Some k = sym x.kept ∙ h.1.0 in
       let same : x.entry ≡ k = cc in
       let own : k.point.anchor_time ≡ p.anchor_time = subst (λ (y : Kept). y.point.anchor_time ≡ p.anchor_time) same (x.inherited r) in
       let formed : IsFormed k.status = subst (λ (y : Kept). IsFormed y.status) same x.formed in

@@ -1,9 +1,9 @@
 -- The statement on found books, put together from the law of each sentence.
+use Rattle.std.specs.Prelude.{Option}
 use Prim.Native.Nat.{ℕ}
 use mathlib.Core.Path.{◌≡◌, ap, sym, ◌∙◌, subst}
 use mathlib.Core.Logic.{◌↔◌}
 use mathlib.Core.Bool.{true}
-use mathlib.Core.Option.{Option}
 use mathlib.Core.List.{List, Memᴰ}
 use lib.ListN.{length}
 use Rattle.parts.specs.Bytes.{Bytes}

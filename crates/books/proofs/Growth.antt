@@ -1,9 +1,9 @@
 -- A book only grows: marks and new entries take no entry's point or status away.
+use Rattle.std.specs.Prelude.{Some}
 use Prim.Native.Nat.{◌-◌, ◌≤◌}
 use mathlib.Core.Path.{◌≡◌, refl, sym, ap, ◌∙◌, subst}
 use mathlib.Core.Logic.{◌⊎◌, inl, inr}
 use mathlib.Core.Bool.{Bool}
-use mathlib.Core.Option.{some}
 use mathlib.Core.List.Memᴰ
 use mathlib.Core.List.{◌++◌, map, Memᴰ}
 use Rattle.point.specs.Point.{PointId, PointInfo, source, target, top}
@@ -21,12 +21,12 @@ use Rattle.books.proofs.Following.{Inherited, HeldById, Linked, Stands, AllStand
 -- an entry of the same point and status
 record Still (b : Book) (i : PointId) (k : Kept) : Type 0 where
   pub entry : Kept
-  pub kept : find_kept b i ≡ some entry
+  pub kept : find_kept b i ≡ Some entry
   pub point : entry.point ≡ k.point
   pub status : entry.status ≡ k.status
 
 abbrev Grows : Book → Book → Type 0
-Grows b d = (i : PointId) (k : Kept) → find_kept b i ≡ some k → Still d i k
+Grows b d = (i : PointId) (k : Kept) → find_kept b i ≡ Some k → Still d i k
 
 grows-append : (b l : Book) → Grows b (b ++ l)
 grows-append b l i k h = record { entry = k; kept = find-front b l i k h; point = refl; status = refl }

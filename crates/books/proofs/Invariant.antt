@@ -1,9 +1,9 @@
 -- What is so of a slice and of the plain book after any list of offers since the opening.
+use Rattle.std.specs.Prelude.{Some}
 use Prim.Native.Nat.{ℕ, ◌+◌, ◌≤◌}
 use mathlib.Core.Path.{◌≡◌, refl, ap, sym, ◌∙◌, subst}
 use mathlib.Core.Logic.{◌↔◌}
 use mathlib.Core.Bool.{true}
-use mathlib.Core.Option.{some}
 use mathlib.Core.List.Memᴰ
 use mathlib.Core.List.{List, [], ◌∷◌, ◌++◌, map, map-append}
 use lib.ListN.{length}
@@ -31,7 +31,7 @@ use Rattle.books.proofs.Run.{more, run_more, by-offers}
 -- ---- of a book by itself
 
 pub record Sound (z : Opened) : Type 0 where
-  pub settings : read_settings z.bytes ≡ some z.settings
+  pub settings : read_settings z.bytes ≡ Some z.settings
   pub short : z.length ≤ longest_book
   pub shape : Shape z.book
   pub room : start_in z + used z.book ≤ z.length
@@ -44,7 +44,7 @@ offer-sound z o w h =
 
 module _ (z : Opened) (h : Sound z) where
   -- it is read back from its slice
-  pub sound-reads : read_book (laid_out z) ≡ some z
+  pub sound-reads : read_book (laid_out z) ≡ Some z
   unfolding laid_out
   sound-reads = book-reads z.bytes z.settings z.length z.book h.settings h.short h.shape h.room
 
@@ -92,7 +92,7 @@ module _ (start : Opened) (found : Run (List ℕ)) (plain : Run Opened) (h : Inv
 
 -- ---- since the opening
 
-module _ (settings slice : List ℕ) (c : Settings) (r : read_settings settings ≡ some c)
+module _ (settings slice : List ℕ) (c : Settings) (r : read_settings settings ≡ Some c)
     (least : entries_start ≤ length slice) (most : length slice ≤ longest_book) where
   abbrev first : Opened
   first = opened settings c (length slice)

@@ -1,11 +1,11 @@
 -- An offer past 11 and 12 gets what the public call `judge` gives, presence 3, over the list that the book's entries and marks give.
+use Rattle.std.specs.Prelude.{Option, None, Some, is_some}
 use Prim.Native.Nat.{ℕ}
 use mathlib.Core.Path.{◌≡◌, refl, ap, sym, ◌∙◌}
 use mathlib.Core.Logic.{◌↔◌}
 use mathlib.Core.Bool.{Bool, true, false, ◌||◌}
-use mathlib.Core.Option.{Option, none, some}
 use mathlib.Core.List.{List, Memᴰ}
-use Rattle.base.specs.Base.{pick, is_some}
+use Rattle.base.specs.Base.{pick}
 use Rattle.base.proofs.Impossible.{impossible}
 use Rattle.parts.specs.Bytes.{put_at, Bytes}
 use Rattle.point.specs.Point.{PointId, PointInfo, prev_id}
@@ -35,7 +35,7 @@ use Rattle.books.proofs.Invariant.{Sound}
 
 -- ---- the answer
 
-module _ (c : Settings) (bytes : List ℕ) (p : PointInfo) (b : Book) (marked : PointId → Bool) (h : Shape b) (by : Bytes bytes) (r : read_point bytes ≡ some p) where
+module _ (c : Settings) (bytes : List ℕ) (p : PointInfo) (b : Book) (marked : PointId → Bool) (h : Shape b) (by : Bytes bytes) (r : read_point bytes ≡ Some p) where
   over-list : (required : Bool) → ((k : Kept) → Memᴰ k b → marked k.point.id ≡ (k.certified || covers c b (prev_id p) k.point.id)) →
       answer_over c required 3 p (direct_list (mark (covers c b (prev_id p)) b) p) (indirect_list (mark (covers c b (prev_id p)) b) p)
       ≡ over_list c required 3 p (read_list (list_for b marked p))
@@ -66,9 +66,9 @@ room-refused z bytes (admitted i) n h again full = go (is_some (find_kept z.book
 -- ---- the peer buffer
 
 -- a number comes only of a point that passed verification
-passed : (v : Option VerifyError) (g : Bool) (w : WaveChecked) (n : ℕ) → before_with v g w ≡ answered (Number n) → v ≡ none
-passed none g w n h = refl
-passed (some e) g w n h = impossible (cc)
+passed : (v : Option VerifyError) (g : Bool) (w : WaveChecked) (n : ℕ) → before_with v g w ≡ answered (Number n) → v ≡ None
+passed None g w n h = refl
+passed (Some e) g w n h = impossible (cc)
 
 -- then no peer is unknown
 unwritten : (i : Input) (leader n : ℕ) (buffer : List ℕ) → before_in i leader ≡ answered (Number n) → verify_buffer (admitted i) buffer ≡ buffer
@@ -90,7 +90,7 @@ module _ (z : Opened) (o : Offer) (marked : PointId → Bool) (h : Shape z.book)
   Judges p t x = (x.answer ≡ Number 11 → ⊥) → (x.answer ≡ Number 12 → ⊥) →
       (x.answer ≡ judge_with o.leader 3 (list_for z.book marked p) t) × (x.peers ≡ verify_buffer t o.peers)
 
-  offer-judged : (p : PointInfo) → read_point o.bytes ≡ some p → Judges p (input_tested z.settings o) (offer z o)
+  offer-judged : (p : PointInfo) → read_point o.bytes ≡ Some p → Judges p (input_tested z.settings o) (offer z o)
   offer-judged p r = offer-cases z o (Judges p (input_tested z.settings o)) refusal number given
     where
       refusal : (n : ℕ) → offer_tested z o ≡ refused n → Judges p (input_tested z.settings o) (numbered z o n)
@@ -115,7 +115,7 @@ module _ (z : Opened) (o : Offer) (marked : PointId → Bool) (h : Shape z.book)
 -- "demand 2's verdict, reason and unknown peers"
 pub next-judged : (plain : Run Opened) (o : Offer) → Bytes o.bytes → Sound plain.last →
     ((i : PointId) → (is_certified (find_kept plain.last.book i) ≡ true) ↔ EverMarked plain.moments i) →
-    (p : PointInfo) → read_point o.bytes ≡ some p → ((offer plain.last o).answer ≡ Number 11 → ⊥) → ((offer plain.last o).answer ≡ Number 12 → ⊥) →
+    (p : PointInfo) → read_point o.bytes ≡ Some p → ((offer plain.last o).answer ≡ Number 11 → ⊥) → ((offer plain.last o).answer ≡ Number 12 → ⊥) →
     (marked : PointId → Bool) → Tells marked plain.last.book (with_next plain o) →
     Bytes (list_for plain.last.book marked p)
     × (((offer plain.last o).answer ≡ judge_with o.leader 3 (list_for plain.last.book marked p) (tested_as plain.last.bytes o))

@@ -1,9 +1,9 @@
 -- Every entry of a book that is built of judged points stands, whatever the marks; the book after an offer is built of them.
+use Rattle.std.specs.Prelude.{Option, None, Some}
 use Prim.Native.Nat.{ℕ, ◌≤◌}
 use native.Mathlib.Omega.{arith}
 use mathlib.Core.Path.{◌≡◌, refl, sym, ap, subst}
 use mathlib.Core.Bool.{Bool, true, false}
-use mathlib.Core.Option.{Option, none, some}
 use mathlib.Core.List.Memᴰ
 use mathlib.Core.List.{List, [], ◌∷◌, ◌++◌, Memᴰ}
 use lib.Dec.{eqb}
@@ -49,7 +49,7 @@ module _ (c : Settings) (b : Book) (p : PointInfo) where
   ill-formed-stands : (n : ℕ) → Stands c b p (IllFormed n)
   ill-formed-stands n = record { floor = λ f. absurd (f n refl); genesis = λ f. absurd (f n refl); includes = λ u. absurd u; witness = λ u. absurd u; linked = λ u. absurd u }
 
-  module _ (s : Schedule) (pass : verify c s p ≡ none) where
+  module _ (s : Schedule) (pass : verify c s p ≡ None) where
     invalid-stands : (n : ℕ) → Stands c b p (Invalid n)
     invalid-stands n =
         record {
@@ -102,7 +102,7 @@ module _ (c : Settings) (s : Schedule) (b : Book) (bytes : List ℕ) (p : PointI
   each_error (case-error.Fail u) = each_none
   each_error (case-error.IllFormed r) = each_one (IllFormed (ill_formed_number r)) (ill-formed-stands c b p (ill_formed_number r))
 
-  module _ (pass : verify c s p ≡ none) (required : Bool) where
+  module _ (pass : verify c s p ≡ None) (required : Bool) where
     each_result : (ts : List IndirectEntry) (v : verdict.Verdict) → validate c required 3 p (direct_list b p) ts ≡ v → Each c b (left_by bytes p v)
     each_result ts (verdict.Fail u) h = each_none
     each_result ts (verdict.IllFormed r) h = each_one (IllFormed (ill_formed_number r)) (ill-formed-stands c b p (ill_formed_number r))
@@ -120,11 +120,11 @@ module _ (c : Settings) (s : Schedule) (b : Book) (bytes : List ℕ) (p : PointI
 
   each_before : (o : Option VerifyError) → verify c s p ≡ o → (g : Bool) → eqb p.id.round c.genesis_round ≡ g → (w : WaveChecked) →
       Each c b (left_from bytes p (answer_with c 3 p b (before_with o g w)))
-  each_before (some e) v g t w = each_error e
-  each_before none v true t w = each_one Valid (genesis-stands c b p s v (eqb-true _ _ t) Valid)
-  each_before none v false t case-wave.Horizon = each_none
-  each_before none v false t (case-wave.IllFormed r) = each_one (IllFormed (ill_formed_number r)) (ill-formed-stands c b p (ill_formed_number r))
-  each_before none v false t (case-wave.Sound required) = each_lists v required (indirect_list b p)
+  each_before (Some e) v g t w = each_error e
+  each_before None v true t w = each_one Valid (genesis-stands c b p s v (eqb-true _ _ t) Valid)
+  each_before None v false t case-wave.Horizon = each_none
+  each_before None v false t (case-wave.IllFormed r) = each_one (IllFormed (ill_formed_number r)) (ill-formed-stands c b p (ill_formed_number r))
+  each_before None v false t (case-wave.Sound required) = each_lists v required (indirect_list b p)
 
 -- ---- every entry of a book that is built of judged points stands, whatever the marks
 

@@ -1,15 +1,14 @@
 -- The entries of a book as the answers tell them: what one offer more leaves, and what an id and the rest of the slice are by them.
+use Rattle.std.specs.Prelude.{Some, is_some}
 use Prim.Native.Nat.{ℕ, suc, ◌+◌, ◌-◌}
 use native.Mathlib.Omega.{arith}
 use mathlib.Core.Path.{◌≡◌, refl, sym, ap, ◌∙◌}
 use mathlib.Core.Logic.{◌⊎◌, inl, inr}
 use mathlib.Core.Bool.{Bool, true}
-use mathlib.Core.Option.{some}
 use mathlib.Core.List.{List, [], ◌∷◌, ◌++◌, append-nil, append_assoc, map, Memᴰ}
 use lib.ListN.{length}
 use lib.Dec.{leb, ltb}
 use borrow.Author.Tests.{leb-true, le-leb, ltb-true, lt-ltb}
-use Rattle.base.specs.Base.{is_some}
 use Rattle.base.proofs.Bool.{or_first, or_second, or_cases}
 use Rattle.base.proofs.Option.{some_of}
 use Rattle.point.specs.Point.{PointId, PointInfo, prev_id}
@@ -115,7 +114,7 @@ module _ (b : Book) (h : Shape b) (i : PointId) where
   is_found (x, (m, (p, (r, e)))) =
       let y = left-member b x m in
       let k : Kept = y.0 in
-      let same : some k.point ≡ some p = sym (h.entries k y.1.0).read ∙ (ap read_point y.1.1 ∙ r) in
+      let same : Some k.point ≡ Some p = sym (h.entries k y.1.0).read ∙ (ap read_point y.1.1 ∙ r) in
       let point : k.point ≡ p = cc in
       ap is_some (ap (find_kept b) (sym (ap (λ (q : PointInfo). q.id) point ∙ e)) ∙ once-found b h.once k y.1.0)
 

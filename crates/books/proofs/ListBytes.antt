@@ -1,12 +1,12 @@
 -- The list that a book and its marks give consists of bytes.
+use Rattle.std.specs.Prelude.{Option, None, Some, is_some}
 use Prim.Native.Nat.{ℕ, zero, suc, ◌-◌, ◌/◌, ◌<◌}
 use native.Mathlib.Omega.{arith}
 use mathlib.Core.Path.{◌≡◌, refl}
 use mathlib.Core.Bool.{Bool, true, false}
-use mathlib.Core.Option.{Option, none, some}
 use mathlib.Core.List.{List, [], ◌∷◌, ◌++◌, Memᴰ}
 use lib.Dec.{ltb}
-use Rattle.base.specs.Base.{pick, is_some}
+use Rattle.base.specs.Base.{pick}
 use Rattle.parts.specs.Bytes.{little_bytes, big_bytes, Bytes}
 use Rattle.map.specs.Rows.{Pair}
 use Rattle.point.specs.Point.{PointId, AnchorLink, Direct, Indirect, PointInfo, prev_digest, prev_id, target}
@@ -94,8 +94,8 @@ module _ (b : Book) (marked : PointId → Bool) (p : PointInfo) (h : Shape b) wh
   found-bytes i = go (find_kept b i) refl
     where
       go : (o : Option Kept) → find_kept b i ≡ o → AllBytes (entry_for b marked p i o)
-      go none e = both (tag16 4 (is_id (prev_id p) i) false 0) (tag16-bytes 4 (is_id (prev_id p) i) false 0 (omega arith) (omega arith)) (tag17-bytes i)
-      go (some k) e = kept-bytes k (find-member b i k e)
+      go None e = both (tag16 4 (is_id (prev_id p) i) false 0) (tag16-bytes 4 (is_id (prev_id p) i) false 0 (omega arith) (omega arith)) (tag17-bytes i)
+      go (Some k) e = kept-bytes k (find-member b i k e)
 
   pairs-bytes : (round : ℕ) (l : List Pair) → AllBytes (of_pairs b marked p round l)
   unfolding of_pairs

@@ -1,14 +1,14 @@
 -- The list that a book and its marks give, as bytes, is read back as the entries that the book builds for a point.
+use Rattle.std.specs.Prelude.{Option, None, Some, option_map, is_some}
 use Prim.Native.Nat.{ℕ, suc, ◌+◌, ◌-◌, ◌^◌, ◌<◌}
 use native.Mathlib.Nat.{suc-add}
 use native.Mathlib.Omega.{arith}
 use mathlib.Core.Path.{◌≡◌, refl, sym, ◌∙◌}
 use mathlib.Core.Bool.{Bool, true, false, ◌&&◌, ◌||◌}
-use mathlib.Core.Option.{Option, none, some, map}
 use mathlib.Core.List.{List, [], ◌∷◌, ◌++◌, Memᴰ, append_assoc, append-nil}
 use lib.ListN.{length}
 use lib.Dec.{ltb}
-use Rattle.base.specs.Base.{pick, is_some}
+use Rattle.base.specs.Base.{pick}
 use Rattle.parts.specs.Bytes.{Bytes}
 use Rattle.map.specs.Rows.{Pair}
 use Rattle.point.specs.Point.{PointId, AnchorLink, Direct, Indirect, PointInfo, prev_digest, prev_id, source, target_of, target, same_id}
@@ -42,7 +42,7 @@ first-valid covers [] i = refl
 first-valid covers (k ∷ b) i = rw (valid_same k.status) (go (is_valid k.status && is_of i.round i.author k) (first-valid covers b i))
   where
     go : (t : Bool) → is_first_valid b i ≡ is_id (first_valid (mark covers b) i.round i.author) i →
-        pick t (same_id k.point.id i) (is_first_valid b i) ≡ is_id (pick t (some k.point.id) (first_valid (mark covers b) i.round i.author)) i
+        pick t (same_id k.point.id i) (is_first_valid b i) ≡ is_id (pick t (Some k.point.id) (first_valid (mark covers b) i.round i.author)) i
     go true h = refl
     go false h = h
 
@@ -61,9 +61,9 @@ module _ (b : Book) (covers marked : PointId → Bool) (p : PointInfo) (h : Shap
   unfolding lookup
   lookup-written i f = rw (find-marked covers b i) (go (find_kept b i) refl)
     where
-      go : (o : Option Kept) → find_kept b i ≡ o → Written (entry_for b marked p i o) (entry_with (mark covers b) p i (map (mark_one covers) o))
-      go none e = tagged 4 0 (is_id (prev_id p) i) false (tag17 i) (dag.NotFound i) (λ rest. lost-reads i rest f)
-      go (some k) e = kept-written k (find-member b i k e)
+      go : (o : Option Kept) → find_kept b i ≡ o → Written (entry_for b marked p i o) (entry_with (mark covers b) p i (option_map (mark_one covers) o))
+      go None e = tagged 4 0 (is_id (prev_id p) i) false (tag17 i) (dag.NotFound i) (λ rest. lost-reads i rest f)
+      go (Some k) e = kept-written k (find-member b i k e)
 
   module _ (m : ℕ) (s : List ℕ) (es : List Entry) (ts : List IndirectEntry) (r : Reads m false s es ts) where
     pairs-more : (round : ℕ) (l : List Pair) → ((q : Pair) → Memᴰ q l → IdFits (pair_id round q)) →
@@ -139,8 +139,8 @@ module _ (b : Book) (covers marked : PointId → Bool) (p : PointInfo) (h : Shap
       go false = targets-read Proof Trigger p.anchor_proof p.anchor_trigger f.proof f.trigger
 
   -- the whole list, of a point that was read
-  pub list_read : (bytes : List ℕ) → Bytes bytes → read_point bytes ≡ some p →
-      (l : List Listed) × (read_list (list_for b marked p) ≡ some l) × (directs l ≡ direct_list (mark covers b) p) × (indirects l ≡ indirect_list (mark covers b) p)
+  pub list_read : (bytes : List ℕ) → Bytes bytes → read_point bytes ≡ Some p →
+      (l : List Listed) × (read_list (list_for b marked p) ≡ Some l) × (directs l ≡ direct_list (mark covers b) p) × (indirects l ≡ indirect_list (mark covers b) p)
   unfolding list_for read_list direct_list
   list_read bytes by r =
       let f = dependencies_fit bytes p by r in

@@ -1,12 +1,12 @@
 -- The marks of a book after one more offer: those that it had, and those that the rule for marks makes.
+use Rattle.std.specs.Prelude.{Option, None, Some, option_map, is_some}
 use Prim.Native.Nat.{ℕ}
 use mathlib.Core.Path.{◌≡◌, refl, sym, ap, ◌∙◌, subst}
 use mathlib.Core.Logic.{◌⊎◌, inl, inr, ◌↔◌}
 use mathlib.Core.Bool.{Bool, true, false, ◌&&◌, ◌||◌, or-false}
-use mathlib.Core.Option.{Option, none, some, map}
 use mathlib.Core.List.Memᴰ
 use mathlib.Core.List.{List, [], ◌∷◌, ◌++◌, Memᴰ}
-use Rattle.base.specs.Base.{pick, is_some}
+use Rattle.base.specs.Base.{pick}
 use Rattle.base.proofs.Bool.{and_left, and_right, and_both, or_first, or_second, or_cases}
 use Rattle.base.proofs.Option.{some_of}
 use Rattle.base.proofs.Impossible.{impossible}
@@ -27,24 +27,24 @@ use Rattle.books.proofs.Offered.{accepted, same_tests, offer-cases, number-befor
 
 -- an id's entry is marked
 abbrev pub is_certified : Option Kept → Bool
-is_certified none = false
-is_certified (some k) = k.certified
+is_certified None = false
+is_certified (Some k) = k.certified
 
 -- the mark of what an id finds, once it is covered or not
 abbrev certified_with : Option Kept → Bool → Bool
 certified_with o covered = is_certified o || (is_some o && covered)
 
 uncovered : (o : Option Kept) → is_certified o ≡ certified_with o false
-uncovered none = refl
-uncovered (some k) = sym (or-false k.certified)
+uncovered None = refl
+uncovered (Some k) = sym (or-false k.certified)
 
 mark-certified : (test : PointId → Bool) (b : Book) (i : PointId) → is_certified (find_kept (mark test b) i) ≡ certified_with (find_kept b i) (test i)
 unfolding mark_one
 mark-certified test b i = ap is_certified (find-marked test b i) ∙ go (find_kept b i) refl
   where
-    go : (o : Option Kept) → find_kept b i ≡ o → is_certified (map (mark_one test) o) ≡ certified_with o (test i)
-    go none e = refl
-    go (some k) e = ap (λ (j : PointId). k.certified || test j) (find-id b i k e)
+    go : (o : Option Kept) → find_kept b i ≡ o → is_certified (option_map (mark_one test) o) ≡ certified_with o (test i)
+    go None e = refl
+    go (Some k) e = ap (λ (j : PointId). k.certified || test j) (find-id b i k e)
 
 -- whether an offer covers an id: by what is known before any list is built, and by what is tested of it
 abbrev pub covers_with : Settings → PointInfo → Book → Before → PointId → Bool
@@ -72,7 +72,7 @@ one_uncertified : (k : Kept) (i : PointId) → k.certified ≡ false → is_cert
 unfolding find_kept
 one_uncertified k i e = go (same_id k.point.id i)
   where
-    go : (t : Bool) → is_certified (pick t (some k) none) ≡ false
+    go : (t : Bool) → is_certified (pick t (Some k) None) ≡ false
     go true = e
     go false = refl
 
@@ -88,8 +88,8 @@ certified-before : (b l : Book) (i : PointId) → is_certified (find_kept l i) �
 certified-before b l i h = go (find_kept b i) refl
   where
     go : (o : Option Kept) → find_kept b i ≡ o → is_certified (find_kept (b ++ l) i) ≡ is_certified o
-    go none e = ap is_certified (find-after b l i e) ∙ h
-    go (some k) e = ap is_certified (find-front b l i k e)
+    go None e = ap is_certified (find-after b l i e) ∙ h
+    go (Some k) e = ap is_certified (find-front b l i k e)
 
 -- ---- the book after an offer
 
@@ -103,7 +103,7 @@ offer-certified z o h i =
 
 -- ---- what an offer covers of the entries is what the rule for marks says of it
 
-module _ (z : Opened) (o : Offer) (s : read_settings z.bytes ≡ some z.settings) (h : Shape z.book) (i : PointId) where
+module _ (z : Opened) (o : Offer) (s : read_settings z.bytes ≡ Some z.settings) (h : Shape z.book) (i : PointId) where
   -- an offer whose list is needed gets a verdict
   gets_verdict : (x : Input) → offer_tested z o ≡ admitted x → (required : Bool) → before_in x o.leader ≡ needed required → (v : Verdict) × ((offer z o).answer ≡ Given v)
   gets_verdict x q required n =
@@ -111,8 +111,8 @@ module _ (z : Opened) (o : Offer) (s : read_settings z.bytes ≡ some z.settings
       (λ y t m e. (let f : y ≡ x = cc in let b = number-before z o h y t m e in let g : before_in x o.leader ≡ before_in y o.leader = ap (λ (w : Input). before_in w o.leader) (sym f) in impossible (cc)))
       (λ y t v e. (v, refl))
 
-  needed-marks : (k : Kept) → find_kept z.book i ≡ some k → (x : Input) → offer_tested z o ≡ admitted x → (required : Bool) → before_in x o.leader ≡ needed required →
-      (t : PointId) → prev_id x.point ≡ some t → covers x.settings z.book (some t) i ≡ true → Marks (moment_of offer z o) i
+  needed-marks : (k : Kept) → find_kept z.book i ≡ Some k → (x : Input) → offer_tested z o ≡ admitted x → (required : Bool) → before_in x o.leader ≡ needed required →
+      (t : PointId) → prev_id x.point ≡ Some t → covers x.settings z.book (Some t) i ≡ true → Marks (moment_of offer z o) i
   unfolding before_in
   needed-marks k f x q required n t p e =
       let l = covers-leads x.settings z.book h i t e in
@@ -131,17 +131,17 @@ module _ (z : Opened) (o : Offer) (s : read_settings z.bytes ≡ some z.settings
   covers-marks : is_some (find_kept z.book i) ≡ true → covers_by z.book o.leader (offer_tested z o) i ≡ true → Marks (moment_of offer z o) i
   covers-marks f e = let k = some_of (find_kept z.book i) f in tests k.0 k.1 (offer_tested z o) refl e
     where
-      previous : (k : Kept) → find_kept z.book i ≡ some k → (x : Input) → offer_tested z o ≡ admitted x → (required : Bool) → before_in x o.leader ≡ needed required →
+      previous : (k : Kept) → find_kept z.book i ≡ Some k → (x : Input) → offer_tested z o ≡ admitted x → (required : Bool) → before_in x o.leader ≡ needed required →
           (t : Option PointId) → prev_id x.point ≡ t → covers x.settings z.book t i ≡ true → Marks (moment_of offer z o) i
-      previous k f x q required n none p e = let u : false ≡ true = unfold covers in e in impossible (cc)
-      previous k f x q required n (some t) p e = needed-marks k f x q required n t p e
+      previous k f x q required n None p e = let u : false ≡ true = unfold covers in e in impossible (cc)
+      previous k f x q required n (Some t) p e = needed-marks k f x q required n t p e
 
-      listed : (k : Kept) → find_kept z.book i ≡ some k → (x : Input) → offer_tested z o ≡ admitted x → (b : Before) → before_in x o.leader ≡ b →
+      listed : (k : Kept) → find_kept z.book i ≡ Some k → (x : Input) → offer_tested z o ≡ admitted x → (b : Before) → before_in x o.leader ≡ b →
           covers_with x.settings x.point z.book b i ≡ true → Marks (moment_of offer z o) i
       listed k f x q (answered a) n e = impossible (cc)
       listed k f x q (needed required) n e = previous k f x q required n (prev_id x.point) refl e
 
-      tests : (k : Kept) → find_kept z.book i ≡ some k → (t : Tested) → offer_tested z o ≡ t → covers_by z.book o.leader t i ≡ true → Marks (moment_of offer z o) i
+      tests : (k : Kept) → find_kept z.book i ≡ Some k → (t : Tested) → offer_tested z o ≡ t → covers_by z.book o.leader t i ≡ true → Marks (moment_of offer z o) i
       tests k f (refused n) q e = impossible (cc)
       tests k f (admitted x) q e = listed k f x q (before_in x o.leader) refl e
 
@@ -186,7 +186,7 @@ module _ (z : Opened) (o : Offer) (s : read_settings z.bytes ≡ some z.settings
 
 -- ---- of an offer that is made next
 
-module _ (plain : Run Opened) (o : Offer) (s : read_settings plain.last.bytes ≡ some plain.last.settings) (h : Shape plain.last.book)
+module _ (plain : Run Opened) (o : Offer) (s : read_settings plain.last.bytes ≡ Some plain.last.settings) (h : Shape plain.last.book)
     (marks : (i : PointId) → (is_certified (find_kept plain.last.book i) ≡ true) ↔ EverMarked plain.moments i) where
   abbrev book : Book
   book = plain.last.book
@@ -195,7 +195,7 @@ module _ (plain : Run Opened) (o : Offer) (s : read_settings plain.last.bytes �
   is_covered i = covers_by book o.leader (offer_tested plain.last o) i
 
   -- of an entry: its own mark, or that the offer covers it
-  pub next-ever : (i : PointId) (k : Kept) → find_kept book i ≡ some k → ((k.certified || is_covered i) ≡ true) ↔ EverMarked (with_next plain o) i
+  pub next-ever : (i : PointId) (k : Kept) → find_kept book i ≡ Some k → ((k.certified || is_covered i) ≡ true) ↔ EverMarked (with_next plain o) i
   next-ever i k f =
       subst (λ (x : Option Kept). (certified_with x (is_covered i) ≡ true) ↔ EverMarked (with_next plain o) i) f (marked_or plain.last o s h i plain.moments (marks i))
 

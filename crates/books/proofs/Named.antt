@@ -1,12 +1,12 @@
 -- The direct links of a point that passed verification name peers of its maps, so the book may keep it in states 0 to 2.
+use Rattle.std.specs.Prelude.{Option, None, Some, is_some}
 use Prim.Native.Nat.{ℕ}
 use mathlib.Core.Path.{◌≡◌, refl}
 use mathlib.Core.Bool.{Bool, true, false, not, ◌||◌}
-use mathlib.Core.Option.{Option, none, some}
 use mathlib.Core.List.{List, [], ◌∷◌}
 use lib.Dec.{eqb}
 use borrow.Author.Tests.{eqb-true, not-false}
-use Rattle.base.specs.Base.{pick, concat, first_of, is_some}
+use Rattle.base.specs.Base.{pick, concat, first_of}
 use Rattle.base.proofs.Tables.{all_none, row_none, first-none}
 use Rattle.base.proofs.Bool.{or_left, or_right}
 use Rattle.base.proofs.Impossible.{impossible}
@@ -19,9 +19,9 @@ use Rattle.reasons.specs.declared.ill_formed.VerifyError.{VerifyError}
 use Rattle.rules.specs.Verify.{links_own, is_zero, genesis_structure_rows, bad_link, link_rows, structure_rows, structure, genesis_rows, above_rows, well_formed_rows, peer_rows, scheduled, new_rows, faults, verify}
 use Rattle.rules.specs.List.{is_named, is_listable}
 
-pub no_issue : (o : Option StructureIssue) → structure o ≡ [] → o ≡ none
-no_issue none e = refl
-no_issue (some i) e = impossible (cc)
+pub no_issue : (o : Option StructureIssue) → structure o ≡ [] → o ≡ None
+no_issue None e = refl
+no_issue (Some i) e = impossible (cc)
 
 module _ (p : PointInfo) where
   -- above genesis: PointData::check_non_genesis_structure found the peer
@@ -31,8 +31,8 @@ module _ (p : PointInfo) where
   named-above (Indirect to t) h = refl
 
   zero_there : (o : Option ℕ) → is_zero o ≡ true → is_some o ≡ true
-  zero_there none h = h
-  zero_there (some d) h = refl
+  zero_there None h = h
+  zero_there (Some d) h = refl
 
   -- at genesis: the links go to the previous point, which includes name
   named-own : (l : AnchorLink) → is_zero (prev_digest p) ≡ true → links_own p.id.author l ≡ true → is_named p l ≡ true
@@ -65,7 +65,7 @@ module _ (p : PointInfo) where
       )
 
 module _ (c : Settings) (s : Schedule) (p : PointInfo) where
-  pub listable : verify c s p ≡ none → in_domain p ≡ true → is_listable p ≡ true
+  pub listable : verify c s p ≡ None → in_domain p ≡ true → is_listable p ≡ true
   unfolding verify faults well_formed_rows is_listable
   listable h d =
       let table : List (List VerifyError) = concat (new_rows c s p) ∷ concat (well_formed_rows c p) ∷ concat (peer_rows c (scheduled c s p) p) ∷ [] in

@@ -1,10 +1,10 @@
 -- The numbers of an offer made next, said of what the offers before left: 2 to 5, 11, 12, and that a number changes nothing.
+use Rattle.std.specs.Prelude.{is_some}
 use Prim.Native.Nat.{ℕ}
 use native.Mathlib.Omega.{arith}
 use mathlib.Core.Path.{◌≡◌, refl, ap, sym, ◌∙◌}
 use mathlib.Core.Logic.{◌↔◌}
 use mathlib.Core.Bool.{Bool, true, false}
-use Rattle.base.specs.Base.{is_some}
 use Rattle.base.proofs.Bool.{never, clash}
 use Rattle.base.proofs.Impossible.{impossible}
 use Rattle.rules.specs.Judge.{Input, Tested, refused, admitted, Number}

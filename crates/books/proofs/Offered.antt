@@ -1,15 +1,15 @@
 -- One offer: what is so of every offer that is judged, which numbers can come, and that an offer keeps a book's shape and its room.
+use Rattle.std.specs.Prelude.{Option, None, Some, is_some}
 use Prim.Native.Nat.{ℕ, ◌+◌, ◌-◌, ◌≤◌, ◌<◌}
 use native.Mathlib.Omega.{arith}
 use mathlib.Core.Path.{◌≡◌, refl, ap, ◌∙◌, subst}
 use mathlib.Core.Logic.{inl, inr}
 use mathlib.Core.Bool.{Bool, true, false, not, ◌&&◌, and-true}
-use mathlib.Core.Option.{Option, none, some}
 use mathlib.Core.List.{List, [], ◌∷◌, ◌++◌, append-nil}
 use lib.ListN.{length}
 use lib.Dec.{leb, ltb, eqb}
 use borrow.Author.Tests.{leb-true, le-leb, leb-false, ltb-false}
-use Rattle.base.specs.Base.{pick, is_some}
+use Rattle.base.specs.Base.{pick}
 use Rattle.base.proofs.Bool.{and_right, or_left, or_right, and_both}
 use Rattle.base.proofs.Option.{unfound}
 use Rattle.base.proofs.Impossible.{impossible}
@@ -53,34 +53,34 @@ use Rattle.books.proofs.Spread.{covers-prev}
 pub record Accepted (z : Opened) (o : Offer) (i : Input) : Type 0 where
   pub input : input_tested z.settings o ≡ admitted i
   pub settings : i.settings ≡ z.settings
-  pub schedule : read_schedule o.schedule ≡ some i.schedule
-  pub read : read_point o.bytes ≡ some i.point
+  pub schedule : read_schedule o.schedule ≡ Some i.schedule
+  pub read : read_point o.bytes ≡ Some i.point
   pub domain : in_domain i.point ≡ true
-  pub new : find_kept z.book i.point.id ≡ none
+  pub new : find_kept z.book i.point.id ≡ None
   pub few : length z.book < 4096
   pub room : length o.bytes + 108 ≤ z.length - start_in z - used z.book
 
-with_taken : (c : Settings) (s : Option Schedule) (p : Option PointInfo) (others : Bool) (size : ℕ) (i : Input) → tested_with (some c) s p others size ≡ admitted i →
-    (i.settings ≡ c) × (s ≡ some i.schedule) × (p ≡ some i.point) × (in_domain i.point ≡ true)
-with_taken c none p others size i h = impossible (cc)
-with_taken c (some s) none others size i h = impossible (cc)
-with_taken c (some s) (some p) others size i h = go (in_domain p) refl others (ltb size 8160) h
+with_taken : (c : Settings) (s : Option Schedule) (p : Option PointInfo) (others : Bool) (size : ℕ) (i : Input) → tested_with (Some c) s p others size ≡ admitted i →
+    (i.settings ≡ c) × (s ≡ Some i.schedule) × (p ≡ Some i.point) × (in_domain i.point ≡ true)
+with_taken c None p others size i h = impossible (cc)
+with_taken c (Some s) None others size i h = impossible (cc)
+with_taken c (Some s) (Some p) others size i h = go (in_domain p) refl others (ltb size 8160) h
   where
     j : Input
     j = record { settings = c; schedule = s; point = p }
 
     go : (d : Bool) → in_domain p ≡ d → (t u : Bool) → pick (not (d && t)) (refused 4) (pick u (refused 5) (admitted j)) ≡ admitted i →
-        (i.settings ≡ c) × (some s ≡ some i.schedule) × (some p ≡ some i.point) × (in_domain i.point ≡ true)
+        (i.settings ≡ c) × (Some s ≡ Some i.schedule) × (Some p ≡ Some i.point) × (in_domain i.point ≡ true)
     go true e true true k = impossible (cc)
     go true e true false k =
         let f : j ≡ i = cc in
-        subst (λ (x : Input). (x.settings ≡ c) × (some s ≡ some x.schedule) × (some p ≡ some x.point) × (in_domain x.point ≡ true)) f (refl, refl, refl, e)
+        subst (λ (x : Input). (x.settings ≡ c) × (Some s ≡ Some x.schedule) × (Some p ≡ Some x.point) × (in_domain x.point ≡ true)) f (refl, refl, refl, e)
     go true e false u k = impossible (cc)
     go false e t u k = impossible (cc)
 
 -- what the tests 2 to 5 of an offer say
 pub tested-input : (c : Settings) (o : Offer) (i : Input) → input_tested c o ≡ admitted i →
-    (i.settings ≡ c) × (read_schedule o.schedule ≡ some i.schedule) × (read_point o.bytes ≡ some i.point) × (in_domain i.point ≡ true)
+    (i.settings ≡ c) × (read_schedule o.schedule ≡ Some i.schedule) × (read_point o.bytes ≡ Some i.point) × (in_domain i.point ≡ true)
 tested-input c o i h = with_taken c (read_schedule o.schedule) (read_point o.bytes) (leb o.leader 1) (length o.peers) i h
 
 room-taken : (z : Opened) (bytes : List ℕ) (t : Tested) (i : Input) → tested_room z bytes t ≡ admitted i →
@@ -132,7 +132,7 @@ offer-cases z o P refusal number given = go (offer_tested z o) refl
 -- ---- the numbers
 
 -- the tests of a call with the book's settings are the book's
-pub same_tests : (z : Opened) (o : Offer) → read_settings z.bytes ≡ some z.settings → tested_as z.bytes o ≡ input_tested z.settings o
+pub same_tests : (z : Opened) (o : Offer) → read_settings z.bytes ≡ Some z.settings → tested_as z.bytes o ≡ input_tested z.settings o
 unfolding tested
 same_tests z o s = rw (s, and-true (leb o.leader 1))
 
@@ -140,10 +140,10 @@ abbrev Refusal : Tested → Type 0
 Refusal (refused n) = IsOfferNumber n
 Refusal (admitted i) = Unit
 
-with_refusal : (c : Settings) (s : Option Schedule) (p : Option PointInfo) (others : Bool) (size : ℕ) → Refusal (tested_with (some c) s p others size)
-with_refusal c none p others size = inl (omega arith, omega arith)
-with_refusal c (some s) none others size = inl (omega arith, omega arith)
-with_refusal c (some s) (some p) others size = go (not (in_domain p && others)) (ltb size 8160)
+with_refusal : (c : Settings) (s : Option Schedule) (p : Option PointInfo) (others : Bool) (size : ℕ) → Refusal (tested_with (Some c) s p others size)
+with_refusal c None p others size = inl (omega arith, omega arith)
+with_refusal c (Some s) None others size = inl (omega arith, omega arith)
+with_refusal c (Some s) (Some p) others size = go (not (in_domain p && others)) (ltb size 8160)
   where
     go : (x y : Bool) → Refusal (pick x (refused 4) (pick y (refused 5) (admitted (record { settings = c; schedule = s; point = p }))))
     go true y = inl (omega arith, omega arith)
@@ -179,13 +179,13 @@ unfolding before
 before_six c s leader p = go (verify c s p) (eqb p.id.round c.genesis_round) (wave_checked s leader p)
   where
     go : (e : Option VerifyError) (genesis : Bool) (w : WaveChecked) → BeforeSix (before_with e genesis w)
-    go (some e) genesis w = tt
-    go none true w = tt
-    go none false case-wave.Horizon = refl
-    go none false (case-wave.IllFormed r) = tt
-    go none false (case-wave.Sound required) = tt
+    go (Some e) genesis w = tt
+    go None true w = tt
+    go None false case-wave.Horizon = refl
+    go None false (case-wave.IllFormed r) = tt
+    go None false (case-wave.Sound required) = tt
 
-module _ (c : Settings) (bytes : List ℕ) (p : PointInfo) (b : Book) (h : Shape b) (r : read_point bytes ≡ some p) (d : in_domain p ≡ true) where
+module _ (c : Settings) (bytes : List ℕ) (p : PointInfo) (b : Book) (h : Shape b) (r : read_point bytes ≡ Some p) (d : in_domain p ≡ true) where
   number_with : (x : Before) (n : ℕ) → answer_with c 3 p (marked_by c p b x) x ≡ Number n → x ≡ answered (Number n)
   number_with (answered a) n e = ap answered e
   number_with (needed required) n e =
@@ -309,16 +309,16 @@ module _ (p : PointInfo) where
   before-shape c s leader d = go (verify c s p) refl (eqb p.id.round c.genesis_round) (wave_checked s leader p)
     where
       go : (e : Option VerifyError) → verify c s p ≡ e → (genesis : Bool) (w : WaveChecked) → BeforeShape p (before_with e genesis w)
-      go (some (case-error.Fail u)) v genesis w = tt
-      go (some (case-error.IllFormed r)) v genesis w = ill-formed-shape d r
-      go none v true w = valid-shape (listable c s p v d)
-      go none v false case-wave.Horizon = tt
-      go none v false (case-wave.IllFormed r) = ill-formed-shape d r
-      go none v false (case-wave.Sound required) = listable c s p v d
+      go (Some (case-error.Fail u)) v genesis w = tt
+      go (Some (case-error.IllFormed r)) v genesis w = ill-formed-shape d r
+      go None v true w = valid-shape (listable c s p v d)
+      go None v false case-wave.Horizon = tt
+      go None v false (case-wave.IllFormed r) = ill-formed-shape d r
+      go None v false (case-wave.Sound required) = listable c s p v d
 
 -- ---- an offer keeps the shape
 
-module _ (bytes : List ℕ) (p : PointInfo) (b : Book) (h : Shape b) (by : Bytes bytes) (r : read_point bytes ≡ some p) (d : in_domain p ≡ true) where
+module _ (bytes : List ℕ) (p : PointInfo) (b : Book) (h : Shape b) (by : Bytes bytes) (r : read_point bytes ≡ Some p) (d : in_domain p ≡ true) where
   answer-shape : (c : Settings) (x : Before) → BeforeShape p x → AnswerShape p (answer_with c 3 p (marked_by c p b x) x)
   answer-shape c (answered a) s = s
   answer-shape c (needed required) l =
@@ -328,7 +328,7 @@ module _ (bytes : List ℕ) (p : PointInfo) (b : Book) (h : Shape b) (by : Bytes
       (validated (VerdictShape p) (invalid-shape p l) (trans_invalid-shape p l) (valid-shape p l)
       c required p (direct_list marked p) (indirect_list marked p) (point-fits bytes p by r) (direct-rooted marked p s) (indirect-rooted marked p s) 3)
 
-  module _ (new : find_kept b p.id ≡ none) (few : length b < 4096) where
+  module _ (new : find_kept b p.id ≡ None) (few : length b < 4096) where
     left-entry : (x : Status) → StatusShape p x → Shape (b ++ (kept_as bytes p x ∷ []))
     left-entry x s = append-shape b (kept_as bytes p x) h (record { bytes = by; read = r; domain = d; status = s }) new few
 
@@ -345,7 +345,7 @@ module _ (c : Settings) (p : PointInfo) (b : Book) where
   marked-shape (answered a) h = h
   marked-shape (needed required) h = mark-shape (covers c b (prev_id p)) b h
 
-  marked-new : (x : Before) (i : PointId) → find_kept b i ≡ none → find_kept (marked_by c p b x) i ≡ none
+  marked-new : (x : Before) (i : PointId) → find_kept b i ≡ None → find_kept (marked_by c p b x) i ≡ None
   marked-new (answered a) i h = h
   marked-new (needed required) i h = unfound (find_kept (mark (covers c b (prev_id p)) b) i) (marked-found (covers c b (prev_id p)) b i ∙ ap is_some h)
 

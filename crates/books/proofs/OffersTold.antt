@@ -1,10 +1,10 @@
 -- What an offer hands out tells its answer: one that got a verdict was judged over bytes, so that what is told of `judge` serves.
+use Rattle.std.specs.Prelude.{Option, None, Some}
 use Prim.Native.Nat.{ℕ}
 use native.Mathlib.Omega.{arith}
 use mathlib.Core.Path.{◌≡◌, refl, ap, sym, ◌∙◌}
 use mathlib.Core.Logic.{inl, inr}
 use mathlib.Core.Bool.{Bool}
-use mathlib.Core.Option.{Option, none, some}
 use mathlib.Core.List.{List}
 use lib.ListN.{length}
 use Rattle.base.proofs.Impossible.{impossible}
@@ -27,12 +27,12 @@ use Rattle.books.specs.FoundBook.{tested_as, NextOffer}
 use Rattle.books.specs.OffersTold.{OffersTold}
 
 -- a record that can't be read is refused
-unread : (c : Option Settings) (s : Option Schedule) (others : Bool) (size : ℕ) → (n : ℕ) × (tested_with c s none others size ≡ refused n)
-unread none s others size = (1, refl)
-unread (some c) none others size = (2, refl)
-unread (some c) (some s) others size = (3, refl)
+unread : (c : Option Settings) (s : Option Schedule) (others : Bool) (size : ℕ) → (n : ℕ) × (tested_with c s None others size ≡ refused n)
+unread None s others size = (1, refl)
+unread (Some c) None others size = (2, refl)
+unread (Some c) (Some s) others size = (3, refl)
 
-unread-offer : (settings : List ℕ) (o : Offer) → read_point o.bytes ≡ none → (n : ℕ) × (tested_as settings o ≡ refused n)
+unread-offer : (settings : List ℕ) (o : Offer) → read_point o.bytes ≡ None → (n : ℕ) × (tested_as settings o ≡ refused n)
 unfolding tested
 unread-offer settings o r = rw r (unread (read_settings settings) (read_schedule o.schedule) (flags_ok o.leader 3) (length o.peers))
 
@@ -59,11 +59,11 @@ module _ (found : Run (List ℕ)) (plain : Run Opened) (o : Offer) (x : Result (
           }
 
       go : (p : Option PointInfo) → read_point o.bytes ≡ p → JudgedBy x.answer
-      go none r =
+      go None r =
           let u = unread-offer plain.last.bytes o r in
           let n = h.tests u.0 u.1 in
           impossible (cc)
-      go (some p) r =
+      go (Some p) r =
           let j = h.judged p r (λ n. impossible (cc)) (λ n. impossible (cc)) h.told.0 h.told.1 in
           record { call = call p; bytes = (w, j.0); answer = j.1.0 }
 

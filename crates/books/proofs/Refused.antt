@@ -1,17 +1,16 @@
 -- An offer to any bytes never gets the number 1 nor one of 7 to 9; and one that gets a number changes no lent byte, neither the book's
 -- nor the peer buffer's. With what else is so of any bytes.
+use Rattle.std.specs.Prelude.{Option, None, Some, is_some}
 use Prim.Native.Nat.{ℕ, suc, ◌<◌}
 use mathlib.Core.Path.{◌≡◌, refl, ap, sym, ◌∙◌}
 use mathlib.Core.Logic.{◌⊎◌, inl, inr}
 use mathlib.Core.Bool.{true, or-true}
-use mathlib.Core.Option.{Option, none, some}
 use mathlib.Core.List.{List}
 use lib.ListN.{length}
 use lib.Dec.{leb, ltb}
 use native.Mathlib.Decide.{dec_lt}
 use native.Mathlib.Omega.{arith}
 use borrow.Author.Tests.{leb-true, lt-ltb}
-use Rattle.base.specs.Base.{is_some}
 use Rattle.base.proofs.Bool.{and_left, and_right, clash}
 use Rattle.parts.specs.Bytes.{Bytes}
 use Rattle.point.specs.Point.{PointInfo}
@@ -32,7 +31,7 @@ use Rattle.books.proofs.Canonical.{book-again}
 use Rattle.books.proofs.Invariant.{opens}
 
 -- bytes that read as a book are that book in its slice
-book-laid_out : (s : List ℕ) (z : Opened) → Bytes s → read_book s ≡ some z → s ≡ laid_out z
+book-laid_out : (s : List ℕ) (z : Opened) → Bytes s → read_book s ≡ Some z → s ≡ laid_out z
 unfolding laid_out
 book-laid_out s z w e =
     let b = book-again s z w e in b.bytes ∙ ap (λ (n : ℕ). book_bytes z.bytes n z.book) (sym b.whole)
@@ -44,8 +43,8 @@ module _ (o : Offer) (n : ℕ) where
   offer-numbers s w h = go (read_book s) refl h
     where
       go : (z : Option Opened) → read_book s ≡ z → (offer_to s o z).answer ≡ Number n → (n ≡ 10) ⊎ IsOfferNumber n
-      go none e h = inl (cc)
-      go (some z) e h = inr (numbers z o (book-again s z w e).shape n h)
+      go None e h = inl (cc)
+      go (Some z) e h = inr (numbers z o (book-again s z w e).shape n h)
 
   -- a number leaves the bytes as they were, so that no mark was made
   pub unchanged : (s : List ℕ) → Bytes s → (offer_bytes s o).answer ≡ Number n → ((offer_bytes s o).after ≡ s) × ((offer_bytes s o).peers ≡ o.peers)
@@ -53,12 +52,12 @@ module _ (o : Offer) (n : ℕ) where
   unchanged s w h = go (read_book s) refl h
     where
       go : (z : Option Opened) → read_book s ≡ z → (offer_to s o z).answer ≡ Number n → ((offer_to s o z).after ≡ s) × ((offer_to s o z).peers ≡ o.peers)
-      go none e h = (refl, refl)
-      go (some z) e h = let u = number-unchanged z o n h in (ap laid_out u.0 ∙ sym (book-laid_out s z w e), u.1)
+      go None e h = (refl, refl)
+      go (Some z) e h = let u = number-unchanged z o n h in (ap laid_out u.0 ∙ sym (book-laid_out s z w e), u.1)
 
 -- ---- any bytes
 
-unread : (s : List ℕ) (o : Offer) → read_book s ≡ none → offer_bytes s o ≡ offer_to s o none
+unread : (s : List ℕ) (o : Offer) → read_book s ≡ None → offer_bytes s o ≡ offer_to s o None
 unfolding offer_bytes
 unread s o e = ap (offer_to s o) e
 
@@ -67,11 +66,11 @@ unfolding open_bytes
 unopened settings s n e = ap (opened_as settings s) e
 
 module _ (settings s : List ℕ) where
-  one : read_settings settings ≡ none → open_number settings (length s) ≡ 1
+  one : read_settings settings ≡ None → open_number settings (length s) ≡ 1
   unfolding open_number
   one e = ap (λ (x : Option Settings). open_number_with x (length s)) e
 
-  module _ (c : Settings) (e : read_settings settings ≡ some c) where
+  module _ (c : Settings) (e : read_settings settings ≡ Some c) where
     five : (length s < 47) ⊎ (16777216 < length s) → open_number settings (length s) ≡ 5
     unfolding open_number
     five (inl h) = rw (e, lt-ltb (length s) 47 h)

@@ -1,4 +1,5 @@
 -- What judging records over entries of a book: a root cause in the domain, whose numbers fit their bytes.
+use Rattle.std.specs.Prelude.{is_some}
 use Prim.Native.Nat.{ℕ, ◌≤◌, ◌<◌}
 use native.Mathlib.Omega.{arith}
 use native.Mathlib.Decide.{dec_lt}
@@ -7,7 +8,6 @@ use mathlib.Core.Logic.{◌⊎◌, inl, inr}
 use mathlib.Core.Bool.{Bool, true, false}
 use mathlib.Core.List.Memᴰ
 use mathlib.Core.List.{List, [], ◌∷◌, Memᴰ}
-use Rattle.base.specs.Base.{is_some}
 use Rattle.base.proofs.Option.{IfSome}
 use Rattle.base.proofs.Impossible.{impossible}
 use Rattle.point.specs.Point.{PointId, PointInfo, through, anchor_link}

@@ -1,10 +1,10 @@
 -- Writing then reading: the bytes of an entry, with anything after them, are read as that entry and its size; so are the bytes of
 -- entries and of a book.
+use Rattle.std.specs.Prelude.{Option, None, Some, option_map}
 use Prim.Native.Nat.{ℕ, zero, suc, ◌+◌, ◌-◌, ◌^◌, ◌≤◌, ◌<◌}
 use native.Mathlib.Omega.{arith}
 use mathlib.Core.Path.{◌≡◌, refl, ap, ◌∙◌, subst}
 use mathlib.Core.Bool.{Bool, true, false}
-use mathlib.Core.Option.{Option, none, some, map}
 use mathlib.Core.List.{List, [], ◌∷◌, ◌++◌, Memᴰ, append_assoc}
 use lib.ListN.{length, get_or, take, drop, replicate, length-append, length-replicate}
 use lib.Seq.{take-append_seam, take_at, drop_at, drop-append-add, get_or-append_seam}
@@ -66,7 +66,7 @@ root_ok : (t : List ℕ) (d : InvalidDependency) → Recorded Root d → little_
 unfolding is_root_ok
 root_ok t d o e3 e71 m = rw (e3, e71) (simp (m, le-leb 4 d.to.round o.root.least, le-leb d.to.round 2147483647 o.root.greatest, o.root.reason))
 
-root-reads : (t : List ℕ) (d : InvalidDependency) → get_or t 0 0 ≡ 1 → get_or t 2 0 ≡ 0 → is_root_ok t ≡ true → root_at t ≡ d → read_status t ≡ some (TransInvalid d)
+root-reads : (t : List ℕ) (d : InvalidDependency) → get_or t 0 0 ≡ 1 → get_or t 2 0 ≡ 0 → is_root_ok t ≡ true → root_at t ≡ d → read_status t ≡ Some (TransInvalid d)
 unfolding read_status
 root-reads t d e0 e2 r e = simp (e0, e2, r, e)
 
@@ -108,7 +108,7 @@ module _ (d : InvalidDependency) (c : Bool) (o : Recorded Root d) where
   unfolding status_bytes
   root-head = (refl, refl)
 
-  trans_reads : read_status (status_bytes (TransInvalid d) c) ≡ some (TransInvalid d)
+  trans_reads : read_status (status_bytes (TransInvalid d) c) ≡ Some (TransInvalid d)
   trans_reads = root-reads _ d root-head.0 root-head.1 (root_ok _ d o root-round root-reason root-map) root-at
 
 -- the root cause of a status that may be kept
@@ -128,7 +128,7 @@ root-of q d o =
     }
 
 -- a status is read back, whatever the mark
-pub status-reads : (q : PointInfo) (s : Status) (c : Bool) → StatusShape q s → read_status (status_bytes s c) ≡ some s
+pub status-reads : (q : PointInfo) (s : Status) (c : Bool) → StatusShape q s → read_status (status_bytes s c) ≡ Some s
 unfolding read_status status_bytes
 status-reads q Valid c o = refl
 status-reads q (TransInvalid d) c o = trans_reads d c (root-of q d o)
@@ -141,7 +141,7 @@ pub kept-length : (k : Kept) → length (kept_bytes k) ≡ length k.bytes + 108
 unfolding kept_bytes
 kept-length k = rw (length-append k.bytes _, status-length k.status k.certified)
 
-pub kept-reads : (k : Kept) → KeptShape k → read_kept k.bytes k.point (status_bytes k.status k.certified) ≡ some k
+pub kept-reads : (k : Kept) → KeptShape k → read_kept k.bytes k.point (status_bytes k.status k.certified) ≡ Some k
 unfolding read_kept
 kept-reads k o =
     rw (certified-at k.status k.certified, flag-fits k.certified, flag-back k.certified, status-reads k.point k.status k.certified o.status, o.status.keepable)
@@ -170,13 +170,13 @@ module _ (tag n : ℕ) (r u : List ℕ) where
 
 -- an entry by its parts
 front-is : (s r t : List ℕ) (n : ℕ) (q : PointInfo) (k : Kept) → take n s ≡ r →
-    record_end s ≡ some n → read_point r ≡ some q → field_ok (field_row 33 105 105) s n ≡ true → take 105 (drop (n + 3) s) ≡ t → read_kept r q t ≡ some k →
-    kept_front s ≡ some (record { kept = k; size = n + 108 })
+    record_end s ≡ Some n → read_point r ≡ Some q → field_ok (field_row 33 105 105) s n ≡ true → take 105 (drop (n + 3) s) ≡ t → read_kept r q t ≡ Some k →
+    kept_front s ≡ Some (record { kept = k; size = n + 108 })
 unfolding kept_front
 front-is s r t n q k f e p w g h = rw (e, f, p, w, g, h)
 
 parts-front : (k : Kept) (rest : List ℕ) → KeptShape k →
-    kept_front (k.bytes ++ (33 ∷ 105 ∷ 0 ∷ (status_bytes k.status k.certified ++ rest))) ≡ some (record { kept = k; size = length k.bytes + 108 })
+    kept_front (k.bytes ++ (33 ∷ 105 ∷ 0 ∷ (status_bytes k.status k.certified ++ rest))) ≡ Some (record { kept = k; size = length k.bytes + 108 })
 parts-front k rest o =
     let t = status_bytes k.status k.certified in
     let l = status-length k.status k.certified in
@@ -186,14 +186,14 @@ parts-front k rest o =
     (kept-reads k o)
 
 -- an entry is read back, with anything after it
-pub kept-front : (k : Kept) (rest : List ℕ) → KeptShape k → kept_front (kept_bytes k ++ rest) ≡ some (record { kept = k; size = length k.bytes + 108 })
+pub kept-front : (k : Kept) (rest : List ℕ) → KeptShape k → kept_front (kept_bytes k ++ rest) ≡ Some (record { kept = k; size = length k.bytes + 108 })
 kept-front k rest o = ap kept_front (kept_split k rest) ∙ parts-front k rest o
 
 pub kept-after : (k : Kept) (rest : List ℕ) → drop (length k.bytes + 108) (kept_bytes k ++ rest) ≡ rest
 kept-after k rest = drop_at (kept_bytes k) rest (length k.bytes + 108) (kept-length k)
 
 -- an entry begins with tag 1: 0 is no entry
-first-tag : (s : List ℕ) (n : ℕ) → record_end s ≡ some n → get_or s 0 0 ≡ 1
+first-tag : (s : List ℕ) (n : ℕ) → record_end s ≡ Some n → get_or s 0 0 ≡ 1
 unfolding start_of row_of rows
 first-tag s n h = (front-field s n h 0 (omega arith)).tag
 
@@ -213,7 +213,7 @@ unfolding is_zeros
 zeros-are zero = refl
 zeros-are (suc n) = zeros-are n
 
-zeros-read : (n m : ℕ) → entries_from n (replicate m 0) ≡ some []
+zeros-read : (n m : ℕ) → entries_from n (replicate m 0) ≡ Some []
 unfolding entries_from
 zeros-read zero m = rw (zeros-are m)
 zeros-read (suc n) zero = refl
@@ -221,14 +221,14 @@ zeros-read (suc n) (suc m) = rw (zeros-are m)
 
 -- one more entry in front
 module _ (n : ℕ) (s : List ℕ) (x : KeptFront) (b : Book) where
-  pub more-reads : get_or s 0 0 ≡ 1 → kept_front s ≡ some x → entries_from n (drop x.size s) ≡ some b → entries_from (suc n) s ≡ some (x.kept ∷ b)
+  pub more-reads : get_or s 0 0 ≡ 1 → kept_front s ≡ Some x → entries_from n (drop x.size s) ≡ Some b → entries_from (suc n) s ≡ Some (x.kept ∷ b)
   unfolding entries_from
   more-reads t f h =
       pick-false (eqb (get_or s 0 0) 0) _ _ (ap (λ (y : ℕ). eqb y 0) t)
-      ∙ (ap (λ o. and_then o (λ y. map (λ c. y.kept ∷ c) (entries_from n (drop y.size s)))) f ∙ ap (map (λ c. x.kept ∷ c)) h)
+      ∙ (ap (λ o. and_then o (λ y. option_map (λ c. y.kept ∷ c) (entries_from n (drop y.size s)))) f ∙ ap (option_map (λ c. x.kept ∷ c)) h)
 
 -- entries are read back, with zeros after them
-pub entries-read : (n m : ℕ) (b : Book) → ((k : Kept) → Memᴰ k b → KeptShape k) → length b ≤ n → entries_from n (entries_bytes b ++ replicate m 0) ≡ some b
+pub entries-read : (n m : ℕ) (b : Book) → ((k : Kept) → Memᴰ k b → KeptShape k) → length b ≤ n → entries_from n (entries_bytes b ++ replicate m 0) ≡ Some b
 unfolding entries_bytes
 entries-read n m [] o h = zeros-read n m
 entries-read zero m (k ∷ b) o h = absurd (omega arith)
@@ -241,9 +241,9 @@ entries-read (suc n) m (k ∷ b) o h =
 
 -- ---- a book
 
-pub settings-length : (s : List ℕ) (c : Settings) → read_settings s ≡ some c → length s ≡ 47
+pub settings-length : (s : List ℕ) (c : Settings) → read_settings s ≡ Some c → length s ≡ 47
 unfolding read_settings
-settings-length s c h = eqb-true (length s) 47 (and_left (eqb (length s) 47) _ (picked _ (some (settings_in s)) c h).0)
+settings-length s c h = eqb-true (length s) 47 (and_left (eqb (length s) 47) _ (picked _ (Some (settings_in s)) c h).0)
 
 module _ (settings : List ℕ) (len : ℕ) (b : Book) (l : length settings ≡ 47) where
   pub book-length : 47 + used b ≤ len → length (book_bytes settings len b) ≡ len
@@ -262,24 +262,24 @@ module _ (settings : List ℕ) (len : ℕ) (b : Book) (l : length settings ≡ 4
 
 -- a book by its parts
 book-is : (s settings : List ℕ) (c : Settings) (b : Book) → take 47 s ≡ settings →
-    length s ≤ 16777216 → read_settings settings ≡ some c → entries_from 4096 (drop 47 s) ≡ some b → is_twice b ≡ false →
-    read_book s ≡ some (record { bytes = settings; settings = c; length = length s; book = b })
+    length s ≤ 16777216 → read_settings settings ≡ Some c → entries_from 4096 (drop 47 s) ≡ Some b → is_twice b ≡ false →
+    read_book s ≡ Some (record { bytes = settings; settings = c; length = length s; book = b })
 unfolding read_book
 book-is s settings c b f l r e o =
-    pick_true (leb (length s) 16777216) _ none (le-leb (length s) 16777216 l)
+    pick_true (leb (length s) 16777216) _ None (le-leb (length s) 16777216 l)
     ∙ go (read_settings (take 47 s)) (entries_from 4096 (drop 47 s)) (ap read_settings f ∙ r) e
   where
-    go : (x : Option Settings) (y : Option Book) → x ≡ some c → y ≡ some b →
-        and_then x (λ d. and_then {B = Opened} y (λ a. pick (is_twice a) none (some (record { bytes = take 47 s; settings = d; length = length s; book = a }))))
-        ≡ some (record { bytes = settings; settings = c; length = length s; book = b })
+    go : (x : Option Settings) (y : Option Book) → x ≡ Some c → y ≡ Some b →
+        and_then x (λ d. and_then {B = Opened} y (λ a. pick (is_twice a) None (Some (record { bytes = take 47 s; settings = d; length = length s; book = a }))))
+        ≡ Some (record { bytes = settings; settings = c; length = length s; book = b })
     go x y p q = rw (p, q, o, f)
 
 -- a book is read back
-pub book-reads : (settings : List ℕ) (c : Settings) (len : ℕ) (b : Book) → read_settings settings ≡ some c → len ≤ 16777216 → Shape b → 47 + used b ≤ len →
-    read_book (book_bytes settings len b) ≡ some (record { bytes = settings; settings = c; length = len; book = b })
+pub book-reads : (settings : List ℕ) (c : Settings) (len : ℕ) (b : Book) → read_settings settings ≡ Some c → len ≤ 16777216 → Shape b → 47 + used b ≤ len →
+    read_book (book_bytes settings len b) ≡ Some (record { bytes = settings; settings = c; length = len; book = b })
 book-reads settings c len b r m h room =
     let l = settings-length settings c r in
-    subst (λ (n : ℕ). read_book (book_bytes settings len b) ≡ some (record { bytes = settings; settings = c; length = n; book = b }))
+    subst (λ (n : ℕ). read_book (book_bytes settings len b) ≡ Some (record { bytes = settings; settings = c; length = n; book = b }))
     (book-length settings len b l room)
     (book-is (book_bytes settings len b) settings c b (book-front settings len b l)
     (omega (arith, book-length settings len b l room))

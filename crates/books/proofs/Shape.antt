@@ -1,18 +1,17 @@
 -- The shape of a book: each entry's point is the one that its record says, it lies in the domain and its verdict fits tag 33, no id
 -- stands twice, and at most 4,096 entries stand there. Marks keep it, and so does a new entry. Over such a book demand 2 gives a
 -- verdict, never 7, 8 or 9.
+use Rattle.std.specs.Prelude.{None, Some, is_some}
 use Prim.Native.Nat.{ℕ, suc, ◌^◌, ◌≤◌, ◌<◌}
 use native.Mathlib.Omega.{arith}
 use mathlib.Core.Path.{◌≡◌, refl, ap, sym, ◌∙◌, subst}
 use mathlib.Core.Logic.{◌⊎◌, inl, inr}
 use mathlib.Core.Bool.{Bool, true, false, ◌&&◌}
-use mathlib.Core.Option.{none, some}
 use mathlib.Core.List.Memᴰ
 use mathlib.Core.List.{List, [], ◌∷◌, ◌++◌, Memᴰ}
 use lib.ListN.{length, length-append}
 use lib.Dec.{leb}
 use borrow.Author.Tests.{leb-true}
-use Rattle.base.specs.Base.{is_some}
 use Rattle.base.proofs.Bool.{and_left, and_right}
 use Rattle.parts.specs.Bytes.{Bytes}
 use Rattle.point.specs.Point.{PointId, PointInfo, through_peer, prev_id, in_domain}
@@ -55,7 +54,7 @@ pub record StatusShape (p : PointInfo) (x : Status) : Type 0 where
 
 pub record KeptShape (k : Kept) : Type 0 where
   pub bytes : Bytes k.bytes
-  pub read : read_point k.bytes ≡ some k.point
+  pub read : read_point k.bytes ≡ Some k.point
   pub domain : in_domain k.point ≡ true
   pub status : StatusShape k.point k.status
 
@@ -104,7 +103,7 @@ module _ (covers : PointId → Bool) where
 
 -- ---- a new entry keeps the shape
 
-pub append-shape : (b : Book) (k : Kept) → Shape b → KeptShape k → find_kept b k.point.id ≡ none → length b < 4096 → Shape (b ++ (k ∷ []))
+pub append-shape : (b : Book) (k : Kept) → Shape b → KeptShape k → find_kept b k.point.id ≡ None → length b < 4096 → Shape (b ++ (k ∷ []))
 append-shape b k h s new few = record {
   entries = λ x m. either x (Memᴰ.append_cases b m);
   once = once_more b k h.once new;
@@ -157,7 +156,7 @@ module _ (b : Book) (p : PointInfo) (h : Shape b) where
 -- ---- over the lists that such a book builds, demand 2 gives a verdict
 
 module _ (c : Settings) (required : Bool) (bytes : List ℕ) (p : PointInfo) (b : Book) (h : Shape b) (v : Covered (prev_id p) b)
-    (r : read_point bytes ≡ some p) (d : in_domain p ≡ true) where
+    (r : read_point bytes ≡ Some p) (d : in_domain p ≡ true) where
   pub whole : answer_over c required 3 p (direct_list b p) (indirect_list b p) ≡ Given (validate c required 3 p (direct_list b p) (indirect_list b p))
   whole =
       let w = readable bytes p r in

@@ -1,10 +1,10 @@
 -- A certificate covers what a chain of kept dependencies leads to, as far down as the rounds allow.
+use Rattle.std.specs.Prelude.{Option, None, Some}
 use Prim.Native.Nat.{ℕ, zero, suc, ◌+◌, ◌-◌, ◌≤◌, ◌<◌}
 use native.Mathlib.Omega.{arith}
 use mathlib.Core.Path.{◌≡◌, refl, ap, sym, ◌∙◌, subst}
 use mathlib.Core.Logic.{◌⊎◌, inl, inr}
 use mathlib.Core.Bool.{Bool, true, false, not, ◌||◌}
-use mathlib.Core.Option.{Option, none, some}
 use mathlib.Core.List.Memᴰ
 use mathlib.Core.List.{List, [], ◌∷◌, Memᴰ}
 use lib.Dec.{ltb}
@@ -86,8 +86,8 @@ module _ (c : Settings) (b : Book) where
   covers-prev prev = prev-covers prev (covers c b prev) (own prev) b
     where
       own : (o : Option PointId) (i : PointId) → is_id o i ≡ true → covers c b o i ≡ true
-      own none i e = e
-      own (some t) i e = ap (λ (x : PointId). covers c b (some t) x) (sym (same_eq t i e)) ∙ itself t c.commit_history_rounds
+      own None i e = e
+      own (Some t) i e = ap (λ (x : PointId). covers c b (Some t) x) (sym (same_eq t i e)) ∙ itself t c.commit_history_rounds
 
 -- ---- chains
 
@@ -119,7 +119,7 @@ module _ (c : Settings) (b : Book) (h : Shape b) where
       abbrev goes_on : Option Kept → Bool
       goes_on o = traverse c (λ j. certifies c b (suc n) j i) (λ j. certifies c b n j i) o
 
-      kept-reaches : (k : Kept) → find_kept b t ≡ some k → goes_on (some k) ≡ true → Reaches (suc n) k.point.id
+      kept-reaches : (k : Kept) → find_kept b t ≡ Some k → goes_on (Some k) ≡ true → Reaches (suc n) k.point.id
       kept-reaches k f e =
           let m = find-member b t k f in
           either (passes_on c b k m (and_left (has_deps c k) _ e)) (kept-least k m)
@@ -144,8 +144,8 @@ module _ (c : Settings) (b : Book) (h : Shape b) where
       deeper_reaches e = go (or_cases (same_id t i) _ e)
         where
           found : (o : Option Kept) → find_kept b t ≡ o → goes_on o ≡ true → Reaches (suc n) t
-          found none f e = impossible (cc)
-          found (some k) f e = subst (Reaches (suc n)) (find-id b t k f) (kept-reaches k f e)
+          found None f e = impossible (cc)
+          found (Some k) f e = subst (Reaches (suc n)) (find-id b t k f) (kept-reaches k f e)
 
           go : (same_id t i ≡ true) ⊎ (goes_on (find_kept b t) ≡ true) → Reaches (suc n) t
           go (inl s) = same-reaches (suc n) t s
@@ -192,10 +192,10 @@ module _ (c : Settings) (b : Book) (h : Shape b) where
 
     -- ---- the rule
 
-    pub covers-leads : (t : PointId) → covers c b (some t) i ≡ true → LeadsTo c b i t × (t.round ≤ i.round + c.commit_history_rounds)
+    pub covers-leads : (t : PointId) → covers c b (Some t) i ≡ true → LeadsTo c b i t × (t.round ≤ i.round + c.commit_history_rounds)
     unfolding covers
     covers-leads t e = certifies-reaches c.commit_history_rounds t e
 
-    pub leads-covers : (t : PointId) → LeadsTo c b i t → t.round ≤ i.round + c.commit_history_rounds → covers c b (some t) i ≡ true
+    pub leads-covers : (t : PointId) → LeadsTo c b i t → t.round ≤ i.round + c.commit_history_rounds → covers c b (Some t) i ≡ true
     unfolding covers
     leads-covers t l under = reaches-certifies t l c.commit_history_rounds under

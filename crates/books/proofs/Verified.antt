@@ -1,10 +1,10 @@
 -- What a pass of verification says of a point: it does not lie below genesis; at genesis it has both roles; above, the peer that a link
 -- goes through stands in its map.
+use Rattle.std.specs.Prelude.{None, Some}
 use Prim.Native.Nat.{ℕ, ◌≤◌, ◌<◌}
 use native.Mathlib.Omega.{arith}
 use mathlib.Core.Path.{◌≡◌, refl, sym, ap, ◌∙◌}
 use mathlib.Core.Bool.{true, false}
-use mathlib.Core.Option.{none, some}
 use mathlib.Core.List.{List, [], ◌∷◌}
 use lib.Dec.{eqb}
 use borrow.Author.Tests.{ltb-false, eq-eqb, ne_eqb, not-false}
@@ -36,7 +36,7 @@ genesis_stage g AnchorTrigger h = impossible (cc)
 genesis_stage Proof Genesis h = refl
 genesis_stage Trigger Genesis h = refl
 
-module _ (c : Settings) (s : Schedule) (p : PointInfo) (pass : verify c s p ≡ none) where
+module _ (c : Settings) (s : Schedule) (p : PointInfo) (pass : verify c s p ≡ None) where
   abbrev parts : List (List VerifyError)
   parts = concat (new_rows c s p) ∷ concat (well_formed_rows c p) ∷ concat (peer_rows c (scheduled c s p) p) ∷ []
 
@@ -76,7 +76,7 @@ module _ (c : Settings) (s : Schedule) (p : PointInfo) (pass : verify c s p ≡ 
       go Trigger x y = y
 
   -- the digest beside the peer that a link goes through
-  pub pass_link : c.genesis_round < p.id.round → (g : AnchorStageRole) → (d : ℕ) × (digest_safe p (through (anchor_link g p)) ≡ some d)
+  pub pass_link : c.genesis_round < p.id.round → (g : AnchorStageRole) → (d : ℕ) × (digest_safe p (through (anchor_link g p)) ≡ Some d)
   unfolding bad_link
   pass_link a g =
       some_of _ (not-false _ (or_left _ (target_too_new p.id.round (anchor_link g p)) (link_ok a g)))

@@ -1,11 +1,11 @@
 -- What a certificate covers, from round to round: an id is covered if it is the previous point's, or a dependency of a covered entry that
 -- passes a mark on. No heights are left in it, and no paths.
+use Rattle.std.specs.Prelude.{Some}
 use Prim.Native.Nat.{ℕ, ◌+◌, ◌-◌, ◌≤◌}
 use native.Mathlib.Omega.{arith}
 use mathlib.Core.Path.{◌≡◌, refl, ap, sym, ◌∙◌, subst}
 use mathlib.Core.Logic.{◌⊎◌, inl, inr}
 use mathlib.Core.Bool.{Bool, true, false, ◌&&◌, ◌||◌}
-use mathlib.Core.Option.{some}
 use mathlib.Core.List.Memᴰ
 use mathlib.Core.List.{List, [], ◌∷◌, Memᴰ}
 use lib.Dec.{leb}
@@ -101,12 +101,12 @@ module _ (c : Settings) (b : Book) (i : PointId) where
 module _ (c : Settings) (b : Book) (h : Shape b) (t i : PointId) where
   -- an entry hands the mark to i
   abbrev hands_on : Kept → Bool
-  hands_on k = has_deps c k && (is_dependency k.point i && covers c b (some t) k.point.id)
+  hands_on k = has_deps c k && (is_dependency k.point i && covers c b (Some t) k.point.id)
 
   abbrev within : Bool
   within = leb t.round (i.round + c.commit_history_rounds)
 
-  covers_handed : covers c b (some t) i ≡ true → (within && (same_id t i || any_kept hands_on b)) ≡ true
+  covers_handed : covers c b (Some t) i ≡ true → (within && (same_id t i || any_kept hands_on b)) ≡ true
   covers_handed e =
       let x = covers-leads c b h i t e in
       and_both within _ (le-leb _ _ x.1) (go x.1 (last_step c b i t x.0))
@@ -117,7 +117,7 @@ module _ (c : Settings) (b : Book) (h : Shape b) (t i : PointId) where
           let r = leads-covers c b h k.point.id t l (omega (arith, dependency-below c b h k p.0 i w d)) in
           or_second (same_id t i) _ (kept_any hands_on b k p.0 (and_both (has_deps c k) _ (has-deps c b k p) (and_both (is_dependency k.point i) _ (depends-is k.point i w d) r)))
 
-  handed_covers : (within && (same_id t i || any_kept hands_on b)) ≡ true → covers c b (some t) i ≡ true
+  handed_covers : (within && (same_id t i || any_kept hands_on b)) ≡ true → covers c b (Some t) i ≡ true
   handed_covers e = leads-covers c b h i t (go (or_cases (same_id t i) _ (and_right within _ e))) (leb-true _ _ (and_left within _ e))
     where
       go : (same_id t i ≡ true) ⊎ (any_kept hands_on b ≡ true) → LeadsTo c b i t
@@ -131,7 +131,7 @@ module _ (c : Settings) (b : Book) (h : Shape b) (t i : PointId) where
           (covers-leads c b h k.point.id t (and_right (is_dependency k.point i) _ r)).0
 
   pub covers-by_rounds :
-      covers c b (some t) i
+      covers c b (Some t) i
       ≡ (leb t.round (i.round + c.commit_history_rounds)
-      && (same_id t i || any_kept (λ k. has_deps c k && (is_dependency k.point i && covers c b (some t) k.point.id)) b))
+      && (same_id t i || any_kept (λ k. has_deps c k && (is_dependency k.point i && covers c b (Some t) k.point.id)) b))
   covers-by_rounds = both_ways _ _ covers_handed handed_covers

@@ -1,16 +1,15 @@
 -- Entries of a list of dependencies, as bytes that are read back: one of them, and one after the other.
+use Rattle.std.specs.Prelude.{Option, None, Some, is_some}
 use Prim.Native.Nat.{ℕ, zero, suc, ◌+◌, ◌≤◌}
 use native.Mathlib.Nat.{zero-add}
 use native.Mathlib.Omega.{arith}
 use mathlib.Core.Path.{◌≡◌, refl, ap, ◌∙◌}
 use mathlib.Core.Bool.{Bool, true, false, ◌&&◌}
-use mathlib.Core.Option.{Option, none, some}
 use mathlib.Core.List.{List, [], ◌∷◌, ◌++◌}
 use lib.ListN.{length, get_or}
 use lib.Seq.{take-append_seam, drop-append_seam}
 use lib.Dec.{leb, eqb}
 use borrow.Author.Tests.{ne_eqb}
-use Rattle.base.specs.Base.{is_some}
 use Rattle.base.proofs.Bool.{and_right, and_both, pick_true, pick-false}
 use Rattle.parts.specs.Bytes.{little_bytes, big_bytes}
 use Rattle.record.specs.Record.{field_row, field_ok}
@@ -37,11 +36,11 @@ use Rattle.books.proofs.RoundTrip.{flag-back, flag-fits, kept-shaped, field-ther
 -- bytes that are read as an entry, whatever stands after them, for a link or not
 pub record Written (e : List ℕ) (x : Entry) : Type 0 where
   pub tag : (rest : List ℕ) → get_or (e ++ rest) 0 0 ≡ 16
-  pub reads : (aim : Option AnchorStageRole) (front : ℕ) (rest : List ℕ) → entry_at aim front (e ++ rest) ≡ some (record { aim = aim; entry = x; size = front + length e })
+  pub reads : (aim : Option AnchorStageRole) (front : ℕ) (rest : List ℕ) → entry_at aim front (e ++ rest) ≡ Some (record { aim = aim; entry = x; size = front + length e })
 
 -- tag 16, and what is read after it
 pub tagged : (state reason : ℕ) (c f : Bool) (body : List ℕ) (x : DagPoint) →
-    ((rest : List ℕ) → read_state state reason (body ++ rest) ≡ some (record { point = x; size = length body })) →
+    ((rest : List ℕ) → read_state state reason (body ++ rest) ≡ Some (record { point = x; size = length body })) →
     Written (tag16 state c f reason ++ body) (record { state = x; certified = c; first_valid = f })
 unfolding entry_at
 tagged state reason c f body x h =
@@ -54,7 +53,7 @@ tagged state reason c f body x h =
 
 -- the record of an entry
 record_front_lem : (k : Kept) (rest : List ℕ) → KeptShape k → is_listable k.point ≡ true →
-    record_front (k.bytes ++ rest) ≡ some (record { point = k.point; size = length k.bytes })
+    record_front (k.bytes ++ rest) ≡ Some (record { point = k.point; size = length k.bytes })
 unfolding record_front
 record_front_lem k rest o l = rw (append-end k.bytes rest (kept-shaped k o), take-append_seam k.bytes rest, o.read, l)
 
@@ -67,12 +66,12 @@ id-length : (i : PointId) → length (id_bytes i) ≡ 68
 unfolding little_bytes big_bytes
 id-length i = refl
 
-pub lost-reads : (i : PointId) (rest : List ℕ) → IdFits i → read_state 4 0 (tag17 i ++ rest) ≡ some (record { point = dag.NotFound i; size = length (tag17 i) })
+pub lost-reads : (i : PointId) (rest : List ℕ) → IdFits i → read_state 4 0 (tag17 i ++ rest) ≡ Some (record { point = dag.NotFound i; size = length (tag17 i) })
 unfolding read_state
 lost-reads i rest f = rw ((id-state i rest f).0, (id-state i rest f).1, id-length i)
 
 ill-formed-reads : (i : PointId) (n : ℕ) (rest : List ℕ) → IdFits i → (leb 1 n && leb n 16) ≡ true →
-    read_state 3 n (tag17 i ++ rest) ≡ some (record { point = dag.IllFormed i n; size = length (tag17 i) })
+    read_state 3 n (tag17 i ++ rest) ≡ Some (record { point = dag.IllFormed i n; size = length (tag17 i) })
 unfolding read_state
 ill-formed-reads i n rest f s = rw (s, (id-state i rest f).0, (id-state i rest f).1, id-length i)
 
@@ -81,12 +80,12 @@ abbrev tag18 : InvalidDependency → List ℕ
 tag18 d = 18 ∷ 69 ∷ 0 ∷ (id_bytes d.to ++ (d.reason ∷ []))
 
 module _ (k : Kept) (rest : List ℕ) (o : KeptShape k) where
-  valid-reads : is_listable k.point ≡ true → read_state 0 0 (k.bytes ++ rest) ≡ some (record { point = dag.Valid k.point; size = length k.bytes })
+  valid-reads : is_listable k.point ≡ true → read_state 0 0 (k.bytes ++ rest) ≡ Some (record { point = dag.Valid k.point; size = length k.bytes })
   unfolding read_state
   valid-reads l = rw (record_front_lem k rest o l, zero-add (length k.bytes))
 
   invalid-reads : (n : ℕ) → is_listable k.point ≡ true → is_some (dag_round n) ≡ true →
-      read_state 2 n (k.bytes ++ rest) ≡ some (record { point = dag.Invalid k.point n; size = length k.bytes })
+      read_state 2 n (k.bytes ++ rest) ≡ Some (record { point = dag.Invalid k.point n; size = length k.bytes })
   unfolding read_state
   invalid-reads n l r = rw (r, record_front_lem k rest o l, zero-add (length k.bytes))
 
@@ -97,7 +96,7 @@ module _ (k : Kept) (rest : List ℕ) (o : KeptShape k) where
         rw (field-there 18 69 [] (id_bytes d.to ++ (d.reason ∷ (k.bytes ++ rest))) (omega arith), ap (λ (i : PointId). i.round) (id-back 18 69 0 d.to (d.reason ∷ (k.bytes ++ rest)) f)) s
 
     trans_invalid-reads : is_listable k.point ≡ true → is_root (tag18 d ++ (k.bytes ++ rest)) ≡ true →
-        read_state 1 0 ((tag18 d ++ k.bytes) ++ rest) ≡ some (record { point = dag.TransInvalid k.point d.to d.reason; size = length (tag18 d ++ k.bytes) })
+        read_state 1 0 ((tag18 d ++ k.bytes) ++ rest) ≡ Some (record { point = dag.TransInvalid k.point d.to d.reason; size = length (tag18 d ++ k.bytes) })
     unfolding read_state little_bytes big_bytes
     trans_invalid-reads l r =
         let e : 72 + length k.bytes ≡ length (tag18 d ++ k.bytes) = omega arith in
@@ -121,7 +120,7 @@ entry-written k o c f (IllFormed n) s =
 -- what bytes are read as, with at most n entries
 pub record Read (n : ℕ) (after : Bool) (s : List ℕ) (es : List Entry) (ts : List IndirectEntry) : Type 0 where
   pub list : List Listed
-  pub reads : list_from n after s ≡ some list
+  pub reads : list_from n after s ≡ Some list
   pub direct : directs list ≡ es
   pub indirect : indirects list ≡ ts
 
@@ -139,13 +138,13 @@ filled [] t h = absurd (omega arith)
 filled (x ∷ s) t h = ne_eqb (suc (length s)) 0 (λ e. omega arith)
 
 -- one more entry in front
-more-reads : (n : ℕ) (after : Bool) (e s : List ℕ) (x : Listed) (l : List Listed) (t : ℕ) → get_or (e ++ s) 0 0 ≡ suc t → read_entry (e ++ s) ≡ some x → x.size ≡ length e →
-    is_in_order after x.aim ≡ true → list_from n (is_some x.aim) s ≡ some l → list_from (suc n) after (e ++ s) ≡ some (x ∷ l)
+more-reads : (n : ℕ) (after : Bool) (e s : List ℕ) (x : Listed) (l : List Listed) (t : ℕ) → get_or (e ++ s) 0 0 ≡ suc t → read_entry (e ++ s) ≡ Some x → x.size ≡ length e →
+    is_in_order after x.aim ≡ true → list_from n (is_some x.aim) s ≡ Some l → list_from (suc n) after (e ++ s) ≡ Some (x ∷ l)
 unfolding list_from
 more-reads n after e s x l t b r z i h = rw (filled (e ++ s) t b, r, i, z, drop-append_seam e s, h)
 
 -- an entry that begins with tag 16
-read-direct : (s : List ℕ) → get_or s 0 0 ≡ 16 → read_entry s ≡ entry_at none 0 s
+read-direct : (s : List ℕ) → get_or s 0 0 ≡ 16 → read_entry s ≡ entry_at None 0 s
 unfolding read_entry
 read-direct s t = pick-false (eqb (get_or s 0 0) 19) _ _ (ap (λ (y : ℕ). eqb y 19) t)
 
@@ -154,11 +153,11 @@ pub direct-more : (e : List ℕ) (x : Entry) (m : ℕ) (s : List ℕ) (es : List
 unfolding directs indirects
 direct-more e x m s es ts w r zero h = absurd (omega arith)
 direct-more e x m s es ts w r (suc n) h =
-    let y : Listed = record { aim = none; entry = x; size = 0 + length e } in
+    let y : Listed = record { aim = None; entry = x; size = 0 + length e } in
     let z = r n (omega arith) in
     record {
       list = y ∷ z.list;
-      reads = more-reads n false e s y z.list 15 (w.tag s) (read-direct (e ++ s) (w.tag s) ∙ w.reads none 0 s) (zero-add (length e)) refl z.reads;
+      reads = more-reads n false e s y z.list 15 (w.tag s) (read-direct (e ++ s) (w.tag s) ∙ w.reads None 0 s) (zero-add (length e)) refl z.reads;
       direct = ap (λ (l : List Entry). x ∷ l) z.direct;
       indirect = z.indirect;
     }
@@ -171,12 +170,12 @@ abbrev tag19 : AnchorStageRole → List ℕ
 tag19 g = 19 ∷ 1 ∷ 0 ∷ role_number g ∷ []
 
 -- one that begins with tag 19
-read-indirect : (g : AnchorStageRole) (s : List ℕ) → read_entry (tag19 g ++ s) ≡ entry_at (some g) 4 s
+read-indirect : (g : AnchorStageRole) (s : List ℕ) → read_entry (tag19 g ++ s) ≡ entry_at (Some g) 4 s
 unfolding read_entry
 read-indirect g s =
-    pick_true (field_ok (field_row 19 1 1) (tag19 g ++ s) 0 && leb (role_number g) 1) _ none
+    pick_true (field_ok (field_row 19 1 1) (tag19 g ++ s) 0 && leb (role_number g) 1) _ None
     (and_both (field_ok (field_row 19 1 1) (tag19 g ++ s) 0) _ (field-there 19 1 [] (role_number g ∷ s) (omega arith)) (role-back g).0)
-    ∙ ap (λ (r : AnchorStageRole). entry_at (some r) 4 s) (role-back g).1
+    ∙ ap (λ (r : AnchorStageRole). entry_at (Some r) 4 s) (role-back g).1
 
 -- after it only such entries stand
 pub indirect-more : (g : AnchorStageRole) (e : List ℕ) (x : Entry) (m : ℕ) (s : List ℕ) (ts : List IndirectEntry) → Written e x → ((after : Bool) → Reads m after s [] ts) →
@@ -184,15 +183,15 @@ pub indirect-more : (g : AnchorStageRole) (e : List ℕ) (x : Entry) (m : ℕ) (
 unfolding directs indirects
 indirect-more g e x m s ts w r after zero h = absurd (omega arith)
 indirect-more g e x m s ts w r after (suc n) h =
-    let y : Listed = record { aim = some g; entry = x; size = 4 + length e } in
+    let y : Listed = record { aim = Some g; entry = x; size = 4 + length e } in
     let z = r true n (omega arith) in
     record {
       list = y ∷ z.list;
-      reads = more-reads n after (tag19 g ++ e) s y z.list 18 refl (read-indirect g (e ++ s) ∙ w.reads (some g) 4 s) (omega arith) (any after) z.reads;
+      reads = more-reads n after (tag19 g ++ e) s y z.list 18 refl (read-indirect g (e ++ s) ∙ w.reads (Some g) 4 s) (omega arith) (any after) z.reads;
       direct = z.direct;
       indirect = ap (λ (l : List IndirectEntry). record { role = g; entry = x } ∷ l) z.indirect;
     }
   where
-    any : (after : Bool) → is_in_order after (some g) ≡ true
+    any : (after : Bool) → is_in_order after (Some g) ≡ true
     any true = refl
     any false = refl

@@ -1,6 +1,5 @@
 -- The two calls, on bytes: opening and offering.
-use Rattle.std.specs.Prelude.{ℕ, zero, suc, ◌≤◌, ◌⊎◌, ◌||◌, List, [], length, ltb}
-use Rattle.std.proofs.Math.Option.{Option, none, some}
+use Rattle.std.specs.Prelude.{ℕ, zero, suc, ◌≤◌, ◌⊎◌, ◌||◌, List, [], length, ltb, Option, None, Some}
 use Rattle.base.specs.Base.{pick}
 use Rattle.parts.specs.Limits.{entries_start, longest_book}
 use Rattle.schedule.specs.Settings.{Settings, read_settings}
@@ -12,8 +11,8 @@ use Rattle.books.specs.Layout.{book_bytes, read_book}
 -- ---- opening: 1, then 5, else 0
 
 abbrev pub open_number_with : Option Settings → ℕ → ℕ
-open_number_with none len = 1
-open_number_with (some c) len = pick (ltb len entries_start || ltb longest_book len) 5 0
+open_number_with None len = 1
+open_number_with (Some c) len = pick (ltb len entries_start || ltb longest_book len) 5 0
 
 unfoldable pub open_number : List ℕ → ℕ → ℕ
 unfolding read_settings
@@ -43,8 +42,8 @@ abbrev pub in_bytes : Result Opened → Result (List ℕ)
 in_bytes x = record { answer = x.answer; peers = x.peers; after = laid_out x.after }
 
 abbrev pub offer_to : List ℕ → Offer → Option Opened → Result (List ℕ)
-offer_to s o none = record { answer = Number 10; peers = o.peers; after = s }
-offer_to s o (some z) = in_bytes (offer z o)
+offer_to s o None = record { answer = Number 10; peers = o.peers; after = s }
+offer_to s o (Some z) = in_bytes (offer z o)
 
 unfoldable pub offer_bytes : List ℕ → Offer → Result (List ℕ)
 unfolding read_book offer laid_out

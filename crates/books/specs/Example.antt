@@ -1,7 +1,6 @@
 -- One book that the statement on found books speaks of: twelve offers, the answer to each, and the nine entries that they leave. There
 -- are valid, trans-invalid, invalid, ill-formed and certified ones, numbers, and a failed verification.
-use Rattle.std.specs.Prelude.{ℕ, ◌≤◌, ◌≡◌, Bool, true, false, List, [], ◌∷◌, ◌++◌, map, length, replicate}
-use Rattle.std.proofs.Math.Option.{some}
+use Rattle.std.specs.Prelude.{ℕ, ◌≤◌, ◌≡◌, Bool, true, false, List, [], ◌∷◌, ◌++◌, map, length, replicate, Some}
 use Rattle.base.specs.Base.{concat}
 use Rattle.parts.specs.Bytes.{big_bytes, little_bytes}
 use Rattle.parts.specs.Limits.{entries_start, peers_room, longest_book}
@@ -272,7 +271,7 @@ expected_slice = settings_bytes conf ++ (concat expected_entries ++ replicate 7 
 
 pub record Example : Type 0 where
   -- what the statement asks of settings, slice and offers
-  pub readable : read_settings (settings_bytes conf) ≡ some conf
+  pub readable : read_settings (settings_bytes conf) ≡ Some conf
   pub room : entries_start ≤ length slice
   pub short : length slice ≤ longest_book
   pub bytes : AreBytes offers

@@ -1,7 +1,6 @@
 -- Following an anchor link through a book (document 01: "A step goes there, the next along its link in that role, up to the target,
 -- which is its own Top, or an Invalid point").
-use Rattle.std.specs.Prelude.{ℕ, zero, suc, ◌≡◌, ◌⊎◌, Bool, true, false, not, T}
-use Rattle.std.proofs.Math.Option.{some}
+use Rattle.std.specs.Prelude.{ℕ, zero, suc, ◌≡◌, ◌⊎◌, Bool, true, false, not, T, Some}
 use Rattle.point.specs.Point.{PointId, PointInfo, is_anchor_stage, source, target}
 use Rattle.point.specs.declared.data.AnchorStageRole.{AnchorStageRole}
 use Rattle.books.specs.Kept.{Status, Valid, TransInvalid, Invalid, IllFormed, Kept, Book, find_kept}
@@ -35,4 +34,4 @@ IsPassed g to k = (target g k.point ≡ to) × (T (is_usable k.status) × T (not
 abbrev pub Way : Book → AnchorStageRole → PointId → ℕ → PointInfo → Kept → Type 0
 Way b g to zero p e = ⊥
 Way b g to (suc n) p e =
-    (k : Kept) × ((find_kept b (source g p) ≡ some k) × ((k ≡ e) ⊎ (IsPassed g to k × Way b g to n k.point e)))
+    (k : Kept) × ((find_kept b (source g p) ≡ Some k) × ((k ≡ e) ⊎ (IsPassed g to k × Way b g to n k.point e)))

@@ -1,7 +1,6 @@
 -- The statement on found books: one claim about every list of offers since the opening. Quoted are docs/GUIDE.md's words for the
 -- demand, and document 01's for the table of numbers, the book and its rule for marks, which document 02 makes wider.
-use Rattle.std.specs.Prelude.{ℕ, ◌+◌, ◌-◌, ◌≤◌, ◌<◌, ◌≡◌, ◌⊎◌, ◌↔◌, Bool, true, false, not, length, T, ltb, eqb}
-use Rattle.std.proofs.Math.Option.{some}
+use Rattle.std.specs.Prelude.{ℕ, ◌+◌, ◌-◌, ◌≤◌, ◌<◌, ◌≡◌, ◌⊎◌, ◌↔◌, Bool, true, false, not, length, T, ltb, eqb, Some}
 use mathlib.Core.List.{List, [], ◌∷◌, ◌++◌, map, Memᴰ}
 use Rattle.parts.specs.Bytes.{Bytes}
 use Rattle.parts.specs.Limits.{entries_start, tag33_length, most_kept, longest_book}
@@ -50,7 +49,7 @@ left_in b = map (λ k. record { bytes = k.bytes; status = k.status }) b
 
 -- an earlier offer of an id was kept
 abbrev pub WasKept : List Left → PointId → Type 0
-WasKept l i = (x : Left) × (Memᴰ x l × ((p : PointInfo) × ((read_point x.bytes ≡ some p) × (p.id ≡ i))))
+WasKept l i = (x : Left) × (Memᴰ x l × ((p : PointInfo) × ((read_point x.bytes ≡ Some p) × (p.id ≡ i))))
 
 unfoldable pub bytes_taken : List Left → ℕ
 bytes_taken [] = 0
@@ -91,7 +90,7 @@ pub record Marks (m : Moment Opened) (i : PointId) : Type 0 where
   pub given : (v : Verdict) × (m.result.answer ≡ Given v)
   pub kept : (k : Kept) × (Memᴰ k m.before.book × (k.point.id ≡ i))
   pub prev : PointId
-  pub previous : prev_id input.point ≡ some prev
+  pub previous : prev_id input.point ≡ Some prev
   pub depth : prev.round ≤ i.round + input.settings.commit_history_rounds
   pub chain : LeadsTo input.settings m.before.book i prev
 
@@ -198,7 +197,7 @@ pub record NextOffer (found : Run (List ℕ)) (plain : Run Opened) (o : Offer) (
   pub unchanged : (n : ℕ) → x.answer ≡ Number n → IsOfferNumber n × ((x.after ≡ found.last) × (x.peers ≡ o.peers))
   -- "demand 2's verdict, reason and unknown peers": those of the public call `judge`, presence 3, over the list that the entries and
   -- the marks of this moment give, with the marks that this offer makes. The list consists of bytes.
-  pub judged : (p : PointInfo) → read_point o.bytes ≡ some p → (x.answer ≡ Number 11 → ⊥) → (x.answer ≡ Number 12 → ⊥) →
+  pub judged : (p : PointInfo) → read_point o.bytes ≡ Some p → (x.answer ≡ Number 11 → ⊥) → (x.answer ≡ Number 12 → ⊥) →
       (marked : PointId → Bool) → Tells marked plain.last.book (with_next plain o) →
       Bytes (list_for plain.last.book marked p)
       × ((x.answer ≡ judge_with o.leader 3 (list_for plain.last.book marked p) (tested_as plain.last.bytes o))
@@ -206,12 +205,12 @@ pub record NextOffer (found : Run (List ℕ)) (plain : Run Opened) (o : Offer) (
   -- there is a test that tells these marks
   pub told : (marked : PointId → Bool) × Tells marked plain.last.book (with_next plain o)
   -- a point above genesis is Valid only if each bad one that it depends on is marked, with the marks that this offer makes
-  pub clean : (p : PointInfo) → read_point o.bytes ≡ some p → x.answer ≡ Given verdict.Valid →
+  pub clean : (p : PointInfo) → read_point o.bytes ≡ Some p → x.answer ≡ Given verdict.Valid →
       plain.last.settings.genesis_round < p.id.round →
       (k : Kept) → Memᴰ k plain.last.book → (t : Through) → DependsOn p k.point.id t →
       T (is_bad plain.last.settings p.id.round k.status) → EverMarked (with_next plain o) k.point.id
   -- and is TransInvalid only by one that is not
-  pub caught : (p : PointInfo) → read_point o.bytes ≡ some p → (d : InvalidDependency) → x.answer ≡ Given (verdict.TransInvalid d) →
+  pub caught : (p : PointInfo) → read_point o.bytes ≡ Some p → (d : InvalidDependency) → x.answer ≡ Given (verdict.TransInvalid d) →
       Caught plain.last.settings plain.last.book (with_next plain o) p d
 
 -- of a slice of `len` bytes that was opened with `settings`, which say c, after a list of offers to it: `found` is the run over its
@@ -221,15 +220,15 @@ pub record FoundBook (settings : List ℕ) (c : Settings) (len : ℕ) (found : R
   -- plain book's"
   pub same : found ≡ run_in_bytes plain
   -- the bytes read as that book, "behind the same settings in as long a slice": those that were given
-  pub reads : read_book found.last ≡ some plain.last
+  pub reads : read_book found.last ≡ Some plain.last
   pub stays : (plain.last.bytes ≡ settings) × ((plain.last.settings ≡ c) × (plain.last.length ≡ len))
   pub long : length found.last ≡ len
   -- "no id twice", "at most 4,096 entries"; each entry's point is the one that its record says
   pub once : NoIdTwice plain.last.book
   pub few : length plain.last.book ≤ most_kept
-  pub says : (k : Kept) → Memᴰ k plain.last.book → read_point k.bytes ≡ some k.point
+  pub says : (k : Kept) → Memᴰ k plain.last.book → read_point k.bytes ≡ Some k.point
   -- by an id the entry of that id is found, and nothing else
-  pub finds : (i : PointId) (k : Kept) → (find_kept plain.last.book i ≡ some k) ↔ (Memᴰ k plain.last.book × (k.point.id ≡ i))
+  pub finds : (i : PointId) (k : Kept) → (find_kept plain.last.book i ≡ Some k) ↔ (Memᴰ k plain.last.book × (k.point.id ≡ i))
   -- "every offer that got no number and isn't Fail left one entry, in order", with the verdict that it got
   pub kept : left_in plain.last.book ≡ all_left found.moments
   -- kept dependencies, links and times
@@ -243,7 +242,7 @@ pub record FoundBook (settings : List ℕ) (c : Settings) (len : ℕ) (found : R
 -- and refused and Fail offers stand in the list like any other
 abbrev pub FoundBooks : Type 0
 FoundBooks =
-    (settings slice : List ℕ) (c : Settings) (l : List Offer) → read_settings settings ≡ some c →
+    (settings slice : List ℕ) (c : Settings) (l : List Offer) → read_settings settings ≡ Some c →
     entries_start ≤ length slice → length slice ≤ longest_book → AreBytes l →
     (open_number settings (length slice) ≡ 0)
     × FoundBook settings c (length slice) (run offer_bytes (open_bytes settings slice) l) (run offer (opened settings c (length slice)) l)

@@ -1,8 +1,7 @@
 -- The plain book (document 01, "The book"): a list of entries, what a mark does to them, and the slice that they stand in. Offer.antt
 -- says when marks are made, Spread.antt how far they reach.
-use Rattle.std.specs.Prelude.{ℕ, Bool, false, ◌||◌, List, [], ◌∷◌}
-use Rattle.std.proofs.Math.Option.{Option, none, some}
-use Rattle.base.specs.Base.{pick, is_some}
+use Rattle.std.specs.Prelude.{ℕ, Bool, false, ◌||◌, List, [], ◌∷◌, Option, None, Some, is_some}
+use Rattle.base.specs.Base.{pick}
 use Rattle.point.specs.Point.{PointId, PointInfo, same_id}
 use Rattle.schedule.specs.Settings.{Settings}
 use Rattle.reasons.specs.Invalid.{InvalidDependency}
@@ -28,8 +27,8 @@ Book = List Kept
 -- the entry of an id, if it is kept
 unfoldable pub find_kept : Book → PointId → Option Kept
 unfolding same_id
-find_kept [] i = none
-find_kept (k ∷ b) i = pick (same_id k.point.id i) (some k) (find_kept b i)
+find_kept [] i = None
+find_kept (k ∷ b) i = pick (same_id k.point.id i) (Some k) (find_kept b i)
 
 -- "no id twice"
 unfoldable pub is_twice : Book → Bool

@@ -1,8 +1,7 @@
 -- The book's bytes (document 01, "The book"): settings first, then entries of a point record and tag 33, then zeros. What bytes mean,
 -- and how a book is laid out.
-use Rattle.std.specs.Prelude.{ℕ, zero, suc, ◌+◌, ◌-◌, Bool, true, ◌&&◌, List, [], ◌∷◌, ◌++◌, length, get_or, take, drop, replicate, leb, eqb}
-use Rattle.std.proofs.Math.Option.{Option, none, some, map}
-use Rattle.base.specs.Base.{pick, is_some, and_then}
+use Rattle.std.specs.Prelude.{ℕ, zero, suc, ◌+◌, ◌-◌, Bool, true, ◌&&◌, List, [], ◌∷◌, ◌++◌, length, get_or, take, drop, replicate, leb, eqb, Option, None, Some, option_map, is_some}
+use Rattle.base.specs.Base.{pick, and_then}
 use Rattle.parts.specs.Bytes.{id_at, big_bytes, little_bytes}
 use Rattle.parts.specs.Limits.{first_round, last_round, settings_length, entries_start, tag33_length, most_kept, longest_book}
 use Rattle.record.specs.Record.{field_row, field_ok, record_end}
@@ -75,12 +74,12 @@ is_root_ok t =
 unfoldable pub read_status : List ℕ → Option Status
 unfolding is_zeros is_root_ok point_id_at dag_round
 read_status t =
-    pick (eqb (get_or t 0 0) 0) (pick (is_zeros (drop 2 t)) (some Valid) none)
-    (pick (eqb (get_or t 0 0) 1) (pick (eqb (get_or t 2 0) 0 && is_root_ok t) (some (TransInvalid (root_at t))) none)
-    (pick (eqb (get_or t 0 0) 2) (pick (is_some (dag_round (get_or t 2 0)) && is_zeros (drop 3 t)) (some (Invalid (get_or t 2 0))) none)
+    pick (eqb (get_or t 0 0) 0) (pick (is_zeros (drop 2 t)) (Some Valid) None)
+    (pick (eqb (get_or t 0 0) 1) (pick (eqb (get_or t 2 0) 0 && is_root_ok t) (Some (TransInvalid (root_at t))) None)
+    (pick (eqb (get_or t 0 0) 2) (pick (is_some (dag_round (get_or t 2 0)) && is_zeros (drop 3 t)) (Some (Invalid (get_or t 2 0))) None)
     (pick (eqb (get_or t 0 0) 3)
-    (pick ((leb 1 (get_or t 2 0) && leb (get_or t 2 0) 16) && is_zeros (drop 3 t)) (some (IllFormed (get_or t 2 0))) none)
-    none)))
+    (pick ((leb 1 (get_or t 2 0) && leb (get_or t 2 0) 16) && is_zeros (drop 3 t)) (Some (IllFormed (get_or t 2 0))) None)
+    None)))
 
 -- "an entry lies outside the domain": every record's round and times, and "In a record listed in state 0, 1 or 2, a direct link names
 -- a peer of its map"
@@ -95,7 +94,7 @@ unfoldable pub read_kept : List ℕ → PointInfo → List ℕ → Option Kept
 unfolding read_status is_listable in_domain
 read_kept bytes q t =
     pick (leb (get_or t 1 0) 1) (and_then (read_status t) (λ s.
-    pick (is_keepable q s) (some (record { bytes = bytes; point = q; status = s; certified = eqb (get_or t 1 0) 1 })) none)) none
+    pick (is_keepable q s) (Some (record { bytes = bytes; point = q; status = s; certified = eqb (get_or t 1 0) 1 })) None)) None
 
 -- an entry at the front of a slice, and how many bytes it takes
 pub record KeptFront : Type 0 where
@@ -106,16 +105,16 @@ unfoldable pub kept_front : List ℕ → Option KeptFront
 unfolding record_end read_point field_ok read_kept
 kept_front s =
     and_then (record_end s) (λ n. and_then (read_point (take n s)) (λ q. pick (field_ok (field_row 33 105 105) s n)
-    (map (λ k. record { kept = k; size = n + tag33_length }) (read_kept (take n s) q (take 105 (drop (n + 3) s)))) none))
+    (option_map (λ k. record { kept = k; size = n + tag33_length }) (read_kept (take n s) q (take 105 (drop (n + 3) s)))) None))
 
 -- "a 0 where an entry would begin, or the slice's end, ends the entries", and zeros stand after them; at most n entries
 unfoldable pub entries_from : ℕ → List ℕ → Option Book
 unfolding is_zeros kept_front
-entries_from zero s = pick (is_zeros s) (some []) none
+entries_from zero s = pick (is_zeros s) (Some []) None
 entries_from (suc n) s =
     pick (eqb (get_or s 0 0) 0)
-    (pick (is_zeros s) (some []) none)
-    (and_then (kept_front s) (λ x. map (λ b. x.kept ∷ b) (entries_from n (drop x.size s))))
+    (pick (is_zeros s) (Some []) None)
+    (and_then (kept_front s) (λ x. option_map (λ b. x.kept ∷ b) (entries_from n (drop x.size s))))
 
 -- number 10: "bytes don't read as settings, entries (states 0 to 3) and zeros; or an id stands twice, or over 4,096 entries, or an
 -- entry lies outside the domain, or the slice is over 16,777,216 bytes"
@@ -124,5 +123,5 @@ unfolding read_settings entries_from is_twice
 read_book s =
     pick (leb (length s) longest_book)
     (and_then (read_settings (take settings_length s)) (λ c. and_then (entries_from most_kept (drop entries_start s)) (λ b.
-    pick (is_twice b) none (some (record { bytes = take settings_length s; settings = c; length = length s; book = b })))))
-    none
+    pick (is_twice b) None (Some (record { bytes = take settings_length s; settings = c; length = length s; book = b })))))
+    None

@@ -1,7 +1,6 @@
 -- The list of dependencies that the entries of a book and their marks give (document 01, "The book"), as bytes that `judge` takes.
-use Rattle.std.specs.Prelude.{ℕ, ◌-◌, Bool, true, false, ◌&&◌, List, [], ◌∷◌, ◌++◌, ltb}
-use Rattle.std.proofs.Math.Option.{Option, none, some}
-use Rattle.base.specs.Base.{pick, is_some}
+use Rattle.std.specs.Prelude.{ℕ, ◌-◌, Bool, true, false, ◌&&◌, List, [], ◌∷◌, ◌++◌, ltb, Option, None, Some, is_some}
+use Rattle.base.specs.Base.{pick}
 use Rattle.map.specs.Rows.{Pair}
 use Rattle.point.specs.Point.{PointId, AnchorLink, Direct, Indirect, PointInfo, prev_digest, prev_id, target, same_id}
 use Rattle.point.specs.declared.data.AnchorStageRole.{AnchorStageRole}
@@ -46,8 +45,8 @@ entry_of b marked k = entry_as k (marked k.point.id) (is_first_valid b k.point.i
 
 -- "unkept ids are not found"; the previous point "counts as certified even if not found"
 abbrev pub entry_for : Book → (PointId → Bool) → PointInfo → PointId → Option Kept → List ℕ
-entry_for b marked p i none = tag16 4 (is_id (prev_id p) i) false 0 ++ tag17 i
-entry_for b marked p i (some k) = entry_of b marked k
+entry_for b marked p i None = tag16 4 (is_id (prev_id p) i) false 0 ++ tag17 i
+entry_for b marked p i (Some k) = entry_of b marked k
 
 unfoldable pub of_pairs : Book → (PointId → Bool) → PointInfo → ℕ → List Pair → List ℕ
 unfolding find_kept prev_id is_first_valid

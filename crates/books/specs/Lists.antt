@@ -1,8 +1,7 @@
 -- The lists that the book builds for a point (document 01, "The book"): "witness rising, includes rising, then, with no previous
 -- digest, kept versions of that author at r−1 in book order; indirect targets with the higher round first, proof first on a tie".
-use Rattle.std.specs.Prelude.{ℕ, ◌-◌, Bool, true, false, ◌&&◌, List, [], ◌∷◌, ◌++◌, ltb}
-use Rattle.std.proofs.Math.Option.{Option, none, some}
-use Rattle.base.specs.Base.{pick, is_some}
+use Rattle.std.specs.Prelude.{ℕ, ◌-◌, Bool, true, false, ◌&&◌, List, [], ◌∷◌, ◌++◌, ltb, Option, None, Some, is_some}
+use Rattle.base.specs.Base.{pick}
 use Rattle.map.specs.Rows.{Pair}
 use Rattle.point.specs.Point.{PointId, AnchorLink, Direct, Indirect, PointInfo, prev_digest, prev_id}
 use Rattle.point.specs.declared.data.AnchorStageRole.{AnchorStageRole}
@@ -30,9 +29,9 @@ is_of round author k = is_by round author k.point.id
 
 -- "First valid is the earliest Valid entry of that author and round"
 unfoldable pub first_valid : Book → ℕ → ℕ → Option PointId
-first_valid [] round author = none
+first_valid [] round author = None
 first_valid (k ∷ b) round author =
-    pick (is_valid k.status && is_of round author k) (some k.point.id) (first_valid b round author)
+    pick (is_valid k.status && is_of round author k) (Some k.point.id) (first_valid b round author)
 
 unfoldable pub kept_entry : Book → Kept → Entry
 unfolding first_valid
@@ -45,8 +44,8 @@ kept_entry b k =
 
 -- "unkept ids are not found"; the previous point "counts as certified even if not found"
 abbrev pub entry_with : Book → PointInfo → PointId → Option Kept → Entry
-entry_with b p i none = record { state = dag.NotFound i; certified = is_id (prev_id p) i; first_valid = false }
-entry_with b p i (some k) = kept_entry b k
+entry_with b p i None = record { state = dag.NotFound i; certified = is_id (prev_id p) i; first_valid = false }
+entry_with b p i (Some k) = kept_entry b k
 
 unfoldable pub lookup : Book → PointInfo → PointId → Entry
 unfolding kept_entry prev_id find_kept

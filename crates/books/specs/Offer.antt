@@ -1,8 +1,7 @@
 -- What an offer does to the plain book (document 01, "The book"): "It is fed each offer's schedule, leader flag, record and peer
 -- buffer alone, and gives the table's number, or demand 2's verdict, reason and unknown peers over the lists built of its entries".
-use Rattle.std.specs.Prelude.{ℕ, ◌+◌, ◌-◌, Bool, true, false, ◌&&◌, ◌||◌, List, [], ◌∷◌, ◌++◌, length, leb, ltb, eqb}
-use Rattle.std.proofs.Math.Option.{some}
-use Rattle.base.specs.Base.{pick, is_some}
+use Rattle.std.specs.Prelude.{ℕ, ◌+◌, ◌-◌, Bool, true, false, ◌&&◌, ◌||◌, List, [], ◌∷◌, ◌++◌, length, leb, ltb, eqb, Some, is_some}
+use Rattle.base.specs.Base.{pick}
 use Rattle.parts.specs.Limits.{first_round, last_round, entries_start, tag33_length, most_kept}
 use Rattle.point.specs.Point.{PointInfo, prev_id}
 use Rattle.point.specs.Reading.{read_point}
@@ -64,7 +63,7 @@ tested_room z bytes (admitted i) =
 
 -- the numbers 2 to 5, of an offer to a book with these settings
 abbrev pub input_tested : Settings → Offer → Tested
-input_tested c o = tested_with (some c) (read_schedule o.schedule) (read_point o.bytes) (leb o.leader 1) (length o.peers)
+input_tested c o = tested_with (Some c) (read_schedule o.schedule) (read_point o.bytes) (leb o.leader 1) (length o.peers)
 
 -- "An offer tests 10, then 2 to 5, 11, 12, then judges": 10 is tested of the book's bytes
 unfoldable pub offer_tested : Opened → Offer → Tested

@@ -1,7 +1,6 @@
 -- How far a certificate spreads (document 02, U3: "from the previous point to kept dependencies by the rule, and to the depth, that
 -- cert.rs sets"). Quoted is cert.rs.
-use Rattle.std.specs.Prelude.{ℕ, zero, suc, ◌-◌, Bool, true, false, not, ◌&&◌, ◌||◌, List, [], ◌∷◌, ltb}
-use Rattle.std.proofs.Math.Option.{Option, none, some}
+use Rattle.std.specs.Prelude.{ℕ, zero, suc, ◌-◌, Bool, true, false, not, ◌&&◌, ◌||◌, List, [], ◌∷◌, ltb, Option, None, Some}
 use Rattle.map.specs.Rows.{Pair}
 use Rattle.point.specs.Point.{PointId, same_id}
 use Rattle.schedule.specs.Settings.{Settings}
@@ -26,8 +25,8 @@ any_pair test round (q ∷ l) = test (pair_id round q) || any_pair test round l
 
 -- `traverse_certify`: through an entry, if it is kept, to its `includes`, one round down, and to its `witness`, two
 abbrev pub traverse : Settings → (PointId → Bool) → (PointId → Bool) → Option Kept → Bool
-traverse c includes witness none = false
-traverse c includes witness (some k) =
+traverse c includes witness None = false
+traverse c includes witness (Some k) =
     has_deps c k
     && (any_pair includes (k.point.id.round - 1) k.point.includes || any_pair witness (k.point.id.round - 2) k.point.witness)
 
@@ -46,5 +45,5 @@ certifies c b (suc (suc n)) t i =
 -- for current point"
 unfoldable pub covers : Settings → Book → Option PointId → PointId → Bool
 unfolding certifies
-covers c b none i = false
-covers c b (some prev) i = certifies c b (suc c.commit_history_rounds) prev i
+covers c b None i = false
+covers c b (Some prev) i = certifies c b (suc c.commit_history_rounds) prev i

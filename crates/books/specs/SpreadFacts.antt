@@ -1,7 +1,6 @@
 -- How far marks spread in small books, computed: each fact says of every entry, in order, whether it is marked. And what the wider marks do
 -- to a verdict.
-use Rattle.std.specs.Prelude.{ℕ, ◌≡◌, Bool, true, false, List, [], ◌∷◌, map}
-use Rattle.std.proofs.Math.Option.{Option, none, some}
+use Rattle.std.specs.Prelude.{ℕ, ◌≡◌, Bool, true, false, List, [], ◌∷◌, map, Option, None, Some}
 use Rattle.map.specs.Rows.{Pair}
 use Rattle.point.specs.Point.{PointId, Includes, Witness, Direct, Indirect, PointInfo, prev_id}
 use Rattle.point.specs.declared.data.PointRole.TheVariants.{Regular}
@@ -98,29 +97,29 @@ earlier =
 
 pub record SpreadFacts : Type 0 where
   -- "its direct `includes`" with one round, their includes with two, the witness of an include with three
-  pub one : marks_of 1 ladder (some (at 15 1)) ≡ false ∷ false ∷ false ∷ true ∷ false ∷ true ∷ []
-  pub two : marks_of 2 ladder (some (at 15 1)) ≡ false ∷ false ∷ true ∷ true ∷ false ∷ true ∷ []
-  pub three : marks_of 3 ladder (some (at 15 1)) ≡ true ∷ true ∷ true ∷ true ∷ false ∷ true ∷ []
+  pub one : marks_of 1 ladder (Some (at 15 1)) ≡ false ∷ false ∷ false ∷ true ∷ false ∷ true ∷ []
+  pub two : marks_of 2 ladder (Some (at 15 1)) ≡ false ∷ false ∷ true ∷ true ∷ false ∷ true ∷ []
+  pub three : marks_of 3 ladder (Some (at 15 1)) ≡ true ∷ true ∷ true ∷ true ∷ false ∷ true ∷ []
   -- a witness counts two; nothing above the previous point is marked
-  pub witness_one : marks_of 1 ladder (some (at 14 1)) ≡ false ∷ false ∷ true ∷ true ∷ false ∷ false ∷ []
-  pub witness_two : marks_of 2 ladder (some (at 14 1)) ≡ true ∷ true ∷ true ∷ true ∷ false ∷ false ∷ []
+  pub witness_one : marks_of 1 ladder (Some (at 14 1)) ≡ false ∷ false ∷ true ∷ true ∷ false ∷ false ∷ []
+  pub witness_two : marks_of 2 ladder (Some (at 14 1)) ≡ true ∷ true ∷ true ∷ true ∷ false ∷ false ∷ []
   -- without a previous point nothing is marked, nor where it is not kept
-  pub no_previous : marks_of 3 ladder none ≡ false ∷ false ∷ false ∷ false ∷ false ∷ false ∷ []
-  pub unkept : marks_of 3 ladder (some (at 15 2)) ≡ false ∷ false ∷ false ∷ false ∷ false ∷ false ∷ []
+  pub no_previous : marks_of 3 ladder None ≡ false ∷ false ∷ false ∷ false ∷ false ∷ false ∷ []
+  pub unkept : marks_of 3 ladder (Some (at 15 2)) ≡ false ∷ false ∷ false ∷ false ∷ false ∷ false ∷ []
   -- points are told apart by the whole id
-  pub whole_id : marks_of 3 alike (some (at 13 1)) ≡ false ∷ true ∷ []
+  pub whole_id : marks_of 3 alike (Some (at 13 1)) ≡ false ∷ true ∷ []
   -- Valid, TransInvalid and Invalid entries pass a mark on; ill-formed ones take it and pass nothing on
-  pub valid : marks_of 2 (between Valid false) (some (at 14 1)) ≡ true ∷ true ∷ true ∷ []
-  pub trans_invalid : marks_of 2 (between (TransInvalid root_cause) false) (some (at 14 1)) ≡ true ∷ true ∷ true ∷ []
-  pub invalid : marks_of 2 (between (Invalid 4) false) (some (at 14 1)) ≡ true ∷ true ∷ true ∷ []
-  pub ill_formed : marks_of 2 (between (IllFormed 16) false) (some (at 14 1)) ≡ false ∷ true ∷ true ∷ []
+  pub valid : marks_of 2 (between Valid false) (Some (at 14 1)) ≡ true ∷ true ∷ true ∷ []
+  pub trans_invalid : marks_of 2 (between (TransInvalid root_cause) false) (Some (at 14 1)) ≡ true ∷ true ∷ true ∷ []
+  pub invalid : marks_of 2 (between (Invalid 4) false) (Some (at 14 1)) ≡ true ∷ true ∷ true ∷ []
+  pub ill_formed : marks_of 2 (between (IllFormed 16) false) (Some (at 14 1)) ≡ false ∷ true ∷ true ∷ []
   -- a point at the genesis round, 10, takes it and passes nothing on
-  pub genesis_round : marks_of 3 (kept 9 1 [] [] (IllFormed 3) false ∷ kept 10 1 (1 ∷ []) [] Valid false ∷ kept 11 1 (1 ∷ []) [] Valid false ∷ []) (some (at 11 1)) ≡ false ∷ true ∷ true ∷ []
+  pub genesis_round : marks_of 3 (kept 9 1 [] [] (IllFormed 3) false ∷ kept 10 1 (1 ∷ []) [] Valid false ∷ kept 11 1 (1 ∷ []) [] Valid false ∷ []) (Some (at 11 1)) ≡ false ∷ true ∷ true ∷ []
   -- the walk goes on through an entry that was marked before, and takes no mark away
-  pub marked_before : marks_of 2 (between Valid true) (some (at 14 1)) ≡ true ∷ true ∷ true ∷ []
-  pub marked_stays : marks_of 1 (between Valid true) (some (at 12 1)) ≡ true ∷ true ∷ false ∷ []
+  pub marked_before : marks_of 2 (between Valid true) (Some (at 14 1)) ≡ true ∷ true ∷ true ∷ []
+  pub marked_stays : marks_of 1 (between Valid true) (Some (at 12 1)) ≡ true ∷ true ∷ false ∷ []
   -- where an entry on the way is not kept, nothing below it is marked
-  pub missing : marks_of 2 (kept 12 1 [] [] Valid false ∷ kept 14 1 (1 ∷ []) [] Valid false ∷ []) (some (at 14 1)) ≡ false ∷ true ∷ []
+  pub missing : marks_of 2 (kept 12 1 [] [] Valid false ∷ kept 14 1 (1 ∷ []) [] Valid false ∷ []) (Some (at 14 1)) ≡ false ∷ true ∷ []
   -- marks are made before judging: the invalid witness is covered by the same offer's mark, and the point is Valid. With the previous
   -- point's mark alone it is not.
   pub wider : (offer earlier.last (offered four 0 follower)).answer ≡ Given verdict.Valid

@@ -1,29 +1,27 @@
 -- Laws of an index of ids: an id is found only in the chain of its bucket, or between those below and above it, and what one more id
 -- keeps.
-use Prim.Native.Nat.{ℕ, suc, ◌+◌, ◌-◌, ◌*◌, ◌/◌, ◌%◌, ◌^◌, ◌≤◌, ◌<◌}
+use Rattle.std.specs.Prelude.{Err, Ok, Result}
+use Rattle.std.specs.Result.{result_ok}
+use Prim.Native.Nat.{ℕ, suc, ◌+◌, ◌-◌, ◌*◌, ◌%◌, ◌^◌, ◌≤◌, ◌<◌}
 use native.Mathlib.Omega.{arith}
 use native.Mathlib.Decide.{dec_lt, ℕ_discrete}
-use mathlib.Core.Path.{◌≡◌, refl, ap, sym, subst, ◌∙◌}
-use mathlib.Core.Bool.{true, false, and-false}
+use mathlib.Core.Path.{◌≡◌, ap, sym, ◌∙◌}
+use mathlib.Core.Bool.{true, false}
 use mathlib.Core.List.{List}
 use lib.ListN.{length, get_or, set, replicate, length-set, length-replicate, get_or-replicate}
-use lib.Seq.{get_or-set_same, get_or-set_other}
+use lib.Seq.{get_or-set_same}
 use lib.Dec.{eqb}
-use borrow.Author.Tests.{ne_eqb, eqb-false}
+use borrow.Author.Tests.{ne_eqb}
+use Rattle.std.proofs.lemmas.Bool.Decides.{nat_tests}
+use Rattle.std.proofs.lemmas.Grind.{elements}
 use Rattle.base.proofs.Bool.{never}
 use Rattle.parts.specs.declared.Id.{Id}
 use Rattle.parts.specs.Code.{number}
-use Rattle.parts.specs.Parts.{order}
-use Rattle.parts.specs.declared.Order.{Order}
-use Rattle.parts.specs.declared.Order.TheVariants.{Less, Same, More}
-use Rattle.parts.proofs.Laws.{order-less, order_same, order-more}
 use Rattle.point.specs.Point.{PointId, same_id}
-use Rattle.point.proofs.Ids.{same_fields, fields_same, same_sym}
+use Rattle.point.proofs.Ids.{same_sym}
 use Rattle.id_index.specs.Code.{count_of, place_in, field_id, id_in, added, Places, Noted, SameFront, IsAt, NoneIs, Once, Twice, bucket_of, IsLast, Chains, linked}
-use Rattle.id_index.specs.Code.{Below, by-digest, by-author, by-round, Compared, nth_in, Sorted, Between, Shifted, Index, Built}
-use Rattle.id_index.specs.Code.{InChain, InOrder, FoundAt, found_of}
-use Rattle.id_index.specs.declared.Sought.{Sought}
-use Rattle.id_index.specs.declared.Sought.TheVariants as case-sought
+use Rattle.id_index.specs.Code.{Below, by-digest, by-author, by-round, Compared, nth_in, Sorted, Between, Index, Built}
+use Rattle.id_index.specs.Code.{InChain, InOrder, FoundAt}
 
 -- ---- the ids, where all but the links stays
 
@@ -38,8 +36,8 @@ module _ {x y : List ℕ} (f : SameFront x y) where
   pub same_id_lem : (s : List ℕ) (j : ℕ) → j < 4096 → id_in s y j ≡ id_in s x j
   same_id_lem s j lt = ap (field_id s) (same_place j lt)
 
-  pub same-places : {s : List ℕ} → Places s x → Places s y
-  same-places p =
+  pub same_places : {s : List ℕ} → Places s x → Places s y
+  same_places p =
       record {
         sized = f.sized ∙ p.sized;
         room = omega (arith, same_count, p.room);
@@ -47,55 +45,34 @@ module _ {x y : List ℕ} (f : SameFront x y) where
             omega (arith, same_place j (omega (arith, p.room)), p.inside j lt);
       }
 
-pub front_same : (x : List ℕ) → SameFront x x
-front_same x = record { sized = refl; front = λ q lt. refl }
-
 pub front_then_lem : {x y z : List ℕ} → SameFront x y → SameFront y z → SameFront x z
 front_then_lem f g = record { sized = g.sized ∙ f.sized; front = λ q lt. g.front q lt ∙ f.front q lt }
 
 pub front-set : (x : List ℕ) (q v : ℕ) → 8194 ≤ q → SameFront x (set x q v)
-front-set x q v h = record { sized = length-set x q v; front = λ p lt. get_or-set_other x q p v 0 (λ e. omega arith) }
+front-set x q v h = record { sized = length-set x q v; front = λ p lt. grind (arith, elements) }
 
 -- ---- one place more
 
 module _ (x : List ℕ) (place : ℕ) (sized : length x ≡ 16386) (room : count_of x < 4096) where
   pub added-count : count_of (added x place) ≡ count_of x + 1
   unfolding added
-  added-count =
-      let a = set x (2 * count_of x + 2) (place % 65536) in
-      let b = set a (2 * count_of x + 3) (place / 65536) in
-      get_or-set_same b 0 (count_of x + 1) 0 (omega (arith, length-set x (2 * count_of x + 2) (place % 65536), length-set a (2 * count_of x + 3) (place / 65536)))
+  added-count = grind (arith, elements)
 
   pub added-length : length (added x place) ≡ 16386
   unfolding added
-  added-length =
-      let a = set x (2 * count_of x + 2) (place % 65536) in
-      let b = set a (2 * count_of x + 3) (place / 65536) in
-      length-set b 0 (count_of x + 1) ∙ (length-set a (2 * count_of x + 3) (place / 65536) ∙ (length-set x (2 * count_of x + 2) (place % 65536) ∙ sized))
+  added-length = grind (arith, elements)
 
   added-other : (q : ℕ) → (q ≡ 0 → ⊥) → (q ≡ 2 * count_of x + 2 → ⊥) → (q ≡ 2 * count_of x + 3 → ⊥) → get_or (added x place) q 0 ≡ get_or x q 0
   unfolding added
-  added-other q d e f =
-      let a = set x (2 * count_of x + 2) (place % 65536) in
-      let b = set a (2 * count_of x + 3) (place / 65536) in
-      get_or-set_other b 0 q (count_of x + 1) 0 d ∙ (get_or-set_other a (2 * count_of x + 3) q (place / 65536) 0 f ∙ get_or-set_other x (2 * count_of x + 2) q (place % 65536) 0 e)
+  added-other q d e f = grind (arith, elements)
 
   pub added-old : (j : ℕ) → j < count_of x → place_in (added x place) j ≡ place_in x j
   unfolding place_in
-  added-old j lt =
-      rw (added-other (2 * j + 2) (λ e. omega arith) (λ e. omega arith) (λ e. omega arith), added-other (2 * j + 3) (λ e. omega arith) (λ e. omega arith) (λ e. omega arith))
+  added-old j lt = grind (arith, added-other)
 
   pub added_new : place_in (added x place) (count_of x) ≡ place
   unfolding place_in added
-  added_new =
-      let n = count_of x in
-      let a = set x (2 * n + 2) (place % 65536) in
-      let b = set a (2 * n + 3) (place / 65536) in
-      let low : get_or (set b 0 (n + 1)) (2 * n + 2) 0 ≡ place % 65536 =
-      get_or-set_other b 0 (2 * n + 2) (n + 1) 0 (λ e. omega arith) ∙ (get_or-set_other a (2 * n + 3) (2 * n + 2) (place / 65536) 0 (λ e. omega arith) ∙ get_or-set_same x (2 * n + 2) (place % 65536) 0 (omega arith)) in
-      let high : get_or (set b 0 (n + 1)) (2 * n + 3) 0 ≡ place / 65536 =
-      get_or-set_other b 0 (2 * n + 3) (n + 1) 0 (λ e. omega arith) ∙ get_or-set_same a (2 * n + 3) (place / 65536) 0 (omega (arith, length-set x (2 * n + 2) (place % 65536))) in
-      omega (arith, low, high)
+  added_new = grind (arith, elements)
 
   pub added-noted : {s : List ℕ} → place + 71 ≤ length s → Noted s x → Noted s (added x place)
   added-noted fits p =
@@ -131,13 +108,7 @@ none-noted s x e =
 -- ---- an id among the first n
 
 pub once_more : (s x : List ℕ) (n : ℕ) → Once s x n → NoneIs s x n (id_in s x n) → Once s x (n + 1)
-once_more s x n o h j k a b = elim (ℕ_discrete k n) [
-  | yes e ↦ rw e (h j (omega arith))
-  | no d ↦ o j k a (omega arith)
-]
-
-pub at-twice : {s x : List ℕ} {n j : ℕ} → n < count_of x → IsAt s x n (id_in s x n) j → Twice s x
-at-twice {s} {x} {n} {j} lt f = record { first = j; second = n; after = f.within; within = lt; same = f.same }
+once_more s x n o h j k a b = grind arith
 
 -- ---- buckets
 
@@ -152,15 +123,13 @@ last_word x = low ((x.a * 2 ^ 64 + x.b) * 2 ^ 64 + x.c) x.d
 -- an id of another bucket is another id
 other_bucket : (i k : PointId) → eqb (bucket_of i) (bucket_of k) ≡ false → same_id i k ≡ false
 unfolding same_id
-other_bucket i k h =
-    let d : eqb i.digest k.digest ≡ false = ne_eqb i.digest k.digest (λ e. eqb-false (bucket_of i) (bucket_of k) h (ap (λ (n : ℕ). n % 4096) e)) in
-    rw d (and-false (eqb i.round k.round))
+other_bucket i k h = grind (arith, nat_tests)
 
 -- the search for an id in a chain: k is one more than an id of its bucket, or 0, and from k on none is it
 pub record Search (s x : List ℕ) (n : ℕ) (i : PointId) (k : ℕ) : Type 0 where
   pub within : k ≤ n
   pub there : (j : ℕ) → k ≡ suc j → bucket_of (id_in s x j) ≡ bucket_of i
-  pub none : (j : ℕ) → k ≤ j → j < n → same_id (id_in s x j) i ≡ false
+  pub absent : (j : ℕ) → k ≤ j → j < n → same_id (id_in s x j) i ≡ false
 
 module _ {s x : List ℕ} {n : ℕ} (c : Chains s x n) where
   pub search_start : (i : PointId) (h : ℕ) → h ≡ bucket_of i → h < 4096 → Search s x n i (get_or x (12290 + h) 0)
@@ -169,14 +138,10 @@ module _ {s x : List ℕ} {n : ℕ} (c : Chains s x n) where
       record {
         within = l.within;
         there = λ j g. l.there j g ∙ e;
-        none = λ j a b. other_bucket _ i (rw e at (l.none j a b));
+        absent = λ j a b. other_bucket _ i (rw e at (l.absent j a b));
       }
 
   module _ {i : PointId} {k : ℕ} (w : Search s x n i k) (more : 0 < k) where
-    -- the id before lies below
-    pub next-below : get_or x (8194 + (k - 1)) 0 < k
-    next-below = omega (arith, (c.before (k - 1) (omega (arith, w.within))).within)
-
     pub search_next : same_id (id_in s x (k - 1)) i ≡ false → Search s x n i (get_or x (8194 + (k - 1)) 0)
     search_next d =
         let l = c.before (k - 1) (omega (arith, w.within)) in
@@ -184,11 +149,11 @@ module _ {s x : List ℕ} {n : ℕ} (c : Chains s x n) where
         record {
           within = omega (arith, w.within, l.within);
           there = λ j g. l.there j g ∙ e;
-          none = λ j a b. elim (ℕ_discrete j (k - 1)) [
+          absent = λ j a b. elim (ℕ_discrete j (k - 1)) [
             | yes g ↦ rw g d
             | no g ↦ elim (dec_lt j k) [
-              | yes f ↦ other_bucket _ i (rw e at (l.none j a (omega arith)))
-              | no f ↦ w.none j (omega arith) b
+              | yes f ↦ other_bucket _ i (rw e at (l.absent j a (omega arith)))
+              | no f ↦ w.absent j (omega arith) b
             ]
           ];
         }
@@ -200,12 +165,12 @@ same-ids same l =
     record {
       within = l.within;
       there = λ j e. rw (same j (omega (arith, l.within))) (l.there j e);
-      none = λ j a b. rw (same j b) (l.none j a b);
+      absent = λ j a b. rw (same j b) (l.absent j a b);
     }
 
-pub front-linked : (x : List ℕ) (n h : ℕ) → SameFront x (linked x n h)
+pub front_linked : (x : List ℕ) (n h : ℕ) → SameFront x (linked x n h)
 unfolding linked
-front-linked x n h =
+front_linked x n h =
     front_then_lem (front-set x (8194 + n) (get_or x (12290 + h) 0) (omega arith))
     (front-set (set x (8194 + n) (get_or x (12290 + h) 0)) (12290 + h) (n + 1) (omega arith))
 
@@ -214,31 +179,23 @@ module _ {s x : List ℕ} {n h : ℕ} (c : Chains s x n) (sized : length x ≡ 1
   y = linked x n h
 
   kept : (j : ℕ) → j < 4096 → id_in s y j ≡ id_in s x j
-  kept j g = same_id_lem (front-linked x n h) s j g
+  kept j g = same_id_lem (front_linked x n h) s j g
 
   head-here : get_or y (12290 + h) 0 ≡ n + 1
   unfolding linked
-  head-here =
-      let a = set x (8194 + n) (get_or x (12290 + h) 0) in
-      get_or-set_same a (12290 + h) (n + 1) 0 (omega (arith, length-set x (8194 + n) (get_or x (12290 + h) 0)))
+  head-here = grind (arith, elements)
 
   head-other : (b : ℕ) → (b ≡ h → ⊥) → get_or y (12290 + b) 0 ≡ get_or x (12290 + b) 0
   unfolding linked
-  head-other b d =
-      let a = set x (8194 + n) (get_or x (12290 + h) 0) in
-      get_or-set_other a (12290 + h) (12290 + b) (n + 1) 0 (λ f. d (omega arith)) ∙ get_or-set_other x (8194 + n) (12290 + b) (get_or x (12290 + h) 0) 0 (λ f. omega arith)
+  head-other b d = grind (arith, elements)
 
   link_here : get_or y (8194 + n) 0 ≡ get_or x (12290 + h) 0
   unfolding linked
-  link_here =
-      let a = set x (8194 + n) (get_or x (12290 + h) 0) in
-      get_or-set_other a (12290 + h) (8194 + n) (n + 1) 0 (λ f. omega arith) ∙ get_or-set_same x (8194 + n) (get_or x (12290 + h) 0) 0 (omega arith)
+  link_here = grind (arith, elements)
 
   link-other : (j : ℕ) → j < n → get_or y (8194 + j) 0 ≡ get_or x (8194 + j) 0
   unfolding linked
-  link-other j g =
-      let a = set x (8194 + n) (get_or x (12290 + h) 0) in
-      get_or-set_other a (12290 + h) (8194 + j) (n + 1) 0 (λ f. omega arith) ∙ get_or-set_other x (8194 + n) (8194 + j) (get_or x (12290 + h) 0) 0 (λ f. omega arith)
+  link-other j g = grind (arith, elements)
 
   new_bucket : bucket_of (id_in s y n) ≡ h
   new_bucket = ap bucket_of (kept n room) ∙ sym e
@@ -247,8 +204,8 @@ module _ {s x : List ℕ} {n h : ℕ} (c : Chains s x n) (sized : length x ≡ 1
   last-here =
       record {
         within = omega arith;
-        there = λ j g. let f : j ≡ n = omega arith in rw f new_bucket;
-        none = λ j a b. absurd (omega arith);
+        there = λ j g. grind (arith, new_bucket);
+        absent = λ j a b. absurd (omega arith);
       }
 
   last-elsewhere : (b : ℕ) → b < 4096 → (b ≡ h → ⊥) → IsLast s y b (n + 1) (get_or x (12290 + b) 0)
@@ -257,9 +214,9 @@ module _ {s x : List ℕ} {n h : ℕ} (c : Chains s x n) (sized : length x ≡ 1
       record {
         within = omega (arith, l.within);
         there = l.there;
-        none = λ j f g. elim (ℕ_discrete j n) [
+        absent = λ j f g. elim (ℕ_discrete j n) [
           | yes u ↦ ne_eqb _ b (λ v. d (sym v ∙ rw u new_bucket))
-          | no u ↦ l.none j f (omega arith)
+          | no u ↦ l.absent j f (omega arith)
         ];
       }
 
@@ -279,49 +236,20 @@ module _ {s x : List ℕ} {n h : ℕ} (c : Chains s x n) (sized : length x ≡ 1
   pub one_chained : Chains s (linked x n h) (n + 1)
   one_chained = record { last = last_of; before = before_of }
 
-  pub one-once : Once s x n → NoneIs s x n (id_in s x n) → Once s (linked x n h) (n + 1)
-  one-once o w j k a b = rw (kept j (omega arith), kept k (omega arith)) (once_more s x n o w j k a b)
-
--- what `link` does to the chains of the ids before
-pub next_chained : {s x y : List ℕ} {n h : ℕ} → Places s x → n < count_of x → Chains s x n → Once s x n → NoneIs s x n (id_in s x n) →
-    h ≡ bucket_of (id_in s x n) → h < 4096 → y ≡ linked x n h → SameFront x y × (Chains s y (n + 1) × Once s y (n + 1))
-next_chained {s} {x} {y} {n} {h} p lt c o w e few is =
-    let room : n < 4096 = omega (arith, p.room) in
-    let fact : SameFront x (linked x n h) × (Chains s (linked x n h) (n + 1) × Once s (linked x n h) (n + 1)) =
-    (front-linked x n h, (one_chained c p.sized room e few, one-once c p.sized room e few o w)) in
-    subst (λ (l : List ℕ). SameFront x l × (Chains s l (n + 1) × Once s l (n + 1))) (sym is) fact
-
--- no chain yet
-pub none_chained : {s x : List ℕ} → Noted s x → Chains s x 0
-none_chained p =
-    record {
-      last = λ h g. let z = p.unlinked h g in
-          record {
-            within = omega arith;
-            there = λ j f. absurd (omega arith);
-            none = λ j f g. absurd (omega arith);
-          };
-      before = λ j g. absurd (omega arith);
-    }
+  pub one_once : Once s x n → NoneIs s x n (id_in s x n) → Once s (linked x n h) (n + 1)
+  one_once o w j k a b = rw (kept j (omega arith), kept k (omega arith)) (once_more s x n o w j k a b)
 
 -- ---- the order of ids
 
+pub ruleset below_rules = (by-digest, by-author, by-round)
+
 pub below_then : {a b c : PointId} → Below a b → Below b c → Below a c
-below_then (by-digest p) (by-digest q) = by-digest (omega arith)
-below_then (by-digest p) (by-author e q) = by-digest (omega arith)
-below_then (by-digest p) (by-round e f q) = by-digest (omega arith)
-below_then (by-author e p) (by-digest q) = by-digest (omega arith)
-below_then (by-author e p) (by-author g q) = by-author (e ∙ g) (omega arith)
-below_then (by-author e p) (by-round g f q) = by-author (e ∙ g) (omega arith)
-below_then (by-round e f p) (by-digest q) = by-digest (omega arith)
-below_then (by-round e f p) (by-author g q) = by-author (e ∙ g) (omega arith)
-below_then (by-round e f p) (by-round g h q) = by-round (e ∙ g) (f ∙ h) (omega arith)
+below_then p q = grind (arith, below_rules)
 
 module _ (a b : PointId) where
   not_same : Below a b → same_id a b ≡ true → ⊥
-  not_same (by-digest p) t = let f = same_fields a b t in omega (arith, f.1)
-  not_same (by-author e p) t = let f = same_fields a b t in omega (arith, f.2)
-  not_same (by-round e g p) t = let f = same_fields a b t in omega (arith, f.0)
+  unfolding same_id
+  not_same p t = grind (arith, nat_tests)
 
   pub below_differs : Below a b → same_id a b ≡ false
   below_differs h = never (same_id a b) (not_same h)
@@ -329,30 +257,12 @@ module _ (a b : PointId) where
 pub above_differs : (a b : PointId) → Below b a → same_id a b ≡ false
 above_differs a b h = same_sym a b ∙ below_differs b a h
 
--- ids that are alike but for their rounds
-pub by_rounds : (a b : PointId) → a.digest ≡ b.digest → a.author ≡ b.author → (r : Order) → r ≡ order a.round b.round → Compared a b r
-by_rounds a b d e Less h = by-round d e (order-less _ _ (sym h))
-by_rounds a b d e Same h = fields_same a b (order_same _ _ (sym h)) d e
-by_rounds a b d e More h = by-round (sym d) (sym e) (order-more _ _ (sym h))
-
 -- ---- the search by halving
-
-pub between-all : (s x : List ℕ) (n : ℕ) (i : PointId) → Between s x n i 0 n
-between-all s x n i =
-    record {
-      ordered = omega arith;
-      within = omega arith;
-      below = λ a g. absurd (omega arith);
-      above = λ a g h. absurd (omega arith);
-    }
-
-pub between-met : {s x : List ℕ} {n : ℕ} {i : PointId} {low high : ℕ} → Between s x n i low high → high ≤ low → Between s x n i low low
-between-met {s} {x} {n} {i} {low} {high} b h = let e : high ≡ low = omega (arith, b.ordered) in subst (Between s x n i low) e b
 
 module _ {s x : List ℕ} {n : ℕ} (w : Sorted s x n) where
   module _ {i : PointId} {low high middle : ℕ} (b : Between s x n i low high) (from : low ≤ middle) (to : middle < high) where
-    pub between-above : Below (nth_in s x middle) i → Between s x n i (middle + 1) high
-    between-above h =
+    pub between_above : Below (nth_in s x middle) i → Between s x n i (middle + 1) high
+    between_above h =
         record {
           ordered = omega arith;
           within = b.within;
@@ -363,8 +273,8 @@ module _ {s x : List ℕ} {n : ℕ} (w : Sorted s x n) where
           above = b.above;
         }
 
-    pub between-below : Below i (nth_in s x middle) → Between s x n i low middle
-    between-below h =
+    pub between_below : Below i (nth_in s x middle) → Between s x n i low middle
+    between_below h =
         record {
           ordered = from;
           within = omega (arith, b.within);
@@ -399,20 +309,18 @@ module _ {s x : List ℕ} {n : ℕ} (w : Sorted s x n) where
 
 -- ---- one id more in the order
 
-pub none-sorted : (s x : List ℕ) → Sorted s x 0
-none-sorted s x =
-    record {
-      within = λ a g. absurd (omega arith);
-      onto = λ j g. absurd (omega arith);
-      rising = λ a b g h. absurd (omega arith);
-    }
+-- the links from one number to another, moved one up
+pub record Shifted (x : List ℕ) (from to : ℕ) (y : List ℕ) : Type 0 where
+  pub sized : length y ≡ length x
+  pub moved : (a : ℕ) → from ≤ a → a < to → get_or y (8195 + a) 0 ≡ get_or x (8194 + a) 0
+  pub below : (q : ℕ) → q ≤ 8194 + from → get_or y q 0 ≡ get_or x q 0
 
 module _ {x : List ℕ} {from to : ℕ} {y : List ℕ} (f : Shifted x from to y) (v : ℕ) where
   pub front_shifted : SameFront x (set y (8194 + from) v)
   front_shifted =
       record {
         sized = length-set y (8194 + from) v ∙ f.sized;
-        front = λ q lt. get_or-set_other y (8194 + from) q v 0 (λ e. omega arith) ∙ f.below q (omega arith);
+        front = λ q lt. grind (arith, elements, f.below q);
       }
 
 module _ {s x y : List ℕ} {n p : ℕ} (w : Sorted s x n) (sized : length x ≡ 16386) (room : n < 4096) (b : Between s x n (id_in s x n) p p) (f : Shifted x p n y) where
@@ -423,38 +331,29 @@ module _ {s x y : List ℕ} {n p : ℕ} (w : Sorted s x n) (sized : length x ≡
   id-stays j g = same_id_lem (front_shifted f n) s j g
 
   at_low : (a : ℕ) → a < p → get_or z (8194 + a) 0 ≡ get_or x (8194 + a) 0
-  at_low a g = get_or-set_other y (8194 + p) (8194 + a) n 0 (λ e. omega arith) ∙ f.below (8194 + a) (omega arith)
+  at_low a g = grind (arith, elements)
 
   at_here : get_or z (8194 + p) 0 ≡ n
-  at_here = get_or-set_same y (8194 + p) n 0 (omega (arith, f.sized, b.within))
+  at_here = grind (arith, elements)
 
   at_high : (a : ℕ) → p ≤ a → a < n → get_or z (8194 + (a + 1)) 0 ≡ get_or x (8194 + a) 0
-  at_high a g h =
-      let e : 8194 + (a + 1) ≡ 8195 + a = omega arith in
-      get_or-set_other y (8194 + p) (8194 + (a + 1)) n 0 (λ e. omega arith) ∙ (ap (λ (q : ℕ). get_or y q 0) e ∙ f.moved a g h)
+  at_high a g h = grind (arith, elements)
+
+  -- the same from the new number on
+  at_after : (a : ℕ) → p < a → a < n + 1 → get_or z (8194 + a) 0 ≡ get_or x (8194 + (a - 1)) 0
+  at_after a g h = grind (arith, at_high (a - 1))
 
   nth_low : (a : ℕ) → a < p → nth_in s z a ≡ nth_in s x a
-  nth_low a g = ap (id_in s z) (at_low a g) ∙ id-stays (get_or x (8194 + a) 0) (omega (arith, w.within a (omega (arith, b.within))))
+  nth_low a g = grind (arith, at_low, id-stays)
 
   nth_here : nth_in s z p ≡ id_in s x n
-  nth_here = ap (id_in s z) at_here ∙ id-stays n room
-
-  nth_high : (a : ℕ) → p ≤ a → a < n → nth_in s z (a + 1) ≡ nth_in s x a
-  nth_high a g h = ap (id_in s z) (at_high a g h) ∙ id-stays (get_or x (8194 + a) 0) (omega (arith, w.within a h))
+  nth_here = grind (arith, at_here, id-stays)
 
   nth_after : (a : ℕ) → p < a → a < n + 1 → nth_in s z a ≡ nth_in s x (a - 1)
-  nth_after a g h = let e : a ≡ a - 1 + 1 = omega arith in ap (nth_in s z) e ∙ nth_high (a - 1) (omega arith) (omega arith)
+  nth_after a g h = grind (arith, at_after, id-stays)
 
   within-one : (a : ℕ) → a < n + 1 → get_or z (8194 + a) 0 < n + 1
-  within-one a g = elim (dec_lt a p) [
-    | yes h ↦ omega (arith, at_low a h, w.within a (omega (arith, b.within)))
-    | no h ↦ elim (ℕ_discrete a p) [
-      | yes e ↦ (let k : get_or z (8194 + a) 0 ≡ n = rw e at_here in omega arith)
-      | no d ↦ (let e : a ≡ a - 1 + 1 = omega arith in
-          let k : get_or z (8194 + a) 0 ≡ get_or x (8194 + (a - 1)) 0 = ap (λ (m : ℕ). get_or z (8194 + m) 0) e ∙ at_high (a - 1) (omega arith) (omega arith) in
-          omega (arith, k, w.within (a - 1) (omega arith)))
-    ]
-  ]
+  within-one a g = grind (arith, at_low, at_here, at_after)
 
   onto-one : (j : ℕ) → j < n + 1 → (a : ℕ) × (a < n + 1) × (get_or z (8194 + a) 0 ≡ j)
   onto-one j g = elim (ℕ_discrete j n) [
@@ -480,52 +379,8 @@ module _ {s x y : List ℕ} {n p : ℕ} (w : Sorted s x n) (sized : length x ≡
     ]
   ]
 
-  pub one-sorted : Sorted s (set y (8194 + p) n) (n + 1)
-  one-sorted = record { within = within-one; onto = onto-one; rising = rising-one }
-
--- ---- links moved up one by one: those from k on are moved
-
-pub record Shifting (x : List ℕ) (from to k : ℕ) (y : List ℕ) : Type 0 where
-  pub sized : length y ≡ length x
-  pub above : from ≤ k
-  pub within : k ≤ to
-  pub moved : (a : ℕ) → k ≤ a → a < to → get_or y (8195 + a) 0 ≡ get_or x (8194 + a) 0
-  pub below : (q : ℕ) → q ≤ 8194 + k → get_or y q 0 ≡ get_or x q 0
-
-pub shift_start : (x : List ℕ) (from to : ℕ) → from ≤ to → Shifting x from to to x
-shift_start x from to h =
-    record {
-      sized = refl;
-      above = h;
-      within = omega arith;
-      moved = λ a g lt. absurd (omega arith);
-      below = λ q g. refl;
-    }
-
-pub shift_step : {x y : List ℕ} {from to k : ℕ} → Shifting x from to k y → from < k → length x ≡ 16386 → to < 4096 →
-    Shifting x from to (k - 1) (set y (8194 + k) (get_or y (8194 + k - 1) 0))
-shift_step {x} {y} {from} {to} {k} f lt sized room =
-    let v = get_or y (8194 + k - 1) 0 in
-    record {
-      sized = length-set y (8194 + k) v ∙ f.sized;
-      above = omega arith;
-      within = omega (arith, f.within);
-      moved = λ a g h. elim (ℕ_discrete a (k - 1)) [
-        | yes e ↦ (let u : 8195 + a ≡ 8194 + k = omega arith in
-            let t : 8194 + k - 1 ≡ 8194 + a = omega arith in
-            ap (λ (q : ℕ). get_or (set y (8194 + k) v) q 0) u ∙ (get_or-set_same y (8194 + k) v 0 (omega (arith, f.sized, f.within)) ∙ (f.below (8194 + k - 1) (omega arith) ∙ ap (λ (q : ℕ). get_or x q 0) t)))
-        | no d ↦ get_or-set_other y (8194 + k) (8195 + a) v 0 (λ e. omega arith) ∙ f.moved a (omega arith) h
-      ];
-      below = λ q g. get_or-set_other y (8194 + k) q v 0 (λ e. omega arith) ∙ f.below q (omega arith);
-    }
-
-pub shift_end : {x y : List ℕ} {from to k : ℕ} → Shifting x from to k y → k ≤ from → Shifted x from to y
-shift_end f h =
-    record {
-      sized = f.sized;
-      moved = λ a g. f.moved a (omega (arith, f.above));
-      below = λ q g. f.below q (omega (arith, f.above));
-    }
+  pub one_sorted : Sorted s (set y (8194 + p) n) (n + 1)
+  one_sorted = record { within = within-one; onto = onto-one; rising = rising-one }
 
 -- ---- the index that was made
 
@@ -537,29 +392,23 @@ module _ {s x : List ℕ} (p : Places s x) where
     abbrev m : List ℕ
     m = set x 1 1
 
-    other : (q : ℕ) → (q ≡ 1 → ⊥) → get_or m q 0 ≡ get_or x q 0
-    other q d = get_or-set_other x 1 q 1 0 d
-
     pub marked-count : count_of m ≡ count_of x
-    marked-count = other 0 (λ e. omega arith)
+    marked-count = grind (arith, elements)
 
     pub marked-place : (j : ℕ) → place_in m j ≡ place_in x j
     unfolding place_in
-    marked-place j = rw (other (2 * j + 2) (λ e. omega arith), other (2 * j + 3) (λ e. omega arith))
-
-    marked-id : (j : ℕ) → id_in s m j ≡ id_in s x j
-    marked-id j = ap (field_id s) (marked-place j)
+    marked-place j = grind (arith, elements)
 
     marked-link : (a : ℕ) → get_or m (8194 + a) 0 ≡ get_or x (8194 + a) 0
-    marked-link a = other (8194 + a) (λ e. omega arith)
+    marked-link a = grind (arith, elements)
 
     marked_nth : (a : ℕ) → nth_in s m a ≡ nth_in s x a
-    marked_nth a = ap (id_in s m) (marked-link a) ∙ marked-id (get_or x (8194 + a) 0)
+    marked_nth a = rw (marked-link a, marked-place (get_or x (8194 + a) 0))
 
     marked-sorted : Sorted s m (count_of m)
     marked-sorted =
         record {
-          within = λ a g. omega (arith, marked-link a, marked-count, w.within a (omega (arith, marked-count)));
+          within = λ a g. grind (arith, marked-link, marked-count, w.within a);
           onto = λ j g. let o = w.onto j (omega (arith, marked-count)) in (o.0, omega (arith, marked-count, o.1), marked-link o.0 ∙ o.2);
           rising = λ a b g h. rw (marked_nth a, marked_nth b) (w.rising a b g (omega (arith, marked-count)));
         }
@@ -587,12 +436,12 @@ module _ {s y x : List ℕ} (f : SameFront y x) where
         count = n;
         places = same_place f;
         sized = f.sized;
-        index = (chains-index (same-places f p.places) (f.front 1 (omega arith) ∙ p.plain) (rw n c), λ j k a b. o j k a (omega (arith, n)));
+        index = (chains-index (same_places f p.places) (f.front 1 (omega arith) ∙ p.plain) (rw n c), λ j k a b. o j k a (omega (arith, n)));
       }
 
-  pub built-sorted : Places s y → Sorted s x (count_of x) → Built s y (set x 1 1) true
-  built-sorted p w =
-      let q = same-places f p in
+  pub built_sorted : Places s y → Sorted s x (count_of x) → Built s y (set x 1 1) true
+  built_sorted p w =
+      let q = same_places f p in
       record {
         count = marked-count q w ∙ same_count f;
         places = λ j lt. marked-place q w j ∙ same_place f j lt;
@@ -600,8 +449,8 @@ module _ {s y x : List ℕ} (f : SameFront y x) where
         index = sorted-index q w;
       }
 
-  pub built-twice : Twice s x → Built s y x false
-  built-twice t = record { count = same_count f; places = same_place f; sized = f.sized; index = t }
+  pub built_twice : Twice s x → Built s y x false
+  built_twice t = record { count = same_count f; places = same_place f; sized = f.sized; index = t }
 
 -- ---- the index of other bytes, with the same ids at the same places
 
@@ -611,7 +460,7 @@ module _ {s t x : List ℕ} (l : length t ≡ length s) (same : (j : ℕ) → j 
       record {
         within = h.within;
         there = λ j e. ap bucket_of (same j (omega (arith, h.within))) ∙ h.there j e;
-        none = λ j from lt. ap (λ (i : PointId). eqb (bucket_of i) bucket) (same j (omega arith)) ∙ h.none j from lt;
+        absent = λ j from lt. ap (λ (i : PointId). eqb (bucket_of i) bucket) (same j (omega arith)) ∙ h.absent j from lt;
       }
 
   same-chains : Chains s x (count_of x) → Chains t x (count_of x)
@@ -644,10 +493,6 @@ module _ {s t x : List ℕ} (l : length t ≡ length s) (same : (j : ℕ) → j 
 
 -- ---- what is found
 
-pub found-chain : (s x : List ℕ) (i : PointId) (r : Sought) → InChain s x (count_of x) i r → FoundAt s x i (found_of r)
-found-chain s x i (case-sought.At j) h = h
-found-chain s x i (case-sought.Absent n) h = h
-
-pub found-order : (s x : List ℕ) (i : PointId) (r : Sought) → Sorted s x (count_of x) → InOrder s x (count_of x) i r → FoundAt s x i (found_of r)
-found-order s x i (case-sought.At j) w h = h
-found-order s x i (case-sought.Absent n) w h = between_none w h
+pub found-order : (s x : List ℕ) (i : PointId) (r : Result ℕ ℕ) → Sorted s x (count_of x) → InOrder s x (count_of x) i r → FoundAt s x i (result_ok r)
+found-order s x i (Ok j) w h = h
+found-order s x i (Err n) w h = between_none w h

@@ -1,14 +1,10 @@
 -- What an index of the ids in a slice says. s is the slice, x the index.
-use Rattle.std.specs.Prelude.{ℕ, suc, ◌+◌, ◌*◌, ◌/◌, ◌%◌, ◌≤◌, ◌<◌, ◌≡◌, Bool, true, false, List, length, get_or, set, eqb}
+use Rattle.std.specs.Prelude.{ℕ, suc, ◌+◌, ◌*◌, ◌/◌, ◌%◌, ◌≤◌, ◌<◌, ◌≡◌, Bool, true, false, List, length, get_or, set, eqb, Option, None, Some, Result, Ok, Err}
 use Rattle.parts.specs.Limits.{most_kept}
-use Rattle.parts.specs.declared.Order.{Order}
-use Rattle.parts.specs.declared.Order.TheVariants.{Less, Same, More}
+use Rattle.std.specs.declared.cmp.Ordering.{Ordering}
+use Rattle.std.specs.declared.cmp.Ordering.TheVariants.{Less, Equal, Greater}
 use Rattle.point.specs.Point.{PointId, same_id}
 use Rattle.point.specs.Reading.{point_id_at}
-use Rattle.id_index.specs.declared.Place.{Place}
-use Rattle.id_index.specs.declared.Sought.{Sought}
-use Rattle.id_index.specs.declared.Place.TheVariants as case-place
-use Rattle.id_index.specs.declared.Sought.TheVariants as case-sought
 
 -- ---- the ids
 
@@ -76,15 +72,15 @@ bucket_of i = i.digest % most_kept
 pub record IsLast (s x : List ℕ) (bucket n k : ℕ) : Type 0 where
   pub within : k ≤ n
   pub there : (j : ℕ) → k ≡ suc j → bucket_of (id_in s x j) ≡ bucket
-  pub none : (j : ℕ) → k ≤ j → j < n → eqb (bucket_of (id_in s x j)) bucket ≡ false
+  pub absent : (j : ℕ) → k ≤ j → j < n → eqb (bucket_of (id_in s x j)) bucket ≡ false
 
 pub record Chains (s x : List ℕ) (n : ℕ) : Type 0 where
   pub last : (h : ℕ) → h < most_kept → IsLast s x h n (get_or x (12290 + h) 0)
   pub before : (j : ℕ) → j < n → IsLast s x (bucket_of (id_in s x j)) j (get_or x (8194 + j) 0)
 
-abbrev pub InChain : List ℕ → List ℕ → ℕ → PointId → Sought → Type 0
-InChain s x n i (case-sought.At j) = IsAt s x n i j
-InChain s x n i (case-sought.Absent passed) = NoneIs s x n i
+abbrev pub InChain : List ℕ → List ℕ → ℕ → PointId → Result ℕ ℕ → Type 0
+InChain s x n i (Ok j) = IsAt s x n i j
+InChain s x n i (Err passed) = NoneIs s x n i
 
 unfoldable pub linked : List ℕ → ℕ → ℕ → List ℕ
 linked x j h = set (set x (8194 + j) (get_or x (12290 + h) 0)) (12290 + h) (j + 1)
@@ -99,13 +95,10 @@ pub data Below (a b : PointId) : Type 0 where
   by-author : a.digest ≡ b.digest → a.author < b.author → Below a b
   by-round : a.digest ≡ b.digest → a.author ≡ b.author → a.round < b.round → Below a b
 
-abbrev pub Compared : PointId → PointId → Order → Type 0
+abbrev pub Compared : PointId → PointId → Ordering → Type 0
 Compared a b Less = Below a b
-Compared a b Same = same_id a b ≡ true
-Compared a b More = Below b a
-
-abbrev pub ComparedRest : PointId → PointId → Order → Type 0
-ComparedRest a b r = a.digest ≡ b.digest → Compared a b r
+Compared a b Equal = same_id a b ≡ true
+Compared a b Greater = Below b a
 
 -- the id that is a-th in the order
 abbrev pub nth_in : List ℕ → List ℕ → ℕ → PointId
@@ -124,14 +117,9 @@ pub record Between (s x : List ℕ) (n : ℕ) (i : PointId) (low high : ℕ) : T
   pub below : (a : ℕ) → a < low → Below (nth_in s x a) i
   pub above : (a : ℕ) → high ≤ a → a < n → Below i (nth_in s x a)
 
-abbrev pub InOrder : List ℕ → List ℕ → ℕ → PointId → Sought → Type 0
-InOrder s x n i (case-sought.At j) = IsAt s x n i j
-InOrder s x n i (case-sought.Absent low) = Between s x n i low low
-
-pub record Shifted (x : List ℕ) (from to : ℕ) (y : List ℕ) : Type 0 where
-  pub sized : length y ≡ length x
-  pub moved : (a : ℕ) → from ≤ a → a < to → get_or y (8195 + a) 0 ≡ get_or x (8194 + a) 0
-  pub below : (q : ℕ) → q ≤ 8194 + from → get_or y q 0 ≡ get_or x q 0
+abbrev pub InOrder : List ℕ → List ℕ → ℕ → PointId → Result ℕ ℕ → Type 0
+InOrder s x n i (Ok j) = IsAt s x n i j
+InOrder s x n i (Err low) = Between s x n i low low
 
 abbrev pub SortedNext : List ℕ → List ℕ → ℕ → Bool → Type 0
 SortedNext s x j true = Sorted s x (j + 1)
@@ -160,10 +148,6 @@ pub record Built (s y x : List ℕ) (r : Bool) : Type 0 where
   pub sized : length x ≡ length y
   pub index : IndexOf s x r
 
-abbrev pub found_of : Sought → Place
-found_of (case-sought.At j) = case-place.At j
-found_of (case-sought.Absent n) = case-place.Absent
-
-abbrev pub FoundAt : List ℕ → List ℕ → PointId → Place → Type 0
-FoundAt s x i (case-place.At j) = IsAt s x (count_of x) i j
-FoundAt s x i case-place.Absent = NoneIs s x (count_of x) i
+abbrev pub FoundAt : List ℕ → List ℕ → PointId → Option ℕ → Type 0
+FoundAt s x i (Some j) = IsAt s x (count_of x) i j
+FoundAt s x i None = NoneIs s x (count_of x) i

@@ -10,15 +10,14 @@
 
 ghost use Rattle.std.specs.Prelude.{◌≡◌, ◌+◌, ◌≤◌, ◌<◌, ◌^◌, length};
 ghost use Rattle.parts.specs.Limits.{most_kept};
-ghost use Rattle.parts.specs.Parts.{order};
 ghost use Rattle.point.specs.Point.{same_id};
 ghost use Rattle.point.specs.Code.{point_id_of};
-ghost use Rattle.id_index.specs.Code.{count_of, place_in, field_id, added, bucket_of, SameFront, Places, Noted, Compared, ComparedRest};
-ghost use Rattle.id_index.specs.Code.{Chains, InChain, linked, Chained, Once, Sorted, InOrder, Shifted, SortedNext, AllSorted};
-ghost use Rattle.id_index.specs.Code.{Built, Index, found_of, FoundAt};
+ghost use Rattle.id_index.specs.Code.{count_of, place_in, field_id, added, bucket_of, SameFront, Places, Noted, Compared};
+ghost use Rattle.id_index.specs.Code.{Chains, InChain, linked, Chained, Once, Sorted, InOrder, SortedNext, AllSorted};
+ghost use Rattle.id_index.specs.Code.{Built, Index, FoundAt};
 
-use parts::Order;
 use point::PointId;
+use std::cmp::Ordering;
 
 // How many numbers an index has.
 pub const LENGTH: usize = 16386;
@@ -29,37 +28,25 @@ const HEADS: usize = 12290;
 
 const LONGEST_CHAIN: usize = 16;
 
-// The number of an id in the index.
-#[derive(Clone, Copy)]
-pub enum Place {
-    At(usize),
-    Absent,
-}
-
-// The same; where it is absent how many ids were passed in its chain, or how many are below it.
-#[derive(Clone, Copy)]
-enum Sought {
-    At(usize),
-    Absent(usize),
-}
-
 // How many ids there are.
 pub fn count(index: &[u16]) -> usize
     requires { length index.now ≡ 16386 }
     ensures { result ≡ count_of index.now }
 {
-    index[0] as usize
+    usize::from(index[0])
 }
 
 // The place of the field with a number.
+#[tactic(auto, unfolding(crate::specs::Code::place_in))]
 pub fn place_at(index: &[u16], j: usize) -> usize
     requires { (length index.now ≡ 16386) × (j < most_kept) }
     ensures { result ≡ place_in index.now j }
 {
-    index[2 * j + 2] as usize + 65536 * index[2 * j + 3] as usize
+    usize::from(index[2 * j + 2]) + 65536 * usize::from(index[2 * j + 3])
 }
 
 // Notes the place of one more field.
+#[tactic(auto, unfolding(crate::specs::Code::added))]
 pub fn add(index: &mut [u16], place: usize)
     requires { (length index.old ≡ 16386) × ((count_of index.old < most_kept) × (place < 2 ^ 32)) }
     ensures { index.new ≡ added index.old place }
@@ -70,43 +57,45 @@ pub fn add(index: &mut [u16], place: usize)
     index[0] = (n + 1) as u16;
 }
 
+#[tactic(auto, using(crate::proofs::Laws::last_word))]
 fn bucket(id: PointId) -> usize
     ensures value { result ≡ bucket_of (point_id_of id) }
     ensures upper_bound { result < most_kept }
 {
-    let digest = id.digest;
-    digest.d as usize % parts::MOST_KEPT
+    id.digest.d as usize % parts::MOST_KEPT
 }
 
 // Whether the field at a place has an id.
+#[tactic(auto, using(point::proofs::Ids::same_words), unfolding(point::specs::Point::same_id))]
 fn has_id(s: &[u8], place: usize, id: PointId) -> bool
     requires { place + 71 ≤ length s.now }
     ensures { result ≡ same_id (field_id s.now place) (point_id_of id) }
 {
-    point::is_same_id(point::point_id_at(s, place + 3), id)
+    point::point_id_at(s, place + 3) == id
 }
 
 // ---- chains
 
-// The number of an id among the first n, by the chain of its bucket.
-fn walk_chain(s: &[u8], index: &[u16], n: usize, id: PointId) -> Sought
+// The number of an id among the first n, by the chain of its bucket, or else how many ids the chain has.
+#[tactic(auto, using(crate::proofs::Laws::search_next))]
+fn walk_chain(s: &[u8], index: &[u16], n: usize, id: PointId) -> Result<usize, usize>
     requires { Places s.now index.now × ((n ≤ count_of index.now) × Chains s.now index.now n) }
     ensures { InChain s.now index.now n (point_id_of id) result }
 {
-    let mut k = index[HEADS + bucket(id)] as usize;
+    let mut link = index[HEADS + bucket(id)];
     let mut passed = 0;
-    while 0 < k {
-        let j = k - 1;
+    while let Some(j) = usize::from(link).checked_sub(1) {
         if has_id(s, place_at(index, j), id) {
-            return Sought::At(j);
+            return Ok(j);
         }
-        k = index[LINKS + j] as usize;
+        link = index[LINKS + j];
         passed += 1;
     }
-    Sought::Absent(passed)
+    Err(passed)
 }
 
 // Makes an id the last of its bucket.
+#[tactic(auto, unfolding(crate::specs::Code::linked))]
 fn link(index: &mut [u16], j: usize, bucket: usize)
     requires { (length index.old ≡ 16386) × ((j < most_kept) × (bucket < most_kept)) }
     ensures { index.new ≡ linked index.old j bucket }
@@ -116,6 +105,7 @@ fn link(index: &mut [u16], j: usize, bucket: usize)
 }
 
 // Chains one more id, unless it stands before or its chain is long.
+#[tactic(auto, using(crate::proofs::Laws::front_linked, crate::proofs::Laws::one_chained, crate::proofs::Laws::one_once))]
 fn chain_next(s: &[u8], index: &mut [u16], j: usize) -> bool
     requires places { Places s.now index.old × (j < count_of index.old) }
     requires chains { Chains s.now index.old j × Once s.now index.old j }
@@ -123,7 +113,7 @@ fn chain_next(s: &[u8], index: &mut [u16], j: usize) -> bool
     ensures chained { Chained s.now index.new (j + 1) result }
 {
     let id = point::point_id_at(s, place_at(index, j) + 3);
-    let Sought::Absent(passed) = walk_chain(s, index, j, id) else {
+    let Err(passed) = walk_chain(s, index, j, id) else {
         return false;
     };
     if LONGEST_CHAIN <= passed {
@@ -139,59 +129,30 @@ fn chain(s: &[u8], index: &mut [u16]) -> bool
     ensures same_front { SameFront index.old index.new }
     ensures chained { Chained s.now index.new (count_of index.old) result }
 {
-    let n = count(index);
-    let mut j = 0;
-    while j < n {
+    for j in 0..count(index) {
         if !chain_next(s, index, j) {
             return false;
         }
-        j += 1;
     }
     true
 }
 
 // ---- the order of ids: by digest, author and round
 
-fn compare_rounds(x: u32, y: u32) -> Order
-    ensures { result ≡ order x y }
-{
-    if x < y {
-        return Order::Less;
-    }
-    if y < x {
-        return Order::More;
-    }
-    Order::Same
-}
-
-// The order of the id of the field at a place and an id of the same digest.
-fn compare_rest(s: &[u8], place: usize, id: PointId) -> Order
-    requires { place + 71 ≤ length s.now }
-    ensures { ComparedRest (field_id s.now place) (point_id_of id) result }
-{
-    let by_author = parts::compare_to(s, place + 3 + 36, id.author);
-    match by_author {
-        Order::Less => Order::Less,
-        Order::More => Order::More,
-        Order::Same => compare_rounds(parts::u32_at(s, place + 3), id.round),
-    }
-}
-
 // The order of the id of the field at a place and an id.
-fn compare(s: &[u8], place: usize, id: PointId) -> Order
+#[tactic(auto, unfolding(parts::specs::Parts::order, point::specs::Reading::point_id_at, point::specs::Point::same_id))]
+fn compare(s: &[u8], place: usize, id: PointId) -> Ordering
     requires { place + 71 ≤ length s.now }
     ensures { Compared (field_id s.now place) (point_id_of id) result }
 {
-    let by_digest = parts::compare_to(s, place + 3 + 4, id.digest);
-    match by_digest {
-        Order::Less => Order::Less,
-        Order::More => Order::More,
-        Order::Same => compare_rest(s, place, id),
-    }
+    parts::compare_to(s, place + 3 + 4, id.digest)
+        .then_with(|| parts::compare_to(s, place + 3 + 36, id.author))
+        .then_with(|| parts::u32_at(s, place + 3).cmp(&id.round))
 }
 
-// The number of an id among the first n, which are sorted.
-fn seek(s: &[u8], index: &[u16], n: usize, id: PointId) -> Sought
+// The number of an id among the first n, which are sorted, or else how many of these lie below it. `binary_search_by` asks
+// for a closure that may be called at any number: this one may only at those of ids.
+fn seek(s: &[u8], index: &[u16], n: usize, id: PointId) -> Result<usize, usize>
     requires { Places s.now index.now × ((n ≤ count_of index.now) × Sorted s.now index.now n) }
     ensures { InOrder s.now index.now n (point_id_of id) result }
 {
@@ -199,40 +160,28 @@ fn seek(s: &[u8], index: &[u16], n: usize, id: PointId) -> Sought
     let mut high = n;
     while low < high {
         let middle = low + (high - low) / 2;
-        let j = index[LINKS + middle] as usize;
-        let by = compare(s, place_at(index, j), id);
-        match by {
-            Order::Less => low = middle + 1,
-            Order::More => high = middle,
-            Order::Same => return Sought::At(j),
+        let j = usize::from(index[LINKS + middle]);
+        match compare(s, place_at(index, j), id) {
+            Ordering::Less => low = middle + 1,
+            Ordering::Greater => high = middle,
+            Ordering::Equal => return Ok(j),
         }
     }
-    Sought::Absent(low)
-}
-
-// Moves the links from one number to another one up.
-fn shift(index: &mut [u16], from: usize, to: usize)
-    requires { (length index.old ≡ 16386) × ((from ≤ to) × (to < most_kept)) }
-    ensures { Shifted index.old from to index.new }
-{
-    let mut k = to;
-    while from < k {
-        index[LINKS + k] = index[LINKS + k - 1];
-        k -= 1;
-    }
+    Err(low)
 }
 
 // Puts one more id among those before it, which are sorted, unless it stands there.
+#[tactic(auto, using(crate::proofs::Laws::one_sorted))]
 fn sort_next(s: &[u8], index: &mut [u16], j: usize) -> bool
     requires { Places s.now index.old × ((j < count_of index.old) × Sorted s.now index.old j) }
     ensures same_front { SameFront index.old index.new }
     ensures sorted_next { SortedNext s.now index.new j result }
 {
     let id = point::point_id_at(s, place_at(index, j) + 3);
-    let Sought::Absent(below) = seek(s, index, j, id) else {
+    let Err(below) = seek(s, index, j, id) else {
         return false;
     };
-    shift(index, below, j);
+    index.copy_within(LINKS + below..LINKS + j, LINKS + below + 1);
     index[LINKS + below] = j as u16;
     true
 }
@@ -243,13 +192,10 @@ fn sort(s: &[u8], index: &mut [u16]) -> bool
     ensures same_front { SameFront index.old index.new }
     ensures all_sorted { AllSorted s.now index.new result }
 {
-    let n = count(index);
-    let mut j = 0;
-    while j < n {
+    for j in 0..count(index) {
         if !sort_next(s, index, j) {
             return false;
         }
-        j += 1;
     }
     true
 }
@@ -257,6 +203,7 @@ fn sort(s: &[u8], index: &mut [u16]) -> bool
 // ---- the index
 
 // Makes the index of the ids that were noted, unless one stands twice.
+#[tactic(auto, using(crate::proofs::Laws::built_chained, crate::proofs::Laws::built_twice))]
 pub fn build(s: &[u8], index: &mut [u16]) -> bool
     requires { Noted s.now index.old }
     ensures { Built s.now index.old index.new result }
@@ -271,23 +218,15 @@ pub fn build(s: &[u8], index: &mut [u16]) -> bool
     true
 }
 
-fn found(sought: Sought) -> Place
-    ensures { result ≡ found_of sought }
-{
-    match sought {
-        Sought::At(j) => Place::At(j),
-        Sought::Absent(_) => Place::Absent,
-    }
-}
-
 // The number of an id, if it is in the index.
-pub fn find(s: &[u8], index: &[u16], id: PointId) -> Place
+pub fn find(s: &[u8], index: &[u16], id: PointId) -> Option<usize>
     requires { Index s.now index.now }
     ensures { FoundAt s.now index.now (point_id_of id) result }
 {
     let n = count(index);
     if index[1] == 0 {
-        return found(walk_chain(s, index, n, id));
+        walk_chain(s, index, n, id).ok()
+    } else {
+        seek(s, index, n, id).ok()
     }
-    found(seek(s, index, n, id))
 }

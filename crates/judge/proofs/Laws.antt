@@ -1,13 +1,13 @@
 -- Laws of the call: the numbers and the verdict in their order.
+use Rattle.std.specs.Prelude.{Option, None, Some, is_some, Result, Err}
 use Prim.Native.Nat.{ℕ, ◌≤◌}
 use native.Mathlib.Omega.{arith}
 use mathlib.Core.Path.{◌≡◌, refl, ap, sym, ◌∙◌}
 use mathlib.Core.Bool.{Bool, true, false, not, ◌&&◌}
-use mathlib.Core.Option.{Option, none, some}
 use mathlib.Core.List.{List}
 use lib.Dec.{eqb}
 use borrow.Author.Tests.{eq-eqb, ne_eqb, le-leb}
-use Rattle.base.specs.Base.{pick, is_some, is_empty}
+use Rattle.base.specs.Base.{pick, is_empty}
 use Rattle.base.proofs.Impossible.{impossible}
 use Rattle.point.specs.Point.{PointInfo, prev_id}
 use Rattle.point.specs.declared.data.PointMap.TheVariants as case-map
@@ -26,25 +26,26 @@ use Rattle.rules.specs.List.{Listed, read_list, directs, indirects}
 use Rattle.rules.specs.Mismatch.{mismatch, uncovered}
 use Rattle.judge_list.specs.Code.{ListJudged, judged_with}
 use Rattle.judge.specs.Code.{judge_answer_of}
-use Rattle.judge.specs.declared.before.JudgeAnswer as code-answer
-use Rattle.judge.specs.declared.before.JudgeAnswer.TheVariants as case-answer
+use Rattle.reasons.specs.Refusal.{refusal_number}
+use Rattle.reasons.specs.declared.refusal.Refusal.{Refusal}
+use Rattle.reasons.specs.declared.verdict.Verdict as code-verdict
 
 -- ---- the answer over a list, from what judging came to and the tests that led there
 
 -- what a test told of a list, if it was read
 abbrev pub Mismatch : ℕ → PointInfo → Option (List Listed) → Bool → Type 0
-Mismatch presence p o b = (l : List Listed) → o ≡ some l → b ≡ mismatch presence p (directs l) (indirects l)
+Mismatch presence p o b = (l : List Listed) → o ≡ Some l → b ≡ mismatch presence p (directs l) (indirects l)
 
 module _ (c : Settings) (required : Bool) (p : PointInfo) where
   -- what judging over a list came to, if that was read
   abbrev pub Over : Option (List Listed) → Option ListJudged → Type 0
   Over o j = j ≡ judged_with c required p o
 
-  pub was_read : (o : Option (List Listed)) (j : ListJudged) → Over o (some j) → is_some o ≡ true
-  was_read none j h = impossible (cc)
-  was_read (some l) j h = refl
+  pub was_read : (o : Option (List Listed)) (j : ListJudged) → Over o (Some j) → is_some o ≡ true
+  was_read None j h = impossible (cc)
+  was_read (Some l) j h = refl
 
-  over-is : (l : List Listed) (j : ListJudged) → Over (some l) (some j) →
+  over-is : (l : List Listed) (j : ListJudged) → Over (Some l) (Some j) →
       j
       ≡ record {
         verdict = over_lists c required p (directs l) (indirects l);
@@ -52,28 +53,28 @@ module _ (c : Settings) (required : Bool) (p : PointInfo) where
       }
   over-is l j h = cc
 
-  is-uncovered : (l : List Listed) (j : ListJudged) → Over (some l) (some j) → uncovered (prev_id p) (directs l) (indirects l) ≡ j.uncovered
+  is-uncovered : (l : List Listed) (j : ListJudged) → Over (Some l) (Some j) → uncovered (prev_id p) (directs l) (indirects l) ≡ j.uncovered
   is-uncovered l j h = sym (ap (λ (k : ListJudged). k.uncovered) (over-is l j h))
 
 module _ (c : Settings) (required : Bool) (presence : ℕ) (p : PointInfo) where
-  pub answer-unread : (o : Option (List Listed)) → Over c required p o none → Number 7 ≡ over_list c required presence p o
-  answer-unread none h = refl
-  answer-unread (some l) h = impossible (cc)
+  pub answer-unread : (o : Option (List Listed)) → Over c required p o None → Number 7 ≡ over_list c required presence p o
+  answer-unread None h = refl
+  answer-unread (Some l) h = impossible (cc)
 
-  pub answer-mismatch : (o : Option (List Listed)) (j : ListJudged) → Over c required p o (some j) → Mismatch presence p o true →
+  pub answer-mismatch : (o : Option (List Listed)) (j : ListJudged) → Over c required p o (Some j) → Mismatch presence p o true →
       Number 8 ≡ over_list c required presence p o
-  answer-mismatch none j h m = impossible (cc)
-  answer-mismatch (some l) j h m = rw (sym (m l refl))
+  answer-mismatch None j h m = impossible (cc)
+  answer-mismatch (Some l) j h m = rw (sym (m l refl))
 
-  pub answer-uncovered : (o : Option (List Listed)) (j : ListJudged) → Over c required p o (some j) →
+  pub answer-uncovered : (o : Option (List Listed)) (j : ListJudged) → Over c required p o (Some j) →
       Mismatch presence p o false → j.uncovered ≡ true → Number 9 ≡ over_list c required presence p o
-  answer-uncovered none j h m u = impossible (cc)
-  answer-uncovered (some l) j h m u = rw (sym (m l refl), is-uncovered c required p l j h, u)
+  answer-uncovered None j h m u = impossible (cc)
+  answer-uncovered (Some l) j h m u = rw (sym (m l refl), is-uncovered c required p l j h, u)
 
   -- past the numbers
-  answer-judged : (l : List Listed) (j : ListJudged) → Over c required p (some l) (some j) →
-      Mismatch presence p (some l) false → j.uncovered ≡ false →
-      Given (validate c required presence p (directs l) (indirects l)) ≡ over_list c required presence p (some l)
+  answer-judged : (l : List Listed) (j : ListJudged) → Over c required p (Some l) (Some j) →
+      Mismatch presence p (Some l) false → j.uncovered ≡ false →
+      Given (validate c required presence p (directs l) (indirects l)) ≡ over_list c required presence p (Some l)
   answer-judged l j h m u = rw (sym (m l refl), is-uncovered c required p l j h, u)
 
   module _ (two : 2 ≤ presence) where
@@ -84,17 +85,17 @@ module _ (c : Settings) (required : Bool) (presence : ℕ) (p : PointInfo) where
     by-witness true es ts h = rw (← h, ne_eqb presence 0 (λ e. omega (arith, two, e)), ne_eqb presence 1 (λ e. omega (arith, two, e)))
     by-witness false es ts h = rw (← h, ne_eqb presence 0 (λ e. omega (arith, two, e)), ne_eqb presence 1 (λ e. omega (arith, two, e)))
 
-    pub answer-witness : (o : Option (List Listed)) (j : ListJudged) → Over c required p o (some j) →
+    pub answer-witness : (o : Option (List Listed)) (j : ListJudged) → Over c required p o (Some j) →
         Mismatch presence p o false → j.uncovered ≡ false → true ≡ (eqb presence 2 && not (is_empty p.witness)) →
         Given (Invalid (NoRoundInDag case-map.Witness)) ≡ over_list c required presence p o
-    answer-witness none j h m u n = impossible (cc)
-    answer-witness (some l) j h m u n =
+    answer-witness None j h m u n = impossible (cc)
+    answer-witness (Some l) j h m u n =
         ap Given (sym (by-witness true (directs l) (indirects l) n)) ∙ answer-judged l j h m u
 
-    pub answer-verdict : (o : Option (List Listed)) (j : ListJudged) → Over c required p o (some j) →
+    pub answer-verdict : (o : Option (List Listed)) (j : ListJudged) → Over c required p o (Some j) →
         Mismatch presence p o false → j.uncovered ≡ false → false ≡ (eqb presence 2 && not (is_empty p.witness)) → Given j.verdict ≡ over_list c required presence p o
-    answer-verdict none j h m u n = impossible (cc)
-    answer-verdict (some l) j h m u n =
+    answer-verdict None j h m u n = impossible (cc)
+    answer-verdict (Some l) j h m u n =
         ap (λ (k : ListJudged). Given k.verdict) (over-is c required p l j h)
         ∙ (ap Given (sym (by-witness false (directs l) (indirects l) n)) ∙ answer-judged l j h m u)
 
@@ -119,21 +120,21 @@ module _ (c : Settings) (presence : ℕ) (p : PointInfo) (list : List ℕ) where
 -- ---- what is known before the list
 
 module _ (round genesis : ℕ) (wave : WaveChecked) where
-  pub before-genesis : round ≡ genesis → answered (Given Valid) ≡ before_with none (eqb round genesis) wave
+  pub before-genesis : round ≡ genesis → answered (Given Valid) ≡ before_with None (eqb round genesis) wave
   before-genesis h = rw (eq-eqb round genesis h)
 
-  pub before_wave : (found : WaveChecked) (b : Before) → (round ≡ genesis → ⊥) → found ≡ wave → b ≡ before_with none false found →
-      b ≡ before_with none (eqb round genesis) wave
+  pub before_wave : (found : WaveChecked) (b : Before) → (round ≡ genesis → ⊥) → found ≡ wave → b ≡ before_with None false found →
+      b ≡ before_with None (eqb round genesis) wave
   before_wave found b h e f = f ∙ rw (ne_eqb round genesis h, e)
 
 module _ (c : Settings) (s : Schedule) (leader : Bool) (p : PointInfo) (o : Option VerifyError) (e : o ≡ verify c s p) where
   -- a verification that didn't pass
-  pub before_failed : (v : Verdict) (x : VerifyError) → o ≡ some x → v ≡ of_error x → answered (Given v) ≡ before c s leader p
+  pub before_failed : (v : Verdict) (x : VerifyError) → o ≡ Some x → v ≡ of_error x → answered (Given v) ≡ before c s leader p
   unfolding before
   before_failed v x f g = rw (← e, f, g)
 
   -- one that passed
-  pub before-passed : (b : Before) → o ≡ none → b ≡ before_with none (eqb p.id.round c.genesis_round) (wave_checked s leader p) → b ≡ before c s leader p
+  pub before-passed : (b : Before) → o ≡ None → b ≡ before_with None (eqb p.id.round c.genesis_round) (wave_checked s leader p) → b ≡ before c s leader p
   unfolding before
   before-passed b f g = g ∙ rw (← e, f)
 
@@ -145,15 +146,15 @@ buffered c s p o old new e b = rw (← e) b
 
 module _ (leader presence : ℕ) (list : List ℕ) where
   -- the answer stands for what was found, and the buffer holds what it should
-  abbrev pub Answered : Tested → code-answer.JudgeAnswer → List ℕ → List ℕ → Type 0
+  abbrev pub Answered : Tested → Result code-verdict.Verdict Refusal → List ℕ → List ℕ → Type 0
   Answered t a old new = (judge_answer_of a ≡ judge_with leader presence list t) × (new ≡ verify_buffer t old)
 
-  pub answer-number : (t : Tested) (n : ℕ) (old : List ℕ) → t ≡ refused n → Answered t (case-answer.Number n) old old
+  pub answer-number : (t : Tested) (r : Refusal) (old : List ℕ) → t ≡ refused (refusal_number r) → Answered t (Err r) old old
   unfolding judge_with
-  answer-number t n old h = rw h (refl, refl)
+  answer-number t r old h = rw h (refl, refl)
 
   -- the input was admitted, and this is known before the list
-  pub answer-taken : (t : Tested) (i : Input) (a : code-answer.JudgeAnswer) (b : Before) (old new : List ℕ) → t ≡ admitted i →
+  pub answer-taken : (t : Tested) (i : Input) (a : Result code-verdict.Verdict Refusal) (b : Before) (old new : List ℕ) → t ≡ admitted i →
       b ≡ before i.settings i.schedule (eqb leader 1) i.point → judge_answer_of a ≡ judge_from i.settings presence i.point list b →
       new ≡ buffer_with (scheduled i.settings i.schedule i.point) i.point (verify i.settings i.schedule i.point) old →
       Answered t a old new

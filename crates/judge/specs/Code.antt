@@ -1,15 +1,18 @@
 -- What the code's values stand for.
+use Rattle.std.specs.Prelude.{Result, Ok, Err}
 use Rattle.reasons.specs.Code.{verdict_of}
 use Rattle.rules.specs.Judge.{JudgeAnswer, Number, Given, Before, answered, needed}
-use Rattle.judge.specs.declared.before.JudgeAnswer as code-answer
-use Rattle.judge.specs.declared.before.JudgeAnswer.TheVariants as case-answer
+use Rattle.reasons.specs.declared.refusal.Refusal.{Refusal}
+use Rattle.reasons.specs.declared.verdict.Verdict as code-verdict
+use Rattle.reasons.specs.Refusal.{refusal_number}
 use Rattle.judge.specs.declared.before.Before as code-before
 use Rattle.judge.specs.declared.before.Before.TheVariants as case-before
 
-abbrev pub judge_answer_of : code-answer.JudgeAnswer → JudgeAnswer
-judge_answer_of (case-answer.Number n) = Number n
-judge_answer_of (case-answer.Verdict v) = Given (verdict_of v)
+abbrev pub judge_answer_of : Result code-verdict.Verdict Refusal → JudgeAnswer
+judge_answer_of (Err r) = Number (refusal_number r)
+judge_answer_of (Ok v) = Given (verdict_of v)
 
-abbrev pub before_of : code-before.Before → Before
-before_of (case-before.Answered a) = answered (judge_answer_of a)
-before_of (case-before.Needed required) = needed required
+abbrev pub before_of : Result code-before.Before Refusal → Before
+before_of (Err r) = answered (Number (refusal_number r))
+before_of (Ok (case-before.Judged v)) = answered (Given (verdict_of v))
+before_of (Ok (case-before.Needed required)) = needed required

@@ -14,16 +14,15 @@ ghost use Rattle.rules.specs.Judge.{tested, verify_buffer, Given, needed, over_l
 ghost use Rattle.rules.specs.List.{read_list};
 ghost use Rattle.judge.specs.Code.{judge_answer_of};
 
-pub use before::{Before, JudgeAnswer, before_list};
-use judge_list::JudgedList;
-use point::{PointInfo, PointMap, ReadPoint};
-use reasons::{InvalidReason, Verdict};
-use schedule::{ReadSettings, Settings};
+pub use before::{Before, before_list};
+use point::{PointInfo, PointMap};
+use reasons::{InvalidReason, Refusal, Verdict};
+use schedule::Settings;
 
-fn no_round(map: PointMap) -> JudgeAnswer
+fn no_round(map: PointMap) -> Result<Verdict, Refusal>
     ensures { judge_answer_of result ≡ Given (Invalid (NoRoundInDag map)) }
 {
-    JudgeAnswer::Verdict(Verdict::Invalid(InvalidReason::NoRoundInDag(map)))
+    Ok(Verdict::Invalid(InvalidReason::NoRoundInDag(map)))
 }
 
 // Whether the point has a witness whose round is not in the DAG.
@@ -45,26 +44,22 @@ fn judge_over_list(
     rec: &[u8],
     info: PointInfo,
     list: &[u8],
-) -> JudgeAnswer
+) -> Result<Verdict, Refusal>
     requires reads { Reads rec.now info }
     requires le_presence { 2 ≤ presence }
     ensures { judge_answer_of result ≡ over_list (settings_of conf) required presence (point_of rec.now info) (read_list list.now) }
 {
-    let JudgedList::Judged { verdict, uncovered } = judge_list::judge_list(
-        conf, required, rec, info, list,
-    ) else {
-        return JudgeAnswer::Number(7);
-    };
+    let judged = judge_list::judge_list(conf, required, rec, info, list).ok_or(Refusal::Entries)?;
     if judge_mismatch::is_mismatch(presence, rec, info, list) {
-        return JudgeAnswer::Number(8);
+        return Err(Refusal::Mismatch);
     }
-    if uncovered {
-        return JudgeAnswer::Number(9);
+    if judged.uncovered {
+        return Err(Refusal::Uncovered);
     }
     if lacks_witness(presence, rec, info) {
         return no_round(PointMap::Witness);
     }
-    JudgeAnswer::Verdict(verdict)
+    Ok(judged.verdict)
 }
 
 // Judges a point that has no answer yet by how many of its rounds are in the DAG: with two or three its list is needed.
@@ -75,7 +70,7 @@ fn judge_needed(
     rec: &[u8],
     info: PointInfo,
     list: &[u8],
-) -> JudgeAnswer
+) -> Result<Verdict, Refusal>
     requires { Reads rec.now info }
     ensures { judge_answer_of result ≡ judge_from (settings_of conf) presence (point_of rec.now info) list.now (needed required) }
 {
@@ -87,6 +82,7 @@ fn judge_needed(
 }
 
 // Numbers 1 to 5 in number order, then the judgement.
+#[tactic(auto, unfolding(rules::specs::Judge::tested, rules::specs::Judge::judge_with))]
 pub fn judge(
     settings: &[u8],
     schedule: &[u8],
@@ -95,33 +91,24 @@ pub fn judge(
     presence: u8,
     list: &[u8],
     peers: &mut [u8],
-) -> JudgeAnswer
+) -> Result<Verdict, Refusal>
     ensures same { judge_answer_of result ≡ judge_with leader presence list.now
         (tested settings.now schedule.now rec.now (flags_ok leader presence) (length peers.old)) }
     ensures buffer { peers.new ≡ verify_buffer
         (tested settings.now schedule.now rec.now (flags_ok leader presence) (length peers.old))
         peers.old }
 {
-    let ReadSettings::Settings(conf) = schedule::read_settings(settings) else {
-        return JudgeAnswer::Number(1);
-    };
-    let read = schedule::read_schedule(schedule);
-    if !read.readable {
-        return JudgeAnswer::Number(2);
-    }
-    let spans = read.schedule;
-    let ReadPoint::Point(info) = point::read_point(rec) else {
-        return JudgeAnswer::Number(3);
-    };
+    let conf = schedule::read_settings(settings).ok_or(Refusal::Settings)?;
+    let spans = schedule::read_schedule(schedule).ok_or(Refusal::Schedule)?;
+    let info = point::read_point(rec).ok_or(Refusal::Record)?;
     if !are_in_domain(rec, info, leader, presence) {
-        return JudgeAnswer::Number(4);
+        return Err(Refusal::Domain);
     }
     if peers.len() < parts::PEERS_ROOM {
-        return JudgeAnswer::Number(5);
+        return Err(Refusal::Short);
     }
-    let known = before::before_list(conf, schedule, spans, rec, info, leader == 1, peers);
-    match known {
-        Before::Answered(answer) => answer,
+    match before::before_list(conf, schedule, spans, rec, info, leader == 1, peers)? {
+        Before::Judged(verdict) => Ok(verdict),
         Before::Needed(required) => judge_needed(conf, required, presence, rec, info, list),
     }
 }

@@ -1,20 +1,21 @@
 -- Laws of entries: the steps of reading one, and where its parts stand.
+use Rattle.parts.specs.Code.{number}
+use Rattle.std.specs.Prelude.{Option, None, Some, option_map, is_some}
 use Prim.Native.Nat.{ℕ, zero, suc, ◌+◌, ◌-◌, ◌≤◌, ◌<◌}
 use native.Mathlib.Omega.{arith}
 use mathlib.Core.Path.{◌≡◌, refl, ap, sym, ◌∙◌}
 use mathlib.Core.Bool.{Bool, true, false, ◌&&◌}
-use mathlib.Core.Option.{Option, none, some, map}
 use mathlib.Core.List.{List, [], ◌∷◌}
 use lib.ListN.{length, get_or, take, drop, length-drop}
 use lib.Seq.{drop-drop}
 use lib.Dec.{eqb}
 use borrow.Author.Tests.{le-leb, lt-leb, eq-eqb, ne_eqb}
-use Rattle.base.specs.Base.{pick, is_some}
+use Rattle.base.specs.Base.{pick}
 use Rattle.base.proofs.Option.{picked, and_then_lem}
 use Rattle.parts.specs.Bytes.{little_at}
-use Rattle.map.specs.declared.Found.{Found}
-use Rattle.map.specs.Code.{found_of}
 use Rattle.record.specs.Record.{field_row, field_ok, record_end}
+use Rattle.record.proofs.Laws.{field-length}
+use Rattle.rules.proofs.Pieces.{root-length}
 use Rattle.point.specs.Point.{PointId, PointInfo, digest_safe, in_domain}
 use Rattle.point.specs.Reading.{point_id_at, read_point}
 use Rattle.point.specs.Code.{through_of, link_of, point_of, Reads}
@@ -23,16 +24,13 @@ use Rattle.point.specs.declared.data.AnchorStageRole.TheVariants.{Proof, Trigger
 use Rattle.point.specs.declared.link.Through as code-through
 use Rattle.point.specs.declared.link.AnchorLink as code-link
 use Rattle.point.specs.declared.link.AnchorLink.TheVariants as case-link
+use Rattle.parts.specs.declared.Id.{Id}
 use Rattle.point.specs.declared.info.PointInfo as code-info
 use Rattle.reasons.specs.Invalid.{dag_round}
 use Rattle.rules.specs.DagPoint.{DagPoint, Valid, TransInvalid, Invalid, IllFormed, NotFound, Dropped}
 use Rattle.rules.specs.List.{is_named, is_listable, Stated, RecordFront, record_front, record_at, id_at17, is_root, read_state, Listed, entry_at, read_entry}
-use Rattle.judge_entries.specs.Code.{dag_point_of, part_of, read_record_of, RecordPlaced, EntryPlaced, read_stated_of, StatedPlaced}
+use Rattle.judge_entries.specs.Code.{dag_point_of, part_of, record_front_of, RecordPlaced, EntryPlaced, stated_of, StatedPlaced}
 use Rattle.judge_entries.specs.declared.Stated as code-stated
-use Rattle.judge_entries.specs.declared.ReadStated as code-read-stated
-use Rattle.judge_entries.specs.declared.ReadStated.TheVariants as case-read-stated
-use Rattle.judge_entries.specs.declared.ReadRecord as code-read-record
-use Rattle.judge_entries.specs.declared.ReadRecord.TheVariants as case-read-record
 
 -- ---- parts of a list
 
@@ -46,51 +44,31 @@ part_after s front place end =
 
 -- ---- the record of a listed point
 
-pub named-direct : (q : PointInfo) (l : code-link.AnchorLink) (t : code-through.Through) (f : Found) → l ≡ case-link.Direct t →
-    found_of f ≡ digest_safe q (through_of t) → is_named q (link_of l) ≡ is_some (found_of f)
-named-direct q l t f e h = rw (e, h)
-
-module _ (q : PointInfo) where
-  pub unlisted_domain : in_domain q ≡ false → is_listable q ≡ false
-  unfolding is_listable
-  unlisted_domain d = rw d
-
-  pub unlisted_proof : in_domain q ≡ true → is_named q q.anchor_proof ≡ false → is_listable q ≡ false
-  unfolding is_listable
-  unlisted_proof d p = rw (d, p)
-
-  pub listed-trigger : in_domain q ≡ true → is_named q q.anchor_proof ≡ true → is_listable q ≡ is_named q q.anchor_trigger
-  unfolding is_listable
-  listed-trigger d p = rw (d, p)
-
-pub front_endless : (s : List ℕ) → record_end s ≡ none → record_front s ≡ none
+pub front_endless : (s : List ℕ) → record_end s ≡ None → record_front s ≡ None
 unfolding record_front
 front_endless s h = rw h
 
 -- the part of a slice up to where its record ends
-module _ (s part : List ℕ) (n : ℕ) (e : record_end s ≡ some n) (p : part ≡ take n s) where
-  pub front-unread : read_point part ≡ none → record_front s ≡ none
+module _ (s part : List ℕ) (n : ℕ) (e : record_end s ≡ Some n) (p : part ≡ take n s) where
+  pub front-unread : read_point part ≡ None → record_front s ≡ None
   unfolding record_front
   front-unread h = rw (e, ← p, h)
 
   module _ (i : code-info.PointInfo) (h : Reads part i) where
-    pub front_unlisted : is_listable (point_of part i) ≡ false → record_front s ≡ none
+    pub front_unlisted : is_listable (point_of part i) ≡ false → record_front s ≡ None
     unfolding record_front
     front_unlisted g = rw (e, ← p, h.read, g)
 
-    pub front-from : Reads (take n s) i
-    front-from = rw p at h
-
-    pub front-listed : is_listable (point_of part i) ≡ true → record_front s ≡ some (record { point = point_of (take n s) i; size = n })
+    pub front-listed : is_listable (point_of part i) ≡ true → record_front s ≡ Some (record { point = point_of (take n s) i; size = n })
     unfolding record_front
     front-listed g = rw (e, ← p, h.read, g)
 
 -- the parts of a record that was read at the front of a slice
 pub record Fronted (s : List ℕ) (x : RecordFront) : Type 0 where
-  pub end : record_end s ≡ some x.size
-  pub reads : read_point (take x.size s) ≡ some x.point
+  pub end : record_end s ≡ Some x.size
+  pub reads : read_point (take x.size s) ≡ Some x.point
 
-pub fronted : (s : List ℕ) (x : RecordFront) → record_front s ≡ some x → Fronted s x
+pub fronted : (s : List ℕ) (x : RecordFront) → record_front s ≡ Some x → Fronted s x
 unfolding record_front
 fronted s x h =
     let n = and_then_lem (record_end s) _ x h in
@@ -98,13 +76,20 @@ fronted s x h =
     let e : record { point = q.0; size = n.0 } ≡ x = let p = (picked (is_listable q.0) _ x q.2).1 in cc in
     record { end = rw (← e) n.1; reads = rw (← e) q.1 }
 
+-- ---- how long a slice is in which these were found
+
+pub root_long : (s : List ℕ) → is_root s ≡ true → 72 ≤ length s
+root_long = root-length
+
+pub flags_long : (s : List ℕ) → field_ok (field_row 16 4 4) s 0 ≡ true → 7 ≤ length s
+flags_long = field-length 16 4
+
+pub target_long : (s : List ℕ) → field_ok (field_row 19 1 1) s 0 ≡ true → 4 ≤ length s
+target_long = field-length 19 1
+
 -- ---- a root cause
 
 module _ (s : List ℕ) where
-  pub root_unfit : field_ok (field_row 18 69 69) s 0 ≡ false → is_root s ≡ false
-  unfolding is_root
-  root_unfit f = rw f
-
   module _ (f : field_ok (field_row 18 69 69) s 0 ≡ true) (r : ℕ) (e : r ≡ little_at 4 s 3) where
     pub root-low : r < 4 → is_root s ≡ false
     unfolding is_root
@@ -121,52 +106,17 @@ module _ (s : List ℕ) where
 -- ---- what stands after the flags, by the state
 
 module _ (s : List ℕ) where
-  pub state-valid : read_state 0 0 s ≡ record_at Valid 0 s
-  unfolding read_state
-  state-valid = refl
-
-  pub state_rootless : is_root s ≡ false → read_state 1 0 s ≡ none
-  unfolding read_state
-  state_rootless h = rw h
-
   pub state_trans : (i : PointId) → is_root s ≡ true → i ≡ point_id_at s 3 → read_state 1 0 s ≡ record_at (λ q. TransInvalid q i (get_or s 71 0)) 72 s
   unfolding read_state
   state_trans i h e = rw (h, e)
 
   module _ (reason : ℕ) where
-    pub state_reasonless : is_some (dag_round reason) ≡ false → read_state 2 reason s ≡ none
+    pub state_invalid : is_some (dag_round reason) ≡ true → read_state 2 reason s ≡ record_at (λ q. Invalid q reason) 0 s
     unfolding read_state
-    state_reasonless h = rw h
-
-    pub state-invalid : is_some (dag_round reason) ≡ true → read_state 2 reason s ≡ record_at (λ q. Invalid q reason) 0 s
-    unfolding read_state
-    state-invalid h = rw h
-
-    pub state-low : reason < 1 → read_state 3 reason s ≡ none
-    unfolding read_state
-    state-low h = rw (lt-leb 1 reason h)
-
-    pub state_high : 1 ≤ reason → 16 < reason → read_state 3 reason s ≡ none
-    unfolding read_state
-    state_high l h = rw (le-leb 1 reason l, lt-leb reason 16 h)
-
-    pub state-ill-formed : 1 ≤ reason → reason ≤ 16 → read_state 3 reason s ≡ id_at17 (λ i. IllFormed i reason) s
-    unfolding read_state
-    state-ill-formed l h = rw (le-leb 1 reason l, le-leb reason 16 h)
-
-  pub state_not_found : read_state 4 0 s ≡ id_at17 NotFound s
-  unfolding read_state
-  state_not_found = refl
-
-  pub state-dropped : read_state 5 0 s ≡ some (record { point = Dropped; size = 0 })
-  unfolding read_state
-  state-dropped = refl
-
-pub state-by : (state reason m n : ℕ) (s : List ℕ) → state ≡ m → reason ≡ n → read_state state reason s ≡ read_state m n s
-state-by state reason m n s e f = rw (e, f)
+    state_invalid h = rw h
 
 -- the rows of the states other than 2 and 3, where the reason is not 0
-none_of_four : (a b d e : Bool) (x : Option Stated) → pick a none (pick b none (pick d none (pick (e && false) x none))) ≡ none
+none_of_four : (a b d e : Bool) (x : Option Stated) → pick a None (pick b None (pick d None (pick (e && false) x None))) ≡ None
 none_of_four true b d e x = refl
 none_of_four false true d e x = refl
 none_of_four false false true e x = refl
@@ -174,47 +124,40 @@ none_of_four false false false true x = refl
 none_of_four false false false false x = refl
 
 module _ (state reason : ℕ) (s : List ℕ) (not2 : state ≡ 2 → ⊥) (not3 : state ≡ 3 → ⊥) where
-  pub state-numbered : (reason ≡ 0 → ⊥) → read_state state reason s ≡ none
+  pub state-numbered : (reason ≡ 0 → ⊥) → read_state state reason s ≡ None
   unfolding read_state
   state-numbered h =
       rw (ne_eqb state 2 not2, ne_eqb state 3 not3, ne_eqb reason 0 h)
-      (none_of_four (eqb state 0) (eqb state 1) (eqb state 4) (eqb state 5) (some (record { point = Dropped; size = 0 })))
+      (none_of_four (eqb state 0) (eqb state 1) (eqb state 4) (eqb state 5) (Some (record { point = Dropped; size = 0 })))
 
-  pub state-unknown : (state ≡ 0 → ⊥) → (state ≡ 1 → ⊥) → (state ≡ 4 → ⊥) → (state ≡ 5 → ⊥) → read_state state reason s ≡ none
+  pub state-unknown : (state ≡ 0 → ⊥) → (state ≡ 1 → ⊥) → (state ≡ 4 → ⊥) → (state ≡ 5 → ⊥) → read_state state reason s ≡ None
   unfolding read_state
   state-unknown not0 not1 not4 not5 =
       rw (ne_eqb state 0 not0, ne_eqb state 1 not1, ne_eqb state 2 not2, ne_eqb state 3 not3, ne_eqb state 4 not4, ne_eqb state 5 not5)
 
 -- a state with no record: the id of tag 17
-module _ (s : List ℕ) (state : PointId → DagPoint) where
-  pub id_unfit : field_ok (field_row 17 68 68) s 0 ≡ false → id_at17 state s ≡ none
-  id_unfit h = rw h
-
-  pub id-read : (i : PointId) → i ≡ point_id_at s 3 → field_ok (field_row 17 68 68) s 0 ≡ true → id_at17 state s ≡ some (record { point = state i; size = 71 })
-  id-read i e h = rw (h, e)
-
 -- an entry's record, read from a place on
 pub record Back (s : List ℕ) (front end : ℕ) (i : code-info.PointInfo) : Type 0 where
   pub ordered : front ≤ end
   pub inside : end ≤ length s
   pub from : Reads (part_of s front end) i
-  pub states : (state : PointInfo → DagPoint) → record_at state front s ≡ some (record { point = state (point_of (part_of s front end) i); size = end })
+  pub states : (state : PointInfo → DagPoint) → record_at state front s ≡ Some (record { point = state (point_of (part_of s front end) i); size = end })
 
-module _ (s part : List ℕ) (front : ℕ) (r : code-read-record.ReadRecord) (p : part ≡ drop front s) (h : read_record_of part r ≡ record_front part) where
-  pub back_none : r ≡ case-read-record.Unreadable → (state : PointInfo → DagPoint) → record_at state front s ≡ none
+module _ (s part : List ℕ) (front : ℕ) (r : Option (code-info.PointInfo × ℕ)) (p : part ≡ drop front s) (h : option_map (record_front_of part) r ≡ record_front part) where
+  pub back_none : r ≡ None → (state : PointInfo → DagPoint) → record_at state front s ≡ None
   back_none g state =
-      let o : record_front (drop front s) ≡ none = ap record_front (sym p) ∙ (sym h ∙ ap (read_record_of part) g) in
+      let o : record_front (drop front s) ≡ None = ap record_front (sym p) ∙ (sym h ∙ ap (option_map (record_front_of part)) g) in
       rw o
 
-  back_at : (n : ℕ) (i : code-info.PointInfo) → r ≡ case-read-record.Record i n →
-      record_front (drop front s) ≡ some (record { point = point_of (take n part) i; size = n })
-  back_at n i g = ap record_front (sym p) ∙ (sym h ∙ ap (read_record_of part) g)
+  back_at : (n : ℕ) (i : code-info.PointInfo) → r ≡ Some (i, n) →
+      record_front (drop front s) ≡ Some (record { point = point_of (take n part) i; size = n })
+  back_at n i g = ap record_front (sym p) ∙ (sym h ∙ ap (option_map (record_front_of part)) g)
 
-  pub back : (n end : ℕ) (i : code-info.PointInfo) → r ≡ case-read-record.Record i n → RecordPlaced part r → front ≤ length s → end ≡ front + n →
+  pub back : (n end : ℕ) (i : code-info.PointInfo) → r ≡ Some (i, n) → RecordPlaced part r → front ≤ length s → end ≡ front + n →
       Back s front end i
   back n end i g q b e =
       let a = part_is s front n end e in
-      let w : RecordPlaced part (case-read-record.Record i n) = rw g at q in
+      let w : RecordPlaced part (Some (i, n)) = rw g at q in
       let t : take n part ≡ part_of s front end = ap (take n) p ∙ sym a in
       let l : n ≤ length (drop front s) = rw p at w.0 in
       record {
@@ -236,27 +179,15 @@ listed_as aim front s x =
     }
 
 module _ (aim : Option AnchorStageRole) (front : ℕ) (s : List ℕ) where
-  pub entry_unfit : field_ok (field_row 16 4 4) s 0 ≡ false → entry_at aim front s ≡ none
-  unfolding entry_at
-  entry_unfit f = rw f
-
   module _ (f : field_ok (field_row 16 4 4) s 0 ≡ true) where
-    pub entry-certified : 1 < get_or s 4 0 → entry_at aim front s ≡ none
-    unfolding entry_at
-    entry-certified h = rw (f, lt-leb (get_or s 4 0) 1 h)
-
-    pub entry_first : get_or s 4 0 ≤ 1 → 1 < get_or s 5 0 → entry_at aim front s ≡ none
-    unfolding entry_at
-    entry_first g h = rw (f, le-leb (get_or s 4 0) 1 g, lt-leb (get_or s 5 0) 1 h)
-
-    pub entry_flagged : get_or s 4 0 ≤ 1 → get_or s 5 0 ≤ 1 → entry_at aim front s ≡ map (listed_as aim front s) (read_state (get_or s 3 0) (get_or s 6 0) (drop 7 s))
+    pub entry_flagged : get_or s 4 0 ≤ 1 → get_or s 5 0 ≤ 1 → entry_at aim front s ≡ option_map (listed_as aim front s) (read_state (get_or s 3 0) (get_or s 6 0) (drop 7 s))
     unfolding entry_at
     entry_flagged g h = rw (f, le-leb (get_or s 4 0) 1 g, le-leb (get_or s 5 0) 1 h)
 
-  pub listed-none : (o : Option Stated) → o ≡ none → map (listed_as aim front s) o ≡ none
+  pub listed-none : (o : Option Stated) → o ≡ None → option_map (listed_as aim front s) o ≡ None
   listed-none o h = rw h
 
-pub placed-stated : (s : List ℕ) (x : code-stated.Stated) (r : code-read-stated.ReadStated) → r ≡ case-read-stated.Stated x → StatedPlaced s r →
+pub placed-stated : (s : List ℕ) (x : code-stated.Stated) (r : Option code-stated.Stated) → r ≡ Some x → StatedPlaced s r →
     EntryPlaced s x.point x.place x.end
 placed-stated s x r g q = rw g at q
 
@@ -267,9 +198,9 @@ module _ (front : ℕ) (t s part : List ℕ) (d : drop front t ≡ s) (p : part 
       let e : drop (front + 7) t ≡ part = sym (drop-drop 7 front t) ∙ (ap (drop 7) d ∙ sym p) in
       part_after t (front + 7) x.place x.end ∙ ap (λ (l : List ℕ). part_of l x.place x.end) e
 
-  pub listed-some : (aim : Option AnchorStageRole) (o : Option Stated) → o ≡ read_stated_of part (case-read-stated.Stated x) →
-      map (listed_as aim front s) o
-      ≡ some (record {
+  pub listed-some : (aim : Option AnchorStageRole) (o : Option Stated) → o ≡ option_map (stated_of part) (Some x) →
+      option_map (listed_as aim front s) o
+      ≡ Some (record {
         aim = aim;
         entry = record {
           state = dag_point_of (part_of t (front + 7 + x.place) (front + 7 + x.end)) x.point;
@@ -280,7 +211,7 @@ module _ (front : ℕ) (t s part : List ℕ) (d : drop front t ≡ s) (p : part 
       })
   listed-some aim o h = rw (h, part_same)
 
-  pub listed-placed : (r : code-read-stated.ReadStated) → r ≡ case-read-stated.Stated x → StatedPlaced part r → 7 ≤ length s →
+  pub listed-placed : (r : Option code-stated.Stated) → r ≡ Some x → StatedPlaced part r → 7 ≤ length s →
       (0 < front + 7 + x.end) × EntryPlaced t x.point (front + 7 + x.place) (front + 7 + x.end)
   listed-placed r g q h =
       let w = placed-stated part x r g q in
@@ -296,10 +227,10 @@ module _ (front : ℕ) (t s part : List ℕ) (d : drop front t ≡ s) (p : part 
 
 -- ---- the front of an entry
 
-pub read-empty : (s : List ℕ) → length s ≡ 0 → read_entry s ≡ none
+pub read_empty : (s : List ℕ) → length s ≡ 0 → read_entry s ≡ None
 unfolding read_entry entry_at field_ok
-read-empty [] h = refl
-read-empty (b ∷ s) h = absurd (omega arith)
+read_empty [] h = refl
+read_empty (b ∷ s) h = absurd (omega arith)
 
 over-one : (n : ℕ) → (n ≡ 0 → ⊥) → (n ≡ 1 → ⊥) → 1 < n
 over-one zero g h = absurd (g refl)
@@ -307,32 +238,22 @@ over-one (suc zero) g h = absurd (h refl)
 over-one (suc (suc n)) g h = omega arith
 
 module _ (s : List ℕ) where
-  pub read-direct : (get_or s 0 0 ≡ 19 → ⊥) → read_entry s ≡ entry_at none 0 s
+  pub read-direct : (get_or s 0 0 ≡ 19 → ⊥) → read_entry s ≡ entry_at None 0 s
   unfolding read_entry
   read-direct h = rw (ne_eqb (get_or s 0 0) 19 h)
 
   module _ (e : get_or s 0 0 ≡ 19) where
-    pub read_unfit : field_ok (field_row 19 1 1) s 0 ≡ false → read_entry s ≡ none
-    unfolding read_entry
-    read_unfit f = rw (f, eq-eqb (get_or s 0 0) 19 e)
-
     module _ (f : field_ok (field_row 19 1 1) s 0 ≡ true) where
-      pub read-proof : get_or s 3 0 ≡ 0 → read_entry s ≡ entry_at (some Proof) 4 (drop 4 s)
+      pub read-proof : get_or s 3 0 ≡ 0 → read_entry s ≡ entry_at (Some Proof) 4 (drop 4 s)
       unfolding read_entry
       read-proof h = rw (f, eq-eqb (get_or s 0 0) 19 e, h)
 
-      pub read-trigger : get_or s 3 0 ≡ 1 → read_entry s ≡ entry_at (some Trigger) 4 (drop 4 s)
+      pub read-trigger : get_or s 3 0 ≡ 1 → read_entry s ≡ entry_at (Some Trigger) 4 (drop 4 s)
       unfolding read_entry
       read-trigger h = rw (f, eq-eqb (get_or s 0 0) 19 e, h)
 
-      pub read_roleless : (get_or s 3 0 ≡ 0 → ⊥) → (get_or s 3 0 ≡ 1 → ⊥) → read_entry s ≡ none
+      pub read_roleless : (get_or s 3 0 ≡ 0 → ⊥) → (get_or s 3 0 ≡ 1 → ⊥) → read_entry s ≡ None
       unfolding read_entry
       read_roleless g h = rw (f, eq-eqb (get_or s 0 0) 19 e, lt-leb (get_or s 3 0) 1 (over-one (get_or s 3 0) g h))
 
 -- ---- for those who judge entries: tests of a round that a call gave
-
-pub equal-given : (a b d : ℕ) → a ≡ b → b ≡ d → eqb a d ≡ true
-equal-given a b d h e = eq-eqb a d (h ∙ e)
-
-pub unequal_given : (a b d : ℕ) → (a ≡ b → ⊥) → b ≡ d → eqb a d ≡ false
-unequal_given a b d h e = ne_eqb a d (λ q. h (q ∙ sym e))

@@ -1,23 +1,14 @@
 -- What the code's values stand for, and what its functions promise each other.
-use Rattle.std.specs.Prelude.{ℕ, ◌-◌, ◌≤◌, ◌<◌, Bool, List, length, take}
-use Rattle.std.proofs.Math.Option.{Option, none, some}
+use Rattle.std.specs.Prelude.{ℕ, ◌-◌, ◌≤◌, ◌<◌, Bool, List, length, take, Option, None, Some}
 use Rattle.parts.specs.Bytes.{bytes_at}
 use Rattle.point.specs.Code.{point_id_of, point_of, Reads}
-use Rattle.point.specs.declared.data.AnchorStageRole.{AnchorStageRole}
 use Rattle.rules.specs.DagPoint.{DagPoint, Valid, TransInvalid, Invalid, IllFormed, NotFound, Dropped, Entry}
 use Rattle.rules.specs.List.{Stated, RecordFront, Listed}
+use Rattle.point.specs.declared.info.PointInfo as code-info
 use Rattle.judge_entries.specs.declared.DagPoint as code-point
 use Rattle.judge_entries.specs.declared.DagPoint.TheVariants as case-point
-use Rattle.judge_entries.specs.declared.Aim as code-aim
-use Rattle.judge_entries.specs.declared.Aim.TheVariants as case-aim
 use Rattle.judge_entries.specs.declared.Stated as code-stated
-use Rattle.judge_entries.specs.declared.ReadStated as code-read-stated
-use Rattle.judge_entries.specs.declared.ReadStated.TheVariants as case-read-stated
-use Rattle.judge_entries.specs.declared.ReadRecord as code-read-record
-use Rattle.judge_entries.specs.declared.ReadRecord.TheVariants as case-read-record
 use Rattle.judge_entries.specs.declared.Listed as code-listed
-use Rattle.judge_entries.specs.declared.ReadListed as code-read-listed
-use Rattle.judge_entries.specs.declared.ReadListed.TheVariants as case-read-listed
 
 -- of an entry's record, which stands apart
 abbrev pub dag_point_of : List ℕ → code-point.DagPoint → DagPoint
@@ -40,22 +31,17 @@ ReadFrom s (case-point.IllFormed i n) = Unit
 ReadFrom s (case-point.NotFound i) = Unit
 ReadFrom s case-point.Dropped = Unit
 
-abbrev pub aim_of : code-aim.Aim → Option AnchorStageRole
-aim_of case-aim.Dependency = none
-aim_of (case-aim.Target g) = some g
-
 -- the record that stands from a place to another
 abbrev pub part_of : List ℕ → ℕ → ℕ → List ℕ
 part_of s place end = bytes_at (end - place) s place
 
-abbrev pub read_record_of : List ℕ → code-read-record.ReadRecord → Option RecordFront
-read_record_of s (case-read-record.Record i n) = some (record { point = point_of (take n s) i; size = n })
-read_record_of s case-read-record.Unreadable = none
+abbrev pub record_front_of : List ℕ → code-info.PointInfo × ℕ → RecordFront
+record_front_of s x = record { point = point_of (take x.1 s) x.0; size = x.1 }
 
 -- the record that was read, at the front of a slice
-abbrev pub RecordPlaced : List ℕ → code-read-record.ReadRecord → Type 0
-RecordPlaced s (case-read-record.Record i n) = (n ≤ length s) × Reads (take n s) i
-RecordPlaced s case-read-record.Unreadable = Unit
+abbrev pub RecordPlaced : List ℕ → Option (code-info.PointInfo × ℕ) → Type 0
+RecordPlaced s (Some x) = (x.1 ≤ length s) × Reads (take x.1 s) x.0
+RecordPlaced s None = Unit
 
 abbrev pub stated_of : List ℕ → code-stated.Stated → Stated
 stated_of s x = record { point = dag_point_of (part_of s x.place x.end) x.point; size = x.end }
@@ -66,26 +52,18 @@ pub record EntryPlaced (s : List ℕ) (d : code-point.DagPoint) (place end : ℕ
   pub inside : end ≤ length s
   pub read : ReadFrom (part_of s place end) d
 
-abbrev pub read_stated_of : List ℕ → code-read-stated.ReadStated → Option Stated
-read_stated_of s (case-read-stated.Stated x) = some (stated_of s x)
-read_stated_of s case-read-stated.Unreadable = none
-
-abbrev pub StatedPlaced : List ℕ → code-read-stated.ReadStated → Type 0
-StatedPlaced s (case-read-stated.Stated x) = EntryPlaced s x.point x.place x.end
-StatedPlaced s case-read-stated.Unreadable = Unit
+abbrev pub StatedPlaced : List ℕ → Option code-stated.Stated → Type 0
+StatedPlaced s (Some x) = EntryPlaced s x.point x.place x.end
+StatedPlaced s None = Unit
 
 abbrev pub listed_of : List ℕ → code-listed.Listed → Listed
 listed_of s x =
     record {
-      aim = aim_of x.aim;
+      aim = x.aim;
       entry = entry_of (part_of s x.place x.end) x.state x.certified x.first_valid;
       size = x.end;
     }
 
-abbrev pub read_listed_of : List ℕ → code-read-listed.ReadListed → Option Listed
-read_listed_of s (case-read-listed.Listed x) = some (listed_of s x)
-read_listed_of s case-read-listed.Unreadable = none
-
-abbrev pub ListedPlaced : List ℕ → code-read-listed.ReadListed → Type 0
-ListedPlaced s (case-read-listed.Listed x) = (0 < x.end) × EntryPlaced s x.state x.place x.end
-ListedPlaced s case-read-listed.Unreadable = Unit
+abbrev pub ListedPlaced : List ℕ → Option code-listed.Listed → Type 0
+ListedPlaced s (Some x) = (0 < x.end) × EntryPlaced s x.state x.place x.end
+ListedPlaced s None = Unit

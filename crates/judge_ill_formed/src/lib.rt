@@ -9,23 +9,16 @@ ghost use Rattle.rules.specs.CheckIllFormed.{is_regular, wave_checked};
 
 use point::{PointInfo, PointRole};
 use reasons::{IllFormedReason, WaveChecked};
-use schedule::{RequireRegularPoints, Schedule};
+use schedule::Schedule;
 
 fn is_regular(role: PointRole) -> bool
     ensures { result ≡ is_regular role }
 {
-    match role {
-        PointRole::Regular => true,
-        PointRole::AnchorProof {
-            seq_no: _,
-            is_last: _,
-        } => false,
-        PointRole::AnchorTrigger => false,
-        PointRole::Genesis => false,
-    }
+    matches!(role, PointRole::Regular)
 }
 
 // Either the role or the wave link is tested, never both.
+#[tactic(auto, unfolding(rules::specs::CheckIllFormed::wave_checked))]
 pub fn check_ill_formed(
     spans: Schedule,
     rec: &[u8],
@@ -35,23 +28,18 @@ pub fn check_ill_formed(
     requires { Reads rec.now info }
     ensures { (s : List ℕ) → result ≡ wave_checked (schedule_of s spans) is_leader (point_of rec.now info) }
 {
-    let id = info.id;
-    let role = info.role;
-    let required = schedule::require_regular_points(spans, id.round);
-    match required {
-        RequireRegularPoints::Unknown => WaveChecked::Horizon,
-        RequireRegularPoints::Required => {
-            if is_regular(role) {
-                return WaveChecked::Sound(true);
-            }
-            WaveChecked::IllFormed(IllFormedReason::NotRegular)
+    let Some(required) = schedule::require_regular_points(spans, info.id.round) else {
+        return WaveChecked::Horizon;
+    };
+    if required {
+        if is_regular(info.role) {
+            return WaveChecked::Sound(true);
         }
-        RequireRegularPoints::NotRequired => {
-            let has_prev_point = verify_well_formed::is_found(point::prev_digest(rec, info));
-            if info.is_wave_link_ok(is_leader, has_prev_point) {
-                return WaveChecked::Sound(false);
-            }
-            WaveChecked::IllFormed(IllFormedReason::BadWaveLink(is_leader))
-        }
+        return WaveChecked::IllFormed(IllFormedReason::NotRegular);
     }
+    let has_prev_point = point::prev_digest(rec, info).is_some();
+    if info.is_wave_link_ok(is_leader, has_prev_point) {
+        return WaveChecked::Sound(false);
+    }
+    WaveChecked::IllFormed(IllFormedReason::BadWaveLink(is_leader))
 }

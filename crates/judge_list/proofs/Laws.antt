@@ -1,14 +1,14 @@
 -- Laws of judging over a list: the previous point, and the walk.
+use Rattle.std.specs.Prelude.{Option, None, Some, option_map, is_some}
 use Prim.Native.Nat.{ℕ, zero, suc, ◌+◌, ◌-◌, ◌<◌}
 use mathlib.Core.Path.{◌≡◌, refl, ap, sym, ◌∙◌}
 use mathlib.Core.Bool.{Bool, true, false, not, ◌||◌, and-true, and-false, or-false}
-use mathlib.Core.Option.{Option, none, some, map}
 use mathlib.Core.List.{List, ◌∷◌}
 use lib.ListN.{length, drop, length-drop}
 use lib.Seq.{drop-drop}
 use lib.Dec.{eqb}
 use borrow.Author.Tests.{eqb-true, eq-eqb, ne_eqb}
-use Rattle.base.specs.Base.{is_some, and_then}
+use Rattle.base.specs.Base.{and_then}
 use Rattle.base.proofs.Bool.{never, clash, and_left, and_right, and_both}
 use native.Mathlib.Omega.{arith}
 use Rattle.point.specs.Point.{PointId, same_id, Through, through}
@@ -29,18 +29,16 @@ use Rattle.judge_entries.proofs.Order.{list_then}
 use Rattle.judge_entries.specs.Code.{entry_of, EntryPlaced, ListedPlaced}
 use Rattle.judge_entries.specs.declared.DagPoint as code-point
 use Rattle.judge_entries.specs.declared.Listed as code-listed
-use Rattle.judge_entries.specs.declared.ReadListed as code_read
-use Rattle.judge_entries.specs.declared.ReadListed.TheVariants as case-read
 use Rattle.judge_list.specs.Code.{Walk, Viewed, viewed, step_as, prev_of, prev_in, walk_step, walk_fold, walk_with, viewed_of, with_listed, ListedGives}
 
 -- ---- the previous point
 
 pub prev-other : (i j : PointId) (o : Option ℕ) → is_by (i.round - 1) i.author j ≡ false → is_id (prev_of i o) j ≡ false
-prev-other i j none h = refl
-prev-other i j (some d) h =
+prev-other i j None h = refl
+prev-other i j (Some d) h =
     never _ (λ t. let f = same_fields _ j t in clash _ (and_both _ _ (eq-eqb _ _ (sym f.0)) (eq-eqb _ _ (sym f.2))) h)
 
-pub prev-digest : (i j : PointId) (d : ℕ) → is_by (i.round - 1) i.author j ≡ true → is_id (prev_of i (some d)) j ≡ eqb d j.digest
+pub prev-digest : (i j : PointId) (d : ℕ) → is_by (i.round - 1) i.author j ≡ true → is_id (prev_of i (Some d)) j ≡ eqb d j.digest
 unfolding same_id
 prev-digest i j d h =
     let r = eqb-true j.round (i.round - 1) (and_left (eqb j.round (i.round - 1)) _ h) in
@@ -71,10 +69,10 @@ module _ (c : Settings) (required : Bool) (p : Viewed) where
   walked w x j u b e f g = rw (e, g, f)
 
   then_walked : (w : Walk) (x : Listed) (o : Option (List Listed)) →
-      walk_with c required p w (map (λ l. x ∷ l) o) ≡ walk_with c required p (walk_step c required p w x) o
+      walk_with c required p w (option_map (λ l. x ∷ l) o) ≡ walk_with c required p (walk_step c required p w x) o
   unfolding walk_fold
-  then_walked w x none = refl
-  then_walked w x (some l) = refl
+  then_walked w x None = refl
+  then_walked w x (Some l) = refl
 
   -- one turn
   turn : (w : Walk) (n : ℕ) (indirect_seen : Bool) (s : List ℕ) (o : Option Listed) → 0 < length s → read_entry s ≡ o →
@@ -83,35 +81,35 @@ module _ (c : Settings) (required : Bool) (p : Viewed) where
   turn w n indirect_seen s o h e = rw (ne_eqb (length s) 0 (λ k. omega arith), e)
 
   -- no entry may follow, or none does
-  pub too_many : (w : Walk) (indirect_seen : Bool) (s : List ℕ) → 0 < length s → walk_with c required p w (list_from 0 indirect_seen s) ≡ none
+  pub too_many : (w : Walk) (indirect_seen : Bool) (s : List ℕ) → 0 < length s → walk_with c required p w (list_from 0 indirect_seen s) ≡ None
   unfolding list_from
   too_many w indirect_seen s h = rw (ne_eqb (length s) 0 (λ e. omega arith))
 
-  pub walk_end : (w : Walk) (n : ℕ) (indirect_seen : Bool) (s : List ℕ) → length s ≡ 0 → walk_with c required p w (list_from n indirect_seen s) ≡ some w
+  pub walk_end : (w : Walk) (n : ℕ) (indirect_seen : Bool) (s : List ℕ) → length s ≡ 0 → walk_with c required p w (list_from n indirect_seen s) ≡ Some w
   unfolding list_from walk_fold
   walk_end w zero indirect_seen s h = rw (eq-eqb (length s) 0 h)
   walk_end w (suc n) indirect_seen s h = rw (eq-eqb (length s) 0 h)
 
   -- a turn whose entry can't be read, one whose entry stands out of order, and one that goes on
-  pub turn-unread : (w : Walk) (left : ℕ) (indirect_seen : Bool) (s : List ℕ) → 0 < length s → 0 < left → read_entry s ≡ none →
-      walk_with c required p w (list_from left indirect_seen s) ≡ none
-  turn-unread w (suc n) indirect_seen s h g e = turn w n indirect_seen s none h e
+  pub turn-unread : (w : Walk) (left : ℕ) (indirect_seen : Bool) (s : List ℕ) → 0 < length s → 0 < left → read_entry s ≡ None →
+      walk_with c required p w (list_from left indirect_seen s) ≡ None
+  turn-unread w (suc n) indirect_seen s h g e = turn w n indirect_seen s None h e
   turn-unread w zero indirect_seen s h g e = absurd (omega arith)
 
-  pub turn_disordered : (w : Walk) (left : ℕ) (indirect_seen : Bool) (s : List ℕ) (x : Listed) → 0 < length s → 0 < left → read_entry s ≡ some x →
-      is_in_order indirect_seen x.aim ≡ false → walk_with c required p w (list_from left indirect_seen s) ≡ none
-  turn_disordered w (suc n) indirect_seen s x h g e o = turn w n indirect_seen s (some x) h e ∙ rw o
+  pub turn_disordered : (w : Walk) (left : ℕ) (indirect_seen : Bool) (s : List ℕ) (x : Listed) → 0 < length s → 0 < left → read_entry s ≡ Some x →
+      is_in_order indirect_seen x.aim ≡ false → walk_with c required p w (list_from left indirect_seen s) ≡ None
+  turn_disordered w (suc n) indirect_seen s x h g e o = turn w n indirect_seen s (Some x) h e ∙ rw o
   turn_disordered w zero indirect_seen s x h g e o = absurd (omega arith)
 
-  pub turn-read : (w : Walk) (left n : ℕ) (indirect_seen : Bool) (s : List ℕ) (x : Listed) → 0 < length s → left ≡ suc n → read_entry s ≡ some x →
+  pub turn-read : (w : Walk) (left n : ℕ) (indirect_seen : Bool) (s : List ℕ) (x : Listed) → 0 < length s → left ≡ suc n → read_entry s ≡ Some x →
       is_in_order indirect_seen x.aim ≡ true →
       walk_with c required p w (list_from left indirect_seen s) ≡ walk_with c required p (walk_step c required p w x) (list_from n (is_some x.aim) (drop x.size s))
   turn-read w left n indirect_seen s x h g e o =
-      rw g (turn w n indirect_seen s (some x) h e ∙ rw o (then_walked w x (list_from n (is_some x.aim) (drop x.size s))))
+      rw g (turn w n indirect_seen s (Some x) h e ∙ rw o (then_walked w x (list_from n (is_some x.aim) (drop x.size s))))
 
   -- the walk over what is left, after an entry that was read
   pub goes_on : (w v : Walk) (left n : ℕ) (indirect_seen seen : Bool) (at size : ℕ) (s : List ℕ) (x : Listed) (all : Option Walk) → at < length s → left ≡ suc n →
-      read_entry (drop at s) ≡ some x → is_in_order indirect_seen x.aim ≡ true → seen ≡ is_some x.aim → size ≡ x.size → v ≡ walk_step c required p w x →
+      read_entry (drop at s) ≡ Some x → is_in_order indirect_seen x.aim ≡ true → seen ≡ is_some x.aim → size ≡ x.size → v ≡ walk_step c required p w x →
       walk_with c required p w (list_from left indirect_seen (drop at s)) ≡ all →
       walk_with c required p v (list_from n seen (drop (at + size) s)) ≡ all
   goes_on w v left n indirect_seen seen at size s x all h g e o k m f inv =
@@ -124,21 +122,21 @@ unfolding viewed
 viewed_by v i s e = rw e
 
 -- where an entry that was read stands
-pub placed-listed : (s : List ℕ) (x : code-listed.Listed) (r : code_read.ReadListed) → r ≡ case-read.Listed x → ListedPlaced s r →
+pub placed-listed : (s : List ℕ) (x : code-listed.Listed) (r : Option code-listed.Listed) → r ≡ Some x → ListedPlaced s r →
     (0 < x.end) × EntryPlaced s x.state x.place x.end
 placed-listed s x r g q = rw g at q
 
 -- what an entry gives that is for a dependency or for an indirect link's target, after a dropped one or not
 module _ (c : Settings) (required : Bool) (v : code_view.PointView) (i : code-info.PointInfo) (e : Entry) where
-  pub after-dropped : (g : Gives) → ListedGives c required (viewed_of v i) true none e g
+  pub after-dropped : (g : Gives) → ListedGives c required (viewed_of v i) true None e g
   unfolding direct_step
   after-dropped g j h = rw h
 
-  pub directed : (ended : Bool) (g : Gives) → DirectGives c required (point_view_of v) e g → ListedGives c required (viewed_of v i) ended none e g
+  pub directed : (ended : Bool) (g : Gives) → DirectGives c required (point_view_of v) e g → ListedGives c required (viewed_of v i) ended None e g
   directed ended g f j h = f j
 
   pub targeted : (r : AnchorStageRole) (ended : Bool) (t : Through) (g : Gives) → t ≡ through (link_in r i) → IndirectGives c (point_view_of v) r t e g →
-      ListedGives c required (viewed_of v i) ended (some r) e g
+      ListedGives c required (viewed_of v i) ended (Some r) e g
   targeted Proof ended t g k f j h = f j ∙ rw k
   targeted Trigger ended t g k f j h = f j ∙ rw k
 
@@ -146,7 +144,7 @@ module _ (c : Settings) (required : Bool) (v : code_view.PointView) (i : code-in
 
 module _ (c : Settings) (required : Bool) (p : Viewed) (w : Walk) where
   -- one that passed the quick test changes nothing
-  pub walked-quiet : (aim : Option AnchorStageRole) (s : List ℕ) (d : code-point.DagPoint) (certified first : Bool) (size : ℕ) → aim ≡ none → Passed c p.view s d →
+  pub walked-quiet : (aim : Option AnchorStageRole) (s : List ℕ) (d : code-point.DagPoint) (certified first : Bool) (size : ℕ) → aim ≡ None → Passed c p.view s d →
       w ≡ walk_step c required p w (record { aim = aim; entry = entry_of s d certified first; size = size })
   walked-quiet aim s d certified first size e k =
       walked c required p w (record { aim = aim; entry = entry_of s d certified first; size = size }) w.judging false w.uncovered

@@ -1,10 +1,10 @@
 -- Laws: the walk over a list gives what the definitions say of its direct and indirect entries.
+use Rattle.std.specs.Prelude.{Option, None, Some, option_map, unwrap_or, is_some}
 use Prim.Native.Nat.{ℕ}
 use mathlib.Core.Path.{◌≡◌, refl, ap, sym, ◌∙◌}
 use mathlib.Core.Bool.{Bool, true, false, ◌||◌, or-false}
-use mathlib.Core.Option.{Option, none, some, map, get_or}
 use mathlib.Core.List.{List, [], ◌∷◌}
-use Rattle.base.specs.Base.{pick, is_some}
+use Rattle.base.specs.Base.{pick}
 use Rattle.base.proofs.Option.{none-some}
 use Rattle.base.proofs.Impossible.{impossible}
 use Rattle.point.specs.Point.{PointInfo, prev_id}
@@ -47,14 +47,14 @@ module _ (c : Settings) (required : Bool) (v : Viewed) where
     where
       go : (aim : Option AnchorStageRole) →
           ((w.uncovered || uncovers (prev_in v.view) x.entry) || uncovered (prev_in v.view) (directs l) (indirects l))
-          ≡ (w.uncovered || uncovered (prev_in v.view) (pick (is_some aim) (directs l) (x.entry ∷ directs l)) (get_or (map (λ g. record { role = g; entry = x.entry } ∷ indirects l) aim) (indirects l)))
-      go none =
+          ≡ (w.uncovered || uncovered (prev_in v.view) (pick (is_some aim) (directs l) (x.entry ∷ directs l)) (unwrap_or (option_map (λ g. record { role = g; entry = x.entry } ∷ indirects l) aim) (indirects l)))
+      go None =
           or_direct
           w.uncovered
           (uncovers (prev_in v.view) x.entry)
           (any_uncovers (prev_in v.view) (directs l))
           (any_uncovers (prev_in v.view) (entries_in (indirects l)))
-      go (some g) =
+      go (Some g) =
           or_indirect
           w.uncovered
           (uncovers (prev_in v.view) x.entry)
@@ -66,9 +66,9 @@ module _ (c : Settings) (required : Bool) (v : Viewed) where
 module _ (c : Settings) (required : Bool) (p : PointInfo) where
   step-listed : (aim : Option AnchorStageRole) (j : Judging) (e : Entry) → step_as aim c required (viewed p) j e ≡ listed_step aim c required p j e
   unfolding viewed
-  step-listed none j e = refl
-  step-listed (some Proof) j e = refl
-  step-listed (some Trigger) j e = refl
+  step-listed None j e = refl
+  step-listed (Some Proof) j e = refl
+  step-listed (Some Trigger) j e = refl
 
   walk-judging : (l : List Listed) (w : Walk) → (walk_fold c required (viewed p) w l).judging ≡ listed_fold c required p w.judging l
   unfolding walk_fold walk_step listed_fold
@@ -78,7 +78,7 @@ module _ (c : Settings) (required : Bool) (p : PointInfo) where
       ∙ ap (λ (j : Judging). listed_fold c required p j l) (step-listed x.aim w.judging x.entry)
 
   -- over a list that was read
-  walked-result : (s : List ℕ) (l : List Listed) → read_list s ≡ some l →
+  walked-result : (s : List ℕ) (l : List Listed) → read_list s ≡ Some l →
       result_of (walk_fold c required (viewed p) walk_start l).judging ≡ over_lists c required p (directs l) (indirects l)
   unfolding read_list
   walked-result s l h =
@@ -91,13 +91,13 @@ module _ (c : Settings) (required : Bool) (p : PointInfo) where
       ∙ ap (λ o. uncovered o (directs l) (indirects l)) (prev_in_lem p)
 
   -- what the walk came to, over a list that could be read or not
-  pub judged-unread : (o : Option (List Listed)) → none ≡ walk_with c required (viewed p) walk_start o → none ≡ judged_with c required p o
-  judged-unread none h = refl
-  judged-unread (some l) h = none-some h
+  pub judged-unread : (o : Option (List Listed)) → None ≡ walk_with c required (viewed p) walk_start o → None ≡ judged_with c required p o
+  judged-unread None h = refl
+  judged-unread (Some l) h = none-some h
 
-  pub judged-walked : (s : List ℕ) (o : Option (List Listed)) (w : Walk) (v : Verdict) → read_list s ≡ o → some w ≡ walk_with c required (viewed p) walk_start o →
-      v ≡ result_of w.judging → ◌≡◌ {A = Option ListJudged} (some (record { verdict = v; uncovered = w.uncovered })) (judged_with c required p o)
-  judged-walked s none w v r h e = impossible (cc)
-  judged-walked s (some l) w v r h e =
+  pub judged-walked : (s : List ℕ) (o : Option (List Listed)) (w : Walk) (v : Verdict) → read_list s ≡ o → Some w ≡ walk_with c required (viewed p) walk_start o →
+      v ≡ result_of w.judging → ◌≡◌ {A = Option ListJudged} (Some (record { verdict = v; uncovered = w.uncovered })) (judged_with c required p o)
+  judged-walked s None w v r h e = impossible (cc)
+  judged-walked s (Some l) w v r h e =
       let k : w ≡ walk_fold c required (viewed p) walk_start l = cc in
       rw (e, k, walked-result s l r, walked-uncovered l)

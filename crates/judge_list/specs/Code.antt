@@ -1,6 +1,5 @@
 -- What the code's values stand for, and what its functions promise each other.
-use Rattle.std.specs.Prelude.{◌≡◌, Bool, true, false, ◌||◌, List, [], ◌∷◌, ℕ, ◌-◌}
-use Rattle.std.proofs.Math.Option.{Option, none, some, map}
+use Rattle.std.specs.Prelude.{◌≡◌, Bool, true, false, ◌||◌, List, [], ◌∷◌, ℕ, ◌-◌, Option, None, Some, option_map, is_some}
 use Rattle.point.specs.Point.{PointInfo, prev_id, PointId, Through, through}
 use Rattle.schedule.specs.Settings.{Settings}
 use Rattle.reasons.specs.Verdict.{Verdict}
@@ -9,36 +8,31 @@ use Rattle.rules.specs.Validate.{over_lists}
 use Rattle.rules.specs.List.{Listed, directs, indirects}
 use Rattle.rules.specs.Mismatch.{uncovered, uncovers}
 use Rattle.judge_list.specs.declared.JudgedList as code
-use Rattle.judge_list.specs.declared.JudgedList.TheVariants as case
 use Rattle.point.specs.Code.{link_of}
 use Rattle.point.specs.declared.data.AnchorStageRole.{AnchorStageRole}
 use Rattle.point.specs.declared.data.AnchorStageRole.TheVariants.{Proof, Trigger}
 use Rattle.rules.specs.DagPoint.{Entry, PointView, point_view}
-use Rattle.base.specs.Base.{is_some}
 use Rattle.judge_step.specs.Code.{Judging, start, Gives, with_direct, with_indirect, direct_step, indirect_step, judging_of}
 use Rattle.judge_valid.specs.Code.{point_view_of}
 use Rattle.point.specs.declared.info.PointInfo as code-info
 use Rattle.judge_valid.specs.declared.view.PointView as code_view
 use Rattle.judge_list.specs.declared.Walk as code-walk
-use Rattle.judge_list.specs.declared.WalkedList as code-list
-use Rattle.judge_list.specs.declared.WalkedList.TheVariants as case-list
 
 pub record ListJudged : Type 0 where
   pub verdict : Verdict
   pub uncovered : Bool
 
 abbrev pub judged_with : Settings → Bool → PointInfo → Option (List Listed) → Option ListJudged
-judged_with c required p none = none
-judged_with c required p (some l) =
-    some (record {
+judged_with c required p None = None
+judged_with c required p (Some l) =
+    Some (record {
       verdict = over_lists c required p (directs l) (indirects l);
       uncovered = uncovered (prev_id p) (directs l) (indirects l);
     })
 
 -- what the code's value stands for
-abbrev pub judged_list_of : code.JudgedList → Option ListJudged
-judged_list_of (case.Judged v b) = some (record { verdict = verdict_of v; uncovered = b })
-judged_list_of case.Unreadable = none
+abbrev pub judged_list_of : code.JudgedList → ListJudged
+judged_list_of x = record { verdict = verdict_of x.verdict; uncovered = x.uncovered }
 
 pub record Walk : Type 0 where
   pub judging : Judging
@@ -56,13 +50,13 @@ viewed p = record { view = point_view p; proof = through p.anchor_proof; trigger
 
 -- an entry is judged by what it is for
 abbrev pub step_as : Option AnchorStageRole → Settings → Bool → Viewed → Judging → Entry → Judging
-step_as none c required p j e = direct_step c required p.view j e
-step_as (some Proof) c required p j e = indirect_step c p.view Proof p.proof j e
-step_as (some Trigger) c required p j e = indirect_step c p.view Trigger p.trigger j e
+step_as None c required p j e = direct_step c required p.view j e
+step_as (Some Proof) c required p j e = indirect_step c p.view Proof p.proof j e
+step_as (Some Trigger) c required p j e = indirect_step c p.view Trigger p.trigger j e
 
 -- PointInfo::prev_id, of a digest that may be missing
 abbrev pub prev_of : PointId → Option ℕ → Option PointId
-prev_of i o = map (λ d. record { round = i.round - 1; digest = d; author = i.author }) o
+prev_of i o = option_map (λ d. record { round = i.round - 1; digest = d; author = i.author }) o
 
 abbrev pub prev_in : PointView → Option PointId
 prev_in p = prev_of p.id p.prev_digest
@@ -82,8 +76,8 @@ walk_fold c required p w (x ∷ l) = walk_fold c required p (walk_step c require
 
 -- over a list, if it could be read
 abbrev pub walk_with : Settings → Bool → Viewed → Walk → Option (List Listed) → Option Walk
-walk_with c required p w none = none
-walk_with c required p w (some l) = some (walk_fold c required p w l)
+walk_with c required p w None = None
+walk_with c required p w (Some l) = Some (walk_fold c required p w l)
 
 abbrev pub walk_start : Walk
 walk_start = record { judging = start; uncovered = false }
@@ -98,10 +92,6 @@ viewed_of p i =
 
 abbrev pub walk_of : code-walk.Walk → Walk
 walk_of w = record { judging = judging_of w.judging; uncovered = w.uncovered }
-
-abbrev pub walked_list_of : code-list.WalkedList → Option Walk
-walked_list_of (case-list.Walked w) = some (walk_of w)
-walked_list_of case-list.Unreadable = none
 
 -- what was found, and then what an entry gives
 abbrev pub with_listed : Bool → Judging → Gives → Judging

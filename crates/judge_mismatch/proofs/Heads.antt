@@ -1,17 +1,17 @@
 -- Laws of an entry at the front of a list that reads: where its parts stand, and what is left it.
+use Rattle.std.specs.Prelude.{Option, None, Some, is_some}
 use Prim.Native.Nat.{ℕ, zero, suc, ◌+◌, ◌-◌, ◌≤◌, ◌<◌}
 use native.Mathlib.Omega.{arith}
 use mathlib.Core.Path.{◌≡◌, refl, ap, sym, ◌∙◌}
 use mathlib.Core.Bool.{Bool, true, false, ◌&&◌}
-use mathlib.Core.Option.{Option, none, some, map-eq-some_iff}
 use mathlib.Core.List.{List, [], ◌∷◌}
 use lib.ListN.{length, get_or, take, drop, length-drop}
 use lib.Seq.{get_or-drop, drop-drop}
 use lib.Dec.{leb, eqb}
 use borrow.Author.Tests.{eq-eqb, ne_eqb}
-use Rattle.base.specs.Base.{pick, is_some, and_then}
+use Rattle.base.specs.Base.{pick, and_then}
 use Rattle.base.proofs.Bool.{and_left}
-use Rattle.base.proofs.Option.{picked, some_of, none-some}
+use Rattle.base.proofs.Option.{picked, some_of, none-some, map-eq-some_iff}
 use Rattle.base.proofs.Lists.{rest}
 use Rattle.base.proofs.Impossible.{impossible}
 use Rattle.record.specs.Record.{field_row, field_ok, rows, row_of, next_at, content_at, start_of, content_of, record_end}
@@ -33,12 +33,12 @@ use Rattle.judge_mismatch.specs.Code.{Head, head_of, head_from, flags_at, aim_at
 
 -- what a record that was read at the front of a list gives
 record FrontIs (s : List ℕ) (x : RecordFront) : Type 0 where
-  end : record_end s ≡ some x.size
+  end : record_end s ≡ Some x.size
   room : 71 ≤ length s
   small : x.size ≤ length s
   id : x.point.id ≡ point_id_at s 3
 
-module _ (s : List ℕ) (n : ℕ) (h : record_end s ≡ some n) where
+module _ (s : List ℕ) (n : ℕ) (h : record_end s ≡ Some n) where
   first_field : (71 ≤ length s) × (next_at s 0 ≡ 71)
   unfolding start_of row_of rows
   first_field = let f = front-field s n h 0 (omega arith) in (omega (arith, f.least, f.end), omega (arith, f.least, f.greatest, f.next))
@@ -49,7 +49,7 @@ module _ (s : List ℕ) (n : ℕ) (h : record_end s ≡ some n) where
       let e : next_at s 0 - 3 ≡ 68 = omega (arith, first_field.1) in
       rw (front-content s n h 0 (omega arith), e, id-front 68 0 (drop 3 s) (omega arith)) (id_shift 3 0 s)
 
-front-is : (s : List ℕ) (x : RecordFront) → record_front s ≡ some x → FrontIs s x
+front-is : (s : List ℕ) (x : RecordFront) → record_front s ≡ Some x → FrontIs s x
 front-is s x h =
     let f = fronted s x h in
     record {
@@ -65,17 +65,17 @@ record StateIs (s : List ℕ) (k state : ℕ) (y : Stated) : Type 0 where
   dropped : is_dropped y.point ≡ eqb state 5
   id-room : (state ≡ 5 → ⊥) → k + id_place state + 68 ≤ length s
   id : entry_id y.point ≡ id_after state k s
-  end : entry_end state k s ≡ some (k + y.size)
+  end : entry_end state k s ≡ Some (k + y.size)
   small : k + y.size ≤ length s
 
 -- a record's parts
 record Recorded (s : List ℕ) (k : ℕ) (q : PointInfo) (n : ℕ) : Type 0 where
-  end : end_in k s ≡ some (k + n)
+  end : end_in k s ≡ Some (k + n)
   room : k + 71 ≤ length s
   small : k + n ≤ length s
   id : q.id ≡ point_id_at s (k + 3)
 
-recorded : (s : List ℕ) (k : ℕ) (x : RecordFront) → record_front (drop k s) ≡ some x → Recorded s k x.point x.size
+recorded : (s : List ℕ) (k : ℕ) (x : RecordFront) → record_front (drop k s) ≡ Some x → Recorded s k x.point x.size
 unfolding end_in
 recorded s k x h =
     let f = front-is (drop k s) x h in
@@ -87,13 +87,13 @@ recorded s k x h =
       id = f.id ∙ id_shift k 3 s;
     }
 
-stated : (state : PointInfo → DagPoint) (front : ℕ) (s : List ℕ) (y : Stated) → record_at state front s ≡ some y →
-    (x : RecordFront) × (record_front (drop front s) ≡ some x) × (y.point ≡ state x.point) × (y.size ≡ front + x.size)
+stated : (state : PointInfo → DagPoint) (front : ℕ) (s : List ℕ) (y : Stated) → record_at state front s ≡ Some y →
+    (x : RecordFront) × (record_front (drop front s) ≡ Some x) × (y.point ≡ state x.point) × (y.size ≡ front + x.size)
 stated state front s y h =
     let x = (map-eq-some_iff _ (record_front (drop front s))).0 h in
     (x.0, x.1, ap (λ (z : Stated). z.point) (sym x.2), ap (λ (z : Stated). z.size) (sym x.2))
 
-id_17 : (state : PointId → DagPoint) (s : List ℕ) (k : ℕ) (y : Stated) → id_at17 state (drop k s) ≡ some y →
+id_17 : (state : PointId → DagPoint) (s : List ℕ) (k : ℕ) (y : Stated) → id_at17 state (drop k s) ≡ Some y →
     (k + 71 ≤ length s) × (y.point ≡ state (point_id_at s (k + 3))) × (y.size ≡ 71)
 id_17 state s k y h =
     let p = picked (field_ok (field_row 17 68 68) (drop k s) 0) _ y h in
@@ -104,7 +104,7 @@ id_17 state s k y h =
 -- states 0 and 2: a record
 record_state : (state : ℕ) (of : PointInfo → DagPoint) (s : List ℕ) (k : ℕ) (y : Stated) →
     ((q : PointInfo) → (is_dropped (of q) ≡ eqb state 5) × (entry_id (of q) ≡ q.id)) → eqb state 5 ≡ false → eqb state 1 ≡ false →
-    entry_end state k s ≡ end_in k s → record_at of 0 (drop k s) ≡ some y → StateIs s k state y
+    entry_end state k s ≡ end_in k s → record_at of 0 (drop k s) ≡ Some y → StateIs s k state y
 unfolding id_after
 record_state state of s k y told d one e h =
     let p = stated of 0 (drop k s) y h in
@@ -113,13 +113,13 @@ record_state state of s k y told d one e h =
       dropped = ap is_dropped p.2 ∙ (told p.0.point).0;
       id-room = λ z. rw one (omega (arith, r.room));
       id = ap entry_id p.2 ∙ ((told p.0.point).1 ∙ rw (d, one) r.id);
-      end = e ∙ (r.end ∙ ap some (omega (arith, p.3)));
+      end = e ∙ (r.end ∙ ap Some (omega (arith, p.3)));
       small = omega (arith, r.small, p.3);
     }
 
 -- state 1: a record after a root cause
 root-state : (of : PointInfo → DagPoint) (s : List ℕ) (k : ℕ) (y : Stated) →
-    ((q : PointInfo) → (is_dropped (of q) ≡ false) × (entry_id (of q) ≡ q.id)) → record_at of 72 (drop k s) ≡ some y → StateIs s k 1 y
+    ((q : PointInfo) → (is_dropped (of q) ≡ false) × (entry_id (of q) ≡ q.id)) → record_at of 72 (drop k s) ≡ Some y → StateIs s k 1 y
 unfolding id_after entry_end
 root-state of s k y told h =
     let p = stated of 72 (drop k s) y h in
@@ -128,14 +128,14 @@ root-state of s k y told h =
       dropped = ap is_dropped p.2 ∙ (told p.0.point).0;
       id-room = λ z. omega (arith, r.room);
       id = ap entry_id p.2 ∙ ((told p.0.point).1 ∙ (r.id ∙ ap (point_id_at s) (omega arith)));
-      end = r.end ∙ ap some (omega (arith, p.3));
+      end = r.end ∙ ap Some (omega (arith, p.3));
       small = omega (arith, r.small, p.3);
     }
 
 -- states 3 and 4: an id
 id-state : (state : ℕ) (of : PointId → DagPoint) (s : List ℕ) (k : ℕ) (y : Stated) →
     ((i : PointId) → (is_dropped (of i) ≡ eqb state 5) × (entry_id (of i) ≡ i)) → eqb state 5 ≡ false → eqb state 1 ≡ false →
-    entry_end state k s ≡ some (k + 71) → id_at17 of (drop k s) ≡ some y → StateIs s k state y
+    entry_end state k s ≡ Some (k + 71) → id_at17 of (drop k s) ≡ Some y → StateIs s k state y
 unfolding id_after
 id-state state of s k y told d one e h =
     let p = id_17 of s k y h in
@@ -143,11 +143,11 @@ id-state state of s k y told d one e h =
       dropped = ap is_dropped p.1 ∙ (told (point_id_at s (k + 3))).0;
       id-room = λ z. rw one (omega (arith, p.0));
       id = ap entry_id p.1 ∙ ((told (point_id_at s (k + 3))).1 ∙ rw (d, one));
-      end = e ∙ ap some (omega (arith, p.2));
+      end = e ∙ ap Some (omega (arith, p.2));
       small = omega (arith, p.0, p.2);
     }
 
-state-is : (state reason : ℕ) (s : List ℕ) (k : ℕ) (y : Stated) → k ≤ length s → read_state state reason (drop k s) ≡ some y → StateIs s k state y
+state-is : (state reason : ℕ) (s : List ℕ) (k : ℕ) (y : Stated) → k ≤ length s → read_state state reason (drop k s) ≡ Some y → StateIs s k state y
 unfolding read_state id_after entry_end
 state-is zero reason s k y g h = record_state 0 Valid s k y (λ q. (refl, refl)) refl refl refl (picked (eqb reason 0) _ y h).1
 state-is (suc zero) reason s k y g h =
@@ -163,12 +163,12 @@ state-is (suc (suc (suc (suc (suc zero))))) reason s k y g h =
       dropped = ap is_dropped point;
       id-room = λ z. absurd (z refl);
       id = ap entry_id point;
-      end = ap some (omega arith);
+      end = ap Some (omega arith);
       small = omega arith;
     }
 state-is (suc (suc (suc (suc (suc (suc n)))))) reason s k y g h =
     let m = suc (suc (suc (suc (suc (suc n))))) in
-    let none-there : ◌≡◌ {A = Option Stated} none (some y) =
+    let none-there : ◌≡◌ {A = Option Stated} None (Some y) =
     simp (ne_eqb m 0 (λ e. omega arith), ne_eqb m 1 (λ e. omega arith), ne_eqb m 2 (λ e. omega arith), ne_eqb m 3 (λ e. omega arith), ne_eqb m 4 (λ e. omega arith), ne_eqb m 5 (λ e. omega arith)) at h
     in
     none-some none-there
@@ -181,11 +181,11 @@ pub record EntryIs (aim : Option AnchorStageRole) (f : ℕ) (s : List ℕ) (x : 
   pub dropped : is_dropped x.entry.state ≡ eqb (get_or s (f + 3) 0) 5
   pub id-room : (get_or s (f + 3) 0 ≡ 5 → ⊥) → f + 7 + id_place (get_or s (f + 3) 0) + 68 ≤ length s
   pub id : entry_id x.entry.state ≡ id_after (get_or s (f + 3) 0) (f + 7) s
-  pub end : entry_end (get_or s (f + 3) 0) (f + 7) s ≡ some x.size
+  pub end : entry_end (get_or s (f + 3) 0) (f + 7) s ≡ Some x.size
   pub least : 7 ≤ x.size
   pub small : x.size ≤ length s
 
-entry-is : (aim : Option AnchorStageRole) (f : ℕ) (s : List ℕ) (x : Listed) → entry_at aim f (drop f s) ≡ some x → EntryIs aim f s x
+entry-is : (aim : Option AnchorStageRole) (f : ℕ) (s : List ℕ) (x : Listed) → entry_at aim f (drop f s) ≡ Some x → EntryIs aim f s x
 unfolding entry_at
 entry-is aim f s x h =
     let t = drop f s in
@@ -195,7 +195,7 @@ entry-is aim f s x h =
     let q = (map-eq-some_iff (listed_as aim f t) (read_state (get_or t 3 0) (get_or t 6 0) (drop 7 t))).0 p.1 in
     let state = ap (λ (z : Listed). z.entry.state) (sym q.2) in
     let size = ap (λ (z : Listed). z.size) (sym q.2) in
-    let read : read_state (get_or s (f + 3) 0) (get_or t 6 0) (drop (f + 7) s) ≡ some q.0 = rw (← get_or-drop f s 3 0, ← drop-drop 7 f s) q.1 in
+    let read : read_state (get_or s (f + 3) 0) (get_or t 6 0) (drop (f + 7) s) ≡ Some q.0 = rw (← get_or-drop f s 3 0, ← drop-drop 7 f s) q.1 in
     let st = state-is (get_or s (f + 3) 0) (get_or t 6 0) s (f + 7) q.0 room read in
     record {
       room = room;
@@ -203,19 +203,19 @@ entry-is aim f s x h =
       dropped = ap is_dropped state ∙ st.dropped;
       id-room = st.id-room;
       id = ap entry_id state ∙ st.id;
-      end = st.end ∙ ap some (omega (arith, size));
+      end = st.end ∙ ap Some (omega (arith, size));
       least = omega (arith, size);
       small = omega (arith, size, st.small);
     }
 
 entry-from : (b ok : Bool) (g : AnchorStageRole) (s : List ℕ) (x : Listed) →
-    pick b (pick ok (entry_at (some g) 4 (drop 4 s)) none) (entry_at none 0 s) ≡ some x →
-    entry_at (pick b (some g) none) (pick b 4 0) (drop (pick b 4 0) s) ≡ some x
+    pick b (pick ok (entry_at (Some g) 4 (drop 4 s)) None) (entry_at None 0 s) ≡ Some x →
+    entry_at (pick b (Some g) None) (pick b 4 0) (drop (pick b 4 0) s) ≡ Some x
 entry-from true ok g s x h = (picked ok _ x h).1
 entry-from false ok g s x h = h
 
 -- what an entry that was read shows of its bytes
-pub head-is : (s : List ℕ) (x : Listed) → read_entry s ≡ some x → EntryIs (aim_at s) (flags_at s) s x
+pub head-is : (s : List ℕ) (x : Listed) → read_entry s ≡ Some x → EntryIs (aim_at s) (flags_at s) s x
 unfolding read_entry
 head-is s x h =
     entry-is (aim_at s) (flags_at s) s x
@@ -227,8 +227,8 @@ unfolding end_in
 end-inside at s h = inside (record_end (drop at s)) refl h
   where
     inside : (o : Option ℕ) → o ≡ record_end (drop at s) → is_some (placed_at at o) ≡ true → at ≤ length s
-    inside none e g = impossible (cc)
-    inside (some n) e g = omega (arith, length-drop at s, (first_field (drop at s) n (sym e)).0)
+    inside None e g = impossible (cc)
+    inside (Some n) e g = omega (arith, length-drop at s, (first_field (drop at s) n (sym e)).0)
 
 -- a record that ends stands there
 pub end-there : (at : ℕ) (s : List ℕ) → is_some (end_in at s) ≡ true → is_some (record_end (drop at s)) ≡ true
@@ -236,25 +236,25 @@ unfolding end_in
 end-there at s h = go (record_end (drop at s)) refl h
   where
     go : (o : Option ℕ) → o ≡ record_end (drop at s) → is_some (placed_at at o) ≡ true → is_some o ≡ true
-    go none e g = g
-    go (some n) e g = refl
+    go None e g = g
+    go (Some n) e g = refl
 
 -- where a record ends is known where `known_end` says it
-pub end_known : (at : ℕ) (s : List ℕ) (n : ℕ) → record_end (drop at s) ≡ some n → (end_in at s ≡ some (at + n)) × (at + n ≤ length s)
+pub end_known : (at : ℕ) (s : List ℕ) (n : ℕ) → record_end (drop at s) ≡ Some n → (end_in at s ≡ Some (at + n)) × (at + n ≤ length s)
 unfolding end_in
 end_known at s n h = (ap (placed_at at) h, omega (arith, length-drop at s, end-within (drop at s) n h, (first_field (drop at s) n h).0))
 
 -- where an entry ends, by its state
 module _ (state at : ℕ) (s : List ℕ) where
-  pub end-dropped : state ≡ 5 → entry_end state at s ≡ some at
+  pub end-dropped : state ≡ 5 → entry_end state at s ≡ Some at
   unfolding entry_end
   end-dropped e = rw e
 
-  pub end-ill-formed : state ≡ 3 → entry_end state at s ≡ some (at + 71)
+  pub end-ill-formed : state ≡ 3 → entry_end state at s ≡ Some (at + 71)
   unfolding entry_end
   end-ill-formed e = rw e
 
-  pub end_not_found : state ≡ 4 → entry_end state at s ≡ some (at + 71)
+  pub end_not_found : state ≡ 4 → entry_end state at s ≡ Some (at + 71)
   unfolding entry_end
   end_not_found e = rw e
 
@@ -266,83 +266,83 @@ module _ (state at : ℕ) (s : List ℕ) where
   unfolding entry_end
   end_record a b c d = rw (ne_eqb state 5 a, ne_eqb state 3 b, ne_eqb state 4 c, ne_eqb state 1 d)
 
-pub head_made : (s : List ℕ) (x : Listed) (aim : Option AnchorStageRole) (dropped : Bool) (id : PointId) (size : ℕ) → read_entry s ≡ some x →
+pub head_made : (s : List ℕ) (x : Listed) (aim : Option AnchorStageRole) (dropped : Bool) (id : PointId) (size : ℕ) → read_entry s ≡ Some x →
     aim ≡ x.aim → dropped ≡ is_dropped x.entry.state → id ≡ entry_id x.entry.state → size ≡ x.size →
-    some (record { aim = aim; dropped = dropped; id = id; size = size }) ≡ head_from (read_entry s)
+    Some (record { aim = aim; dropped = dropped; id = id; size = size }) ≡ head_from (read_entry s)
 head_made s x aim dropped id size e a d i z = same a d i z ∙ ap head_from (sym e)
   where
     same : aim ≡ x.aim → dropped ≡ is_dropped x.entry.state → id ≡ entry_id x.entry.state → size ≡ x.size →
-        some (record { aim = aim; dropped = dropped; id = id; size = size }) ≡ some (head_of x)
+        Some (record { aim = aim; dropped = dropped; id = id; size = size }) ≡ Some (head_of x)
     same a d i z = rw (a, d, i, z)
 
 -- ---- lists that read
 
 -- a direct entry stands first among the direct ones, an indirect one among the others
-pub directs-here : (x : Listed) (l : List Listed) → x.aim ≡ none → directs (x ∷ l) ≡ x.entry ∷ directs l
+pub directs-here : (x : Listed) (l : List Listed) → x.aim ≡ None → directs (x ∷ l) ≡ x.entry ∷ directs l
 unfolding directs
 directs-here x l e = rw e
 
-pub directs-after : (x : Listed) (l : List Listed) (g : AnchorStageRole) → x.aim ≡ some g → directs (x ∷ l) ≡ directs l
+pub directs-after : (x : Listed) (l : List Listed) (g : AnchorStageRole) → x.aim ≡ Some g → directs (x ∷ l) ≡ directs l
 unfolding directs
 directs-after x l g e = rw e
 
-pub indirects-here : (x : Listed) (l : List Listed) (g : AnchorStageRole) → x.aim ≡ some g → indirects (x ∷ l) ≡ record { role = g; entry = x.entry } ∷ indirects l
+pub indirects-here : (x : Listed) (l : List Listed) (g : AnchorStageRole) → x.aim ≡ Some g → indirects (x ∷ l) ≡ record { role = g; entry = x.entry } ∷ indirects l
 unfolding indirects
 indirects-here x l g e = rw e
 
-indirects-after : (x : Listed) (l : List Listed) → x.aim ≡ none → indirects (x ∷ l) ≡ indirects l
+indirects-after : (x : Listed) (l : List Listed) → x.aim ≡ None → indirects (x ∷ l) ≡ indirects l
 unfolding indirects
 indirects-after x l e = rw e
 
-list_zero : (c : Bool) (s : List ℕ) → list_from zero c s ≡ pick (eqb (length s) 0) (some []) none
+list_zero : (c : Bool) (s : List ℕ) → list_from zero c s ≡ pick (eqb (length s) 0) (Some []) None
 unfolding list_from
 list_zero c s = refl
 
-list_suc : (n : ℕ) (c : Bool) (s : List ℕ) → list_from (suc n) c s ≡ pick (eqb (length s) 0) (some []) (and_then (read_entry s) (list_then (list_from n) c s))
+list_suc : (n : ℕ) (c : Bool) (s : List ℕ) → list_from (suc n) c s ≡ pick (eqb (length s) 0) (Some []) (and_then (read_entry s) (list_then (list_from n) c s))
 unfolding list_from
 list_suc n c s = refl
 
 -- what a list reads as, if its front does
-turn : (b : Bool) (m k : Option (List Listed)) (l : List Listed) → (m ≡ some l → k ≡ some l) → pick b (some []) m ≡ some l → pick b (some []) k ≡ some l
+turn : (b : Bool) (m k : Option (List Listed)) (l : List Listed) → (m ≡ Some l → k ≡ Some l) → pick b (Some []) m ≡ Some l → pick b (Some []) k ≡ Some l
 turn true m k l f h = h
 turn false m k l f h = f h
 
 -- with one entry more allowed
 more_with : (f g : Bool → List ℕ → Option (List Listed)) (c : Bool) (s : List ℕ) (o : Option Listed) (l : List Listed) →
-    ((c : Bool) (s : List ℕ) (l : List Listed) → f c s ≡ some l → g c s ≡ some l) →
-    and_then o (list_then f c s) ≡ some l → and_then o (list_then g c s) ≡ some l
+    ((c : Bool) (s : List ℕ) (l : List Listed) → f c s ≡ Some l → g c s ≡ Some l) →
+    and_then o (list_then f c s) ≡ Some l → and_then o (list_then g c s) ≡ Some l
 more_with f g c s o l more h =
     let p = parted f c s o l h in
-    rw (p.read, p.ordered, more _ _ p.left p.follows) (ap some p.are)
+    rw (p.read, p.ordered, more _ _ p.left p.follows) (ap Some p.are)
 
-list-more : (n : ℕ) (c : Bool) (s : List ℕ) (l : List Listed) → list_from n c s ≡ some l → list_from (suc n) c s ≡ some l
+list-more : (n : ℕ) (c : Bool) (s : List ℕ) (l : List Listed) → list_from n c s ≡ Some l → list_from (suc n) c s ≡ Some l
 list-more zero c s l h =
-    list_suc zero c s ∙ turn (eqb (length s) 0) none _ l (λ e. none-some e) (sym (list_zero c s) ∙ h)
+    list_suc zero c s ∙ turn (eqb (length s) 0) None _ l (λ e. none-some e) (sym (list_zero c s) ∙ h)
 list-more (suc n) c s l h =
     list_suc (suc n) c s
     ∙ turn (eqb (length s) 0) _ _ l (more_with (list_from n) (list_from (suc n)) c s (read_entry s) l (list-more n)) (sym (list_suc n c s) ∙ h)
 
 -- what may stand after an indirect entry may stand anywhere
 any_with : (f : Bool → List ℕ → Option (List Listed)) (c : Bool) (s : List ℕ) (o : Option Listed) (l : List Listed) →
-    and_then o (list_then f c s) ≡ some l → and_then o (list_then f false s) ≡ some l
-any_with f c s o l h = let p = parted f c s o l h in rw (p.read, p.follows) (ap some p.are)
+    and_then o (list_then f c s) ≡ Some l → and_then o (list_then f false s) ≡ Some l
+any_with f c s o l h = let p = parted f c s o l h in rw (p.read, p.follows) (ap Some p.are)
 
-any_order : (n : ℕ) (c : Bool) (s : List ℕ) (l : List Listed) → list_from (suc n) c s ≡ some l → list_from (suc n) false s ≡ some l
+any_order : (n : ℕ) (c : Bool) (s : List ℕ) (l : List Listed) → list_from (suc n) c s ≡ Some l → list_from (suc n) false s ≡ Some l
 any_order n c s l h =
     list_suc n false s ∙ turn (eqb (length s) 0) _ _ l (any_with (list_from n) c s (read_entry s) l) (sym (list_suc n c s) ∙ h)
 
 -- the first entry of a list that reads
-first-from : (n : ℕ) (s : List ℕ) (l : List Listed) → 0 < length s → list_from (suc n) false s ≡ some l → Parted (list_from n) false s (read_entry s) l
+first-from : (n : ℕ) (s : List ℕ) (l : List Listed) → 0 < length s → list_from (suc n) false s ≡ Some l → Parted (list_from n) false s (read_entry s) l
 first-from n s l g h =
     parted (list_from n) false s (read_entry s) l
     (rw (ne_eqb (length s) 0 (λ e. omega arith)) at (sym (list_suc n false s) ∙ h))
 
-pub listed-is : (s : List ℕ) (l : List Listed) → read_list s ≡ some l → listed s ≡ l
+pub listed-is : (s : List ℕ) (l : List Listed) → read_list s ≡ Some l → listed s ≡ l
 unfolding listed
 listed-is s l h = rw h
 
 pub record Next (s : List ℕ) (x : Listed) : Type 0 where
-  pub entry : read_entry s ≡ some x
+  pub entry : read_entry s ≡ Some x
   pub all : listed s ≡ x ∷ listed (drop x.size s)
   pub left : is_some (read_list (drop x.size s)) ≡ true
   pub last : is_some x.aim ≡ true → directs (listed (drop x.size s)) ≡ []
@@ -352,8 +352,8 @@ unfolding read_list
 read-list s = refl
 
 -- what is left the first entry of a list that reads
-left-from : (n : ℕ) (s : List ℕ) (l : List Listed) → 0 < length s → list_from (suc n) false s ≡ some l →
-    (x : Listed) × (r : List Listed) × (read_entry s ≡ some x) × (l ≡ x ∷ r) × (list_from (suc n) false (drop x.size s) ≡ some r)
+left-from : (n : ℕ) (s : List ℕ) (l : List Listed) → 0 < length s → list_from (suc n) false s ≡ Some l →
+    (x : Listed) × (r : List Listed) × (read_entry s ≡ Some x) × (l ≡ x ∷ r) × (list_from (suc n) false (drop x.size s) ≡ Some r)
     × (is_some x.aim ≡ true → directs r ≡ [])
 left-from n s l g h =
     let f = first-from n s l g h in
@@ -362,7 +362,7 @@ left-from n s l g h =
     let r = f.left in
     (f.first, r, f.read, sym f.are, any_order n b t r (list-more n b t r f.follows), λ e. after-target r (in_order_lem n true t r (ap (λ (c : Bool). list_from n c t) (sym e) ∙ f.follows)))
 
-next_with : (s t : List ℕ) (l r : List Listed) (x : Listed) → t ≡ drop x.size s → read_list s ≡ some l → read_list t ≡ some r → read_entry s ≡ some x → l ≡ x ∷ r →
+next_with : (s t : List ℕ) (l r : List Listed) (x : Listed) → t ≡ drop x.size s → read_list s ≡ Some l → read_list t ≡ Some r → read_entry s ≡ Some x → l ≡ x ∷ r →
     (is_some x.aim ≡ true → directs r ≡ []) → Next s x
 next_with s t l r x d h g e a f =
     let whole : listed t ≡ r = listed-is t r g in
@@ -383,7 +383,7 @@ next_of s h g =
 listed-end : (s : List ℕ) → length s ≡ 0 → listed s ≡ []
 listed-end s h =
     let more = and_then (read_entry s) (list_then (list_from 65534) false s) in
-    listed-is s [] (read-list s ∙ (list_suc 65534 false s ∙ ap (λ (b : Bool). pick b (some []) more) (eq-eqb (length s) 0 h)))
+    listed-is s [] (read-list s ∙ (list_suc 65534 false s ∙ ap (λ (b : Bool). pick b (Some []) more) (eq-eqb (length s) 0 h)))
 
 -- ---- an entry of the code at the front of a list that reads
 
@@ -397,9 +397,9 @@ pub record Front (s : List ℕ) (h : Head) : Type 0 where
   pub least : 7 ≤ h.size
   pub small : h.size ≤ length s
 
-front_with_lem : (s : List ℕ) (h : Head) (x : Listed) → Next s x → some h ≡ head_from (read_entry s) → Front s h
+front_with_lem : (s : List ℕ) (h : Head) (x : Listed) → Next s x → Some h ≡ head_from (read_entry s) → Front s h
 front_with_lem s h x n e =
-    let g : some h ≡ some (head_of x) = e ∙ ap head_from n.entry in
+    let g : Some h ≡ Some (head_of x) = e ∙ ap head_from n.entry in
     let i = head-is s x n.entry in
     let size : h.size ≡ x.size = cc in
     record {
@@ -413,7 +413,7 @@ front_with_lem s h x n e =
       small = omega (arith, i.small);
     }
 
-front_of : (s : List ℕ) (h : Head) → is_some (read_list s) ≡ true → 0 < length s → some h ≡ head_from (read_entry s) → Front s h
+front_of : (s : List ℕ) (h : Head) → is_some (read_list s) ≡ true → 0 < length s → Some h ≡ head_from (read_entry s) → Front s h
 front_of s h r g e = let n = next_of s r g in front_with_lem s h n.0 n.1 e
 
 -- `head` may be called at the front of a list that reads
@@ -427,7 +427,7 @@ pub record Reads (s : List ℕ) (at : ℕ) : Type 0 where
   pub left : is_some (read_list (drop at s)) ≡ true
 
 module _ (s : List ℕ) (at : ℕ) where
-  pub reads-front : Reads s at → at < length s → (h : Head) → some h ≡ head_from (read_entry (take (length s - at) (drop at s))) → Front (drop at s) h
+  pub reads-front : Reads s at → at < length s → (h : Head) → Some h ≡ head_from (read_entry (take (length s - at) (drop at s))) → Front (drop at s) h
   reads-front r g h e =
       front_of (drop at s) h r.left (omega (arith, length-drop at s)) (e ∙ ap (λ (t : List ℕ). head_from (read_entry t)) (rest at s))
 
@@ -450,13 +450,13 @@ module _ (s : List ℕ) (at : ℕ) where
     pub listed_next : listed (drop at s) ≡ f.first ∷ listed (drop (at + h.size) s)
     listed_next = f.next.all ∙ ap (λ (t : List ℕ). f.first ∷ listed t) after_first
 
-    pub directs-next : h.aim ≡ none → directs (listed (drop at s)) ≡ f.first.entry ∷ directs (listed (drop (at + h.size) s))
+    pub directs-next : h.aim ≡ None → directs (listed (drop at s)) ≡ f.first.entry ∷ directs (listed (drop (at + h.size) s))
     directs-next e = ap directs listed_next ∙ directs-here f.first _ (sym f.for ∙ e)
 
-    pub indirects-same : h.aim ≡ none → indirects (listed (drop at s)) ≡ indirects (listed (drop (at + h.size) s))
+    pub indirects-same : h.aim ≡ None → indirects (listed (drop at s)) ≡ indirects (listed (drop (at + h.size) s))
     indirects-same e = ap indirects listed_next ∙ indirects-after f.first _ (sym f.for ∙ e)
 
-    pub indirects-next : (g : AnchorStageRole) → h.aim ≡ some g →
+    pub indirects-next : (g : AnchorStageRole) → h.aim ≡ Some g →
         indirects (listed (drop at s)) ≡ record { role = g; entry = f.first.entry } ∷ indirects (listed (drop (at + h.size) s))
     indirects-next g e = ap indirects listed_next ∙ indirects-here f.first _ g (sym f.for ∙ e)
 

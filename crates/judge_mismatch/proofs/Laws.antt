@@ -1,4 +1,5 @@
 -- Laws of number 8: the marks, and the walk over the direct entries and the others.
+use Rattle.std.specs.Prelude.{Option, None, Some, is_some}
 use Prim.Native.Nat.{ℕ, zero, suc, ◌+◌, ◌-◌, ◌*◌, ◌≤◌, ◌<◌}
 use native.Mathlib.Nat.{add-zero}
 use native.Mathlib.Numerals.{add-one}
@@ -7,13 +8,12 @@ use native.Mathlib.Decide.{dec_lt, ℕ_discrete}
 use mathlib.Core.Path.{◌≡◌, refl, ap, sym, ◌∙◌}
 use mathlib.Core.Logic.{◌⊎◌, inl, inr, ⊎_elim}
 use mathlib.Core.Bool.{Bool, true, false, not, ◌&&◌, ◌||◌, or-true, or-false}
-use mathlib.Core.Option.{Option, none, some}
 use mathlib.Core.List.{List, [], ◌∷◌}
 use lib.ListN.{length, get_or, drop, set, replicate, length-drop, length-set, length-replicate}
 use lib.Seq.{get_or-set_same, get_or-set_other}
 use lib.Dec.{ltb, eqb}
 use borrow.Author.Tests.{eq-eqb, ne_eqb, lt-ltb, le-ltb, not-true, not-false}
-use Rattle.base.specs.Base.{pick, is_some, is_empty}
+use Rattle.base.specs.Base.{pick, is_empty}
 use Rattle.base.proofs.Bool.{and_left, and_right, never, clash, or_left, or_right, or_cases, or_swap, cases, first-false, last-false}
 use Rattle.base.proofs.Impossible.{impossible}
 use Rattle.map.specs.Rows.{Pair}
@@ -456,9 +456,9 @@ zeros-other presence p seen d = rw (ne_eqb presence 3 d) (omega arith)
 
 -- ---- whether an id stands among the direct entries that are left
 
-aim-cases : (o : Option AnchorStageRole) → (o ≡ none) ⊎ ((g : AnchorStageRole) × (o ≡ some g))
-aim-cases none = inl refl
-aim-cases (some g) = inr (g, refl)
+aim-cases : (o : Option AnchorStageRole) → (o ≡ None) ⊎ ((g : AnchorStageRole) × (o ≡ Some g))
+aim-cases None = inl refl
+aim-cases (Some g) = inr (g, refl)
 
 no_entries : directs [] ≡ []
 unfolding directs
@@ -480,7 +480,7 @@ targets-none : (p : PointInfo) (proof trigger : Bool) → all_targets p proof tr
 unfolding all_targets
 targets-none p proof trigger = refl
 
-targets_next : (s : List ℕ) (at : ℕ) (h : Head) (f : Front (drop at s) h) (g : AnchorStageRole) → h.aim ≡ some g →
+targets_next : (s : List ℕ) (at : ℕ) (h : Head) (f : Front (drop at s) h) (g : AnchorStageRole) → h.aim ≡ Some g →
     (p : PointInfo) (proof trigger : Bool) → all_targets p proof trigger (indirects (listed (drop at s))) ≡
     ((is_target_with (anchor_link g p) h.dropped h.id && not (stood_before g proof trigger))
     && all_targets p (proof || same_role g Proof) (trigger || same_role g Trigger) (indirects (listed (drop (at + h.size) s))))
@@ -494,7 +494,7 @@ targets_next s at h f g e p proof trigger =
     ∙ (targets-step p proof trigger (record { role = g; entry = f.first.entry }) rest
     ∙ ap (λ (b : Bool). (b && not (stood_before g proof trigger)) && more) is)
 
-module _ (s : List ℕ) (at : ℕ) (h : Head) (f : Front (drop at s) h) (g : AnchorStageRole) (e : h.aim ≡ some g) (p : PointInfo) (proof trigger : Bool) where
+module _ (s : List ℕ) (at : ℕ) (h : Head) (f : Front (drop at s) h) (g : AnchorStageRole) (e : h.aim ≡ Some g) (p : PointInfo) (proof trigger : Bool) where
   pub target-false : is_target_with (anchor_link g p) h.dropped h.id ≡ false → all_targets p proof trigger (indirects (listed (drop at s))) ≡ false
   target-false t = targets_next s at h f g e p proof trigger ∙ first-false (is_target_with (anchor_link g p) h.dropped h.id) (not (stood_before g proof trigger)) (all_targets p (proof || same_role g Proof) (trigger || same_role g Trigger) (indirects (listed (drop (at + h.size) s)))) t
 
@@ -516,7 +516,7 @@ stood-trigger : (g : AnchorStageRole) (proof trigger : Bool) → g ≡ Trigger �
 stood-trigger Proof proof trigger e = impossible (cc)
 stood-trigger Trigger proof trigger e = (refl, or-false proof, or-true trigger)
 
-module _ (s : List ℕ) (at : ℕ) (h : Head) (f : Front (drop at s) h) (g : AnchorStageRole) (e : h.aim ≡ some g) (p : PointInfo) (proof trigger : Bool) where
+module _ (s : List ℕ) (at : ℕ) (h : Head) (f : Front (drop at s) h) (g : AnchorStageRole) (e : h.aim ≡ Some g) (p : PointInfo) (proof trigger : Bool) where
   pub proof-again : g ≡ Proof → proof ≡ true → all_targets p proof trigger (indirects (listed (drop at s))) ≡ false
   proof-again r b = target-again s at h f g e p proof trigger ((stood-proof g proof trigger r).0 ∙ b)
 
@@ -545,7 +545,7 @@ targets-left s at p proof trigger h =
     ∙ (ap (all_targets p proof trigger) no_listed ∙ targets-none p proof trigger)
 
 -- where no direct entry is left none stands first
-pub no_direct {ℓ} : {A : Type ℓ} (s : List ℕ) (at : ℕ) (h : Head) → Front (drop at s) h → h.aim ≡ none → directs (listed (drop at s)) ≡ [] → A
+pub no_direct {ℓ} : {A : Type ℓ} (s : List ℕ) (at : ℕ) (h : Head) → Front (drop at s) h → h.aim ≡ None → directs (listed (drop at s)) ≡ [] → A
 no_direct s at h f e n = let d = directs-next s at h f e in impossible (cc)
 
 -- ---- the walk in the list's bytes
@@ -568,14 +568,6 @@ going_start presence p s seen z r o = record {
   fits = refl;
   once = o;
 }
-
-pub direct-told {ℓ} : {A : Type ℓ} (r : Bool) (o : Option A) → r ≡ not (is_some o) → not r ≡ false → o ≡ none
-direct-told r none e h = refl
-direct-told r (some x) e h = clash r (not-false r h) e
-
-pub target_told {ℓ} : {A : Type ℓ} (r : Bool) (o : Option A) → r ≡ not (is_some o) → not r ≡ true → is_some o ≡ true
-target_told r none e h = clash r e (not-true r h)
-target_told r (some x) e h = refl
 
 -- the walk has ended: nothing direct is left
 ended_with : {presence : ℕ} {p : PointInfo} {s seen : List ℕ} {failed : Bool} {dropped at : ℕ} → Going presence p s seen failed dropped at →
@@ -605,7 +597,7 @@ module _ {presence : ℕ} {p : PointInfo} {s seen : List ℕ} {failed : Bool} {d
     pub going_target : is_some h.aim ≡ true → DirectsFound presence p s seen failed dropped at
     going_target e = found-placed presence p s seen failed dropped at g.fits (ended_with g (directs-last s at h f e).0)
 
-    module _ (a : h.aim ≡ none) where
+    module _ (a : h.aim ≡ None) where
       once-next : is_version_twice p (f.first.entry ∷ directs (listed (drop (at + h.size) s))) ≡ false
       once-next = ap (is_version_twice p) (sym (directs-next s at h f a)) ∙ g.once
 
@@ -689,7 +681,7 @@ mismatch-is presence p es ts = refl
 second-of : (a l r : Bool) → a ≡ true → (not a || (l || r)) ≡ (l || r)
 second-of a l r h = rw h
 
-module _ (presence : ℕ) (p : PointInfo) (s : List ℕ) (l : List Listed) (e : read_list s ≡ some l) where
+module _ (presence : ℕ) (p : PointInfo) (s : List ℕ) (l : List Listed) (e : read_list s ≡ Some l) where
   are : listed s ≡ l
   are = listed-is s l e
 

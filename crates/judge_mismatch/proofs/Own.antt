@@ -1,17 +1,17 @@
 -- Laws of the versions of the author's point at the round before: their ids, which of them stand twice, and an index of a block of them.
+use Rattle.std.specs.Prelude.{Option, None, Some, is_some}
 use Prim.Native.Nat.{ℕ, zero, suc, ◌+◌, ◌-◌, ◌≤◌, ◌<◌}
 use native.Mathlib.Omega.{arith}
 use native.Mathlib.Decide.{dec_lt, ℕ_discrete}
 use mathlib.Core.Path.{◌≡◌, refl, ap, sym, ◌∙◌}
 use mathlib.Core.Logic.{◌⊎◌, inl, inr, ⊎_elim}
 use mathlib.Core.Bool.{Bool, true, false, not, ◌&&◌, ◌||◌}
-use mathlib.Core.Option.{Option, none, some}
 use mathlib.Core.List.{List, [], ◌∷◌, ◌++◌, append_assoc}
 use lib.ListN.{length, get_or, take, drop, replicate, length-append, length-drop, get_or-append}
 use lib.Seq.{get_or-append_seam, drop-drop}
 use lib.Dec.{eqb}
 use borrow.Author.Tests.{eqb-false, not-true}
-use Rattle.base.specs.Base.{pick, is_some}
+use Rattle.base.specs.Base.{pick}
 use Rattle.base.proofs.Bool.{clash, never, and_left, and_right, or_left, or_right, or_first, or_second, or_none, or_rest}
 use Rattle.base.proofs.Option.{some_of}
 use Rattle.base.proofs.Lists.{rest}
@@ -20,8 +20,6 @@ use Rattle.point.specs.Reading.{point_id_at}
 use Rattle.point.specs.declared.data.AnchorStageRole.{AnchorStageRole}
 use Rattle.point.proofs.Ids.{same_sym, same_eq, id_shift}
 use Rattle.id_index.specs.Code.{count_of, field_id, id_in, added, Places, Noted, IsAt, NoneIs, Once, Twice, Built, FoundAt}
-use Rattle.id_index.specs.declared.Place.{Place}
-use Rattle.id_index.specs.declared.Place.TheVariants as case-place
 use Rattle.id_index.proofs.Laws.{added-count, added-old, added_new, added-noted, none-noted}
 use Rattle.rules.specs.DagPoint.{Entry, entry_id, is_dropped, is_by}
 use Rattle.rules.specs.List.{read_entry, read_list, directs}
@@ -190,7 +188,7 @@ module _ (own : PointId) (s : List ℕ) (at : ℕ) (h : Head) (f : Front (drop a
   own_with : (o : Option AnchorStageRole) → h.aim ≡ o → (b : Bool) → is_own own h ≡ b →
       own_in own (drop at s) ≡ pick b (h.id ∷ own_ids own after) (own_ids own after)
   unfolding is_own after
-  own_with none a b e = rw (directs-next s at h f a) (go b (rw (a, f.dropped, f.id) at e))
+  own_with None a b e = rw (directs-next s at h f a) (go b (rw (a, f.dropped, f.id) at e))
     where
       go : (b : Bool) → (not (is_dropped f.first.entry.state) && is_by (own.round - 1) own.author (entry_id f.first.entry.state)) ≡ b →
           own_ids own (f.first.entry ∷ directs (listed (drop (at + h.size) s)))
@@ -201,8 +199,8 @@ module _ (own : PointId) (s : List ℕ) (at : ℕ) (h : Head) (f : Front (drop a
           dropped_not true g = sym g
           dropped_not false g = refl
       go false t = own-passed own f.first.entry _ t
-  own_with (some g) a true e = clash (is_own own h) e (rw a)
-  own_with (some g) a false e =
+  own_with (Some g) a true e = clash (is_own own h) e (rw a)
+  own_with (Some g) a false e =
       let d = directs-last s at h f (ap is_some a) in
       rw (d.0, d.1)
 
@@ -276,13 +274,13 @@ unfolding id_after
 after_kept s state at g = rw g
 
 -- the field of a version's id
-own-field : (own : PointId) (s : List ℕ) (h : Head) → is_some (read_entry s) ≡ true → some h ≡ head_from (read_entry s) → is_own own h ≡ true →
+own-field : (own : PointId) (s : List ℕ) (h : Head) → is_some (read_entry s) ≡ true → Some h ≡ head_from (read_entry s) → is_own own h ≡ true →
     (field_at s + 71 ≤ length s) × (point_id_at s (field_at s + 3) ≡ h.id)
 unfolding is_own
 own-field own s h r e o =
     let x = some_of (read_entry s) r in
     let i = head-is s x.0 x.1 in
-    let same : some h ≡ some (head_of x.0) = e ∙ ap head_from x.1 in
+    let same : Some h ≡ Some (head_of x.0) = e ∙ ap head_from x.1 in
     let dropped : h.dropped ≡ is_dropped x.0.entry.state = cc in
     let id : h.id ≡ entry_id x.0.entry.state = cc in
     let state = get_or s (flags_at s + 3) 0 in
@@ -295,7 +293,7 @@ own-field own s h r e o =
     go f true g i = (omega arith, ap (point_id_at s) (omega arith) ∙ sym i)
     go f false g i = (omega arith, ap (point_id_at s) (omega arith) ∙ sym i)
 
-pub version-is : (own : PointId) (s : List ℕ) (h : Head) (v : code-version.Version) → is_some (read_entry s) ≡ true → some h ≡ head_from (read_entry s) →
+pub version-is : (own : PointId) (s : List ℕ) (h : Head) (v : code-version.Version) → is_some (read_entry s) ≡ true → Some h ≡ head_from (read_entry s) →
     v.size ≡ h.size → v.is_own ≡ is_own own h → v.place ≡ field_at s → VersionAt own s v
 version-is own s h v r e size told place = (
   h,
@@ -423,10 +421,10 @@ any-end : (a : List PointId) (own : PointId) (s : List ℕ) (at : ℕ) → lengt
 unfolding any_in own_ids directs
 any-end a own s at h = rw (reads_end s at h)
 
-pub found-is : (s x : List ℕ) (i k : PointId) (p : Place) (j : ℕ) → p ≡ case-place.At j → i ≡ k → FoundAt s x i p → IsAt s x (count_of x) k j
+pub found-is : (s x : List ℕ) (i k : PointId) (p : Option ℕ) (j : ℕ) → p ≡ Some j → i ≡ k → FoundAt s x i p → IsAt s x (count_of x) k j
 found-is s x i k p j e g f = rw (e, g) at f
 
-pub absent-is : (s x : List ℕ) (i k : PointId) (p : Place) → p ≡ case-place.Absent → i ≡ k → FoundAt s x i p → NoneIs s x (count_of x) k
+pub absent-is : (s x : List ℕ) (i k : PointId) (p : Option ℕ) → p ≡ None → i ≡ k → FoundAt s x i p → NoneIs s x (count_of x) k
 absent-is s x i k p e g f = rw (e, g) at f
 
 -- what is left of the list meets the index exactly if the whole of it does
@@ -522,11 +520,3 @@ module _ {own : PointId} {s : List ℕ} {at : ℕ} (n : Blocks own s at) where
       reads = record { within = blocks_within; left = ap (λ (k : List ℕ). is_some (read_list k)) (sym past-block) ∙ block_here.reads };
       left = sym (or_rest _ _ t) ∙ left_here;
     }
-
-pub referenced_once : (p : PointInfo) (d : ℕ) (l : List Entry) → prev_digest p ≡ some d → is_version_twice p l ≡ false
-unfolding is_version_twice
-referenced_once p d l e = rw e
-
-pub unreferenced : (p : PointInfo) (l : List Entry) → prev_digest p ≡ none → is_version_twice p l ≡ is_twice_in (own_ids p.id l)
-unfolding is_version_twice
-unreferenced p l e = rw e

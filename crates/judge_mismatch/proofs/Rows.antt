@@ -1,14 +1,14 @@
 -- Laws of ids, of the rows of a map that have them, and of versions.
+use Rattle.std.specs.Prelude.{Option, None, Some, is_some}
 use Prim.Native.Nat.{ℕ, zero, suc, ◌-◌, ◌≤◌, ◌<◌}
 use native.Mathlib.Omega.{arith}
 use native.Mathlib.Decide.{dec_lt}
 use mathlib.Core.Path.{◌≡◌, refl, ap, sym, ◌∙◌}
 use mathlib.Core.Bool.{Bool, true, false, not, ◌&&◌, ◌||◌, or-true}
-use mathlib.Core.Option.{Option, none, some}
 use mathlib.Core.List.{List, [], ◌∷◌}
 use lib.ListN.{length, get_or}
 use lib.Dec.{eqb}
-use Rattle.base.specs.Base.{pick, is_some}
+use Rattle.base.specs.Base.{pick}
 use Rattle.base.proofs.Bool.{never, clash, last-false}
 use Rattle.base.proofs.Option.{some-none, none-some}
 use Rattle.map.specs.Rows.{Pair, peers_of, pairs_of, rising, find, peers, digests}
@@ -80,12 +80,12 @@ module _ (round : ℕ) (l : List Pair) (i : PointId) where
   peer-of k h t = peers-at l k no_pair h ∙ (same_fields (pair_id round (get_or l k no_pair)) i t).2
 
   -- one whose author has no row
-  pub row_nowhere : find (peers l) i.author ≡ none → is_among round l i ≡ false
+  pub row_nowhere : find (peers l) i.author ≡ None → is_among round l i ≡ false
   row_nowhere e =
       among_none round l i
       (λ k h. never _ (λ t. find_none (peers l) i.author e k (omega (arith, peers-length l)) (peer-of k h t)))
 
-  module _ (n : ℕ) (e : find (peers l) i.author ≡ some n) where
+  module _ (n : ℕ) (e : find (peers l) i.author ≡ Some n) where
     pub row_inside : n < length l
     row_inside = omega (arith, (find-some (peers l) i.author n e).inside, peers-length l)
 
@@ -104,14 +104,14 @@ module _ (round : ℕ) (l : List Pair) (i : PointId) where
         d (ap (λ (j : ℕ). get_or (digests l) j 0) (sym same)
         ∙ (digests-at l k no_pair h ∙ (same_fields (pair_id round (get_or l k no_pair)) i t).1))))
 
-pub row_some : (round : ℕ) (l : List Pair) (i : PointId) (o : Option ℕ) (k : ℕ) → o ≡ some k → IsRow round l i o →
+pub row_some : (round : ℕ) (l : List Pair) (i : PointId) (o : Option ℕ) (k : ℕ) → o ≡ Some k → IsRow round l i o →
     (k < length l) × (same_id (pair_id round (get_or l k no_pair)) i ≡ true)
-row_some round l i none k e h = none-some e
-row_some round l i (some n) k e h = let same : n ≡ k = cc in rw same at h
+row_some round l i None k e h = none-some e
+row_some round l i (Some n) k e h = let same : n ≡ k = cc in rw same at h
 
-pub row_none : (round : ℕ) (l : List Pair) (i : PointId) (o : Option ℕ) → o ≡ none → IsRow round l i o → is_among round l i ≡ false
-row_none round l i none e h = h
-row_none round l i (some n) e h = some-none e
+pub row_none : (round : ℕ) (l : List Pair) (i : PointId) (o : Option ℕ) → o ≡ None → IsRow round l i o → is_among round l i ≡ false
+row_none round l i None e h = h
+row_none round l i (Some n) e h = some-none e
 
 -- in a rising map an id has one row
 pub row_once : (round : ℕ) (l : List Pair) (i : PointId) (j k : ℕ) → rising (peers l) ≡ true → j < length l → k < length l → (j ≡ k → ⊥) →
@@ -168,10 +168,6 @@ module _ (p : PointInfo) (i : PointId) where
   unfolding is_version
   version-other h = last-false (not (is_some (prev_digest p))) _ h
 
-  pub version_referenced : (d : ℕ) → prev_digest p ≡ some d → is_version p i ≡ false
-  unfolding is_version
-  version_referenced d h = ap (λ (o : Option ℕ). not (is_some o) && is_by (p.id.round - 1) p.id.author i) h
-
-  pub version-is : is_by (p.id.round - 1) p.id.author i ≡ true → prev_digest p ≡ none → is_version p i ≡ true
+  pub version-is : is_by (p.id.round - 1) p.id.author i ≡ true → prev_digest p ≡ None → is_version p i ≡ true
   unfolding is_version
   version-is b h = ap (λ (o : Option ℕ). not (is_some o) && is_by (p.id.round - 1) p.id.author i) h ∙ b

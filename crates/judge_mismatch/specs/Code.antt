@@ -1,7 +1,6 @@
 -- What the code's values stand for, and what its functions promise each other.
-use Rattle.std.specs.Prelude.{ℕ, ◌+◌, zero, suc, ◌-◌, ◌*◌, ◌≤◌, ◌<◌, Bool, true, false, not, ◌&&◌, ◌||◌, List, [], ◌∷◌, ◌++◌, get_or, drop, length, eqb, ◌≡◌}
-use Rattle.std.proofs.Math.Option.{Option, none, some}
-use Rattle.base.specs.Base.{pick, is_some}
+use Rattle.std.specs.Prelude.{ℕ, ◌+◌, zero, suc, ◌-◌, ◌*◌, ◌≤◌, ◌<◌, Bool, true, false, not, ◌&&◌, ◌||◌, List, [], ◌∷◌, ◌++◌, get_or, drop, length, eqb, ◌≡◌, Option, None, Some, is_some}
+use Rattle.base.specs.Base.{pick}
 use Rattle.parts.specs.Limits.{most_kept}
 use Rattle.record.specs.Record.{record_end, content_of}
 use Rattle.point.specs.Point.{PointId, no_point, AnchorLink, Direct, Indirect, PointInfo, prev_digest, same_id}
@@ -10,7 +9,6 @@ use Rattle.point.specs.Code.{point_id_of}
 use Rattle.point.specs.declared.data.AnchorStageRole.{AnchorStageRole}
 use Rattle.rules.specs.DagPoint.{entry_id, is_dropped, is_by, Entry}
 use Rattle.rules.specs.List.{Listed, role_of, read_entry, read_list, directs, indirects}
-use Rattle.judge_entries.specs.Code.{aim_of}
 use Rattle.judge_mismatch.specs.declared.head.Head as code-head
 use Rattle.judge_mismatch.specs.declared.versions.Version as code-version
 use Rattle.judge_mismatch.specs.declared.versions.Block as code-block
@@ -28,11 +26,11 @@ abbrev pub head_of : Listed → Head
 head_of x = record { aim = x.aim; dropped = is_dropped x.entry.state; id = entry_id x.entry.state; size = x.size }
 
 abbrev pub head_from : Option Listed → Option Head
-head_from none = none
-head_from (some x) = some (head_of x)
+head_from None = None
+head_from (Some x) = Some (head_of x)
 
 abbrev pub code_head_of : code-head.Head → Head
-code_head_of x = record { aim = aim_of x.aim; dropped = x.is_dropped; id = point_id_of x.id; size = x.size }
+code_head_of x = record { aim = x.aim; dropped = x.is_dropped; id = point_id_of x.id; size = x.size }
 
 -- ---- where an entry's parts stand
 
@@ -41,7 +39,7 @@ abbrev pub flags_at : List ℕ → ℕ
 flags_at s = pick (eqb (get_or s 0 0) 19) 4 0
 
 abbrev pub aim_at : List ℕ → Option AnchorStageRole
-aim_at s = pick (eqb (get_or s 0 0) 19) (some (role_of (get_or s 3 0))) none
+aim_at s = pick (eqb (get_or s 0 0) 19) (Some (role_of (get_or s 3 0))) None
 
 -- how far after the flags the id stands: in state 1 after the root cause too
 abbrev pub id_place : ℕ → ℕ
@@ -52,8 +50,8 @@ unfoldable pub id_after : ℕ → ℕ → List ℕ → PointId
 id_after state at s = pick (eqb state 5) no_point (point_id_at s (at + id_place state))
 
 abbrev pub placed_at : ℕ → Option ℕ → Option ℕ
-placed_at at none = none
-placed_at at (some n) = some (at + n)
+placed_at at None = None
+placed_at at (Some n) = Some (at + n)
 
 -- where a record ends, which starts at a place
 unfoldable pub end_in : ℕ → List ℕ → Option ℕ
@@ -62,16 +60,16 @@ end_in at s = placed_at at (record_end (drop at s))
 -- where an entry ends, whose flags end at a place
 unfoldable pub entry_end : ℕ → ℕ → List ℕ → Option ℕ
 entry_end state at s =
-    pick (eqb state 5) (some at)
-    (pick (eqb state 3) (some (at + 71))
-    (pick (eqb state 4) (some (at + 71))
+    pick (eqb state 5) (Some at)
+    (pick (eqb state 3) (Some (at + 71))
+    (pick (eqb state 4) (Some (at + 71))
     (pick (eqb state 1) (end_in (at + 72) s) (end_in at s))))
 
 -- ---- the list
 
 abbrev pub list_or : Option (List Listed) → List Listed
-list_or none = []
-list_or (some l) = l
+list_or None = []
+list_or (Some l) = l
 
 -- the entries of a list that reads
 unfoldable pub listed : List ℕ → List Listed
@@ -100,8 +98,8 @@ no_pair = record { peer = 0; digest = 0 }
 
 -- a row of a map that has an id, or that none has
 abbrev pub IsRow : ℕ → List Pair → PointId → Option ℕ → Type 0
-IsRow round l i none = is_among round l i ≡ false
-IsRow round l i (some k) = (k < length l) × (same_id (pair_id round (get_or l k no_pair)) i ≡ true)
+IsRow round l i None = is_among round l i ≡ false
+IsRow round l i (Some k) = (k < length l) × (same_id (pair_id round (get_or l k no_pair)) i ≡ true)
 
 -- ---- the versions of the author's point at the round before
 
@@ -152,7 +150,7 @@ pub record IsVersionAt (own : PointId) (s : List ℕ) (h : Head) (v : code-versi
   pub id : v.is_own ≡ true → point_id_at s (v.place + 3) ≡ h.id
 
 abbrev pub VersionAt : PointId → List ℕ → code-version.Version → Type 0
-VersionAt own s v = (h : Head) × (some h ≡ head_from (read_entry s)) × IsVersionAt own s h v
+VersionAt own s v = (h : Head) × (Some h ≡ head_from (read_entry s)) × IsVersionAt own s h v
 
 abbrev pub HasRoom : ℕ → ℕ → Bool → Type 0
 HasRoom n at true = (n < most_kept) × (at < 4000000000)

@@ -1,19 +1,15 @@
 // An entry of a list that can be read, without its point.
-ghost use Rattle.std.specs.Prelude.{◌≡◌, true, not, ◌+◌, ◌≤◌, ◌<◌, length};
-ghost use Rattle.std.proofs.Math.Option.{some};
-ghost use Rattle.base.specs.Base.{is_some};
+ghost use Rattle.std.specs.Prelude.{◌≡◌, true, ◌+◌, ◌≤◌, ◌<◌, length, Some, is_some};
 ghost use Rattle.point.specs.Code.{point_id_of};
 ghost use Rattle.rules.specs.List.{read_entry};
-ghost use Rattle.judge_entries.specs.Code.{aim_of};
 ghost use Rattle.judge_mismatch.specs.Code.{head_from, code_head_of, flags_at, aim_at, id_place, id_after, end_in, entry_end};
 
-use judge_entries::Aim;
 use point::{AnchorStageRole, PointId};
 
 // An entry without its point.
 #[derive(Clone, Copy)]
 pub struct Head {
-    pub aim: Aim,
+    pub aim: Option<AnchorStageRole>,
     pub is_dropped: bool,
     pub id: PointId,
     pub size: usize,
@@ -28,17 +24,17 @@ pub fn flags_at(s: &[u8]) -> usize
 }
 
 // What an entry that can be read is for.
-fn aim(s: &[u8]) -> Aim
+fn aim(s: &[u8]) -> Option<AnchorStageRole>
     requires { 3 < length s.now }
-    ensures { aim_of result ≡ aim_at s.now }
+    ensures { result ≡ aim_at s.now }
 {
     if s[0] != 19 {
-        return Aim::Dependency;
+        return None;
     }
     if s[3] == 0 {
-        return Aim::Target(AnchorStageRole::Proof);
+        return Some(AnchorStageRole::Proof);
     }
-    Aim::Target(AnchorStageRole::Trigger)
+    Some(AnchorStageRole::Trigger)
 }
 
 // The id that stands after an entry's flags, which end at a place.
@@ -58,7 +54,7 @@ fn id_after(s: &[u8], state: u8, at: usize) -> PointId
 // Where an entry's record ends, which starts at a place: reading the entry has tested it.
 fn end_of_record(s: &[u8], at: usize) -> usize
     requires { is_some (end_in at s.now) ≡ true }
-    ensures { end_in at s.now ≡ some result }
+    ensures { end_in at s.now ≡ Some result }
 {
     at + record::known_end(&s[at..])
 }
@@ -67,7 +63,7 @@ fn end_of_record(s: &[u8], at: usize) -> usize
 fn entry_end(s: &[u8], state: u8, at: usize) -> usize
     requires at_in_bounds { at ≤ length s.now }
     requires s_value { is_some (entry_end state at s.now) ≡ true }
-    ensures { entry_end state at s.now ≡ some result }
+    ensures { entry_end state at s.now ≡ Some result }
 {
     match state {
         5 => at,
@@ -81,7 +77,7 @@ fn entry_end(s: &[u8], state: u8, at: usize) -> usize
 // An entry that can be read, without its point: no map of its record is read again.
 pub fn head_of(s: &[u8]) -> Head
     requires { is_some (read_entry s.now) ≡ true }
-    ensures { some (code_head_of result) ≡ head_from (read_entry s.now) }
+    ensures { Some (code_head_of result) ≡ head_from (read_entry s.now) }
 {
     let flags = flags_at(s);
     let state = s[flags + 3];
@@ -91,14 +87,5 @@ pub fn head_of(s: &[u8]) -> Head
         is_dropped: state == 5,
         id: id_after(s, state, at),
         size: entry_end(s, state, at),
-    }
-}
-
-pub fn is_direct(aim: Aim) -> bool
-    ensures { result ≡ not (is_some (aim_of aim)) }
-{
-    match aim {
-        Aim::Dependency => true,
-        Aim::Target(_) => false,
     }
 }

@@ -1,11 +1,9 @@
 // The point's maps by their numbers, 0 the includes and 1 the witness, and which of their rows lack.
 ghost use Rattle.std.specs.Prelude.{◌≡◌, List, ℕ, ◌+◌, ◌≤◌, length};
-ghost use Rattle.map.specs.Code.{position_of};
 ghost use Rattle.point.specs.Code.{point_id_of, point_of, Reads};
 ghost use Rattle.rules.specs.Mismatch.{is_version};
 ghost use Rattle.judge_mismatch.specs.Code.{round_in, pairs_in, map_in, maps_in, IsRow, zeros_in, zeros};
 
-use map::{Found, Position};
 use point::{PointId, PointInfo};
 
 // The rows of a map that an entry stood for are marked in one half of a room of twice as many bytes.
@@ -21,11 +19,10 @@ pub fn maps_in_dag(presence: u8) -> usize
 fn round_of(info: PointInfo, m: usize) -> u32
     ensures { (s : List ℕ) → result ≡ round_in (point_of s info) m }
 {
-    let id = info.id;
     if m == 0 {
-        return parts::rounds_back(id.round, 1);
+        return parts::rounds_back(info.id.round, 1);
     }
-    parts::rounds_back(id.round, 2)
+    parts::rounds_back(info.id.round, 2)
 }
 
 // The includes, or the witness.
@@ -40,37 +37,28 @@ fn map_of(rec: &[u8], info: PointInfo, m: usize) -> &[u8]
 }
 
 // The row of a map that has this id.
-pub fn row_of(rec: &[u8], info: PointInfo, m: usize, id: PointId) -> Position
+pub fn row_of(rec: &[u8], info: PointInfo, m: usize, id: PointId) -> Option<u16>
     requires { Reads rec.now info }
-    ensures { IsRow (round_in (point_of rec.now info) m) (pairs_in (point_of rec.now info) m) (point_id_of id) (position_of result) }
+    ensures { IsRow (round_in (point_of rec.now info) m) (pairs_in (point_of rec.now info) m) (point_id_of id) result }
 {
     if id.round != round_of(info, m) {
-        return Position::Absent;
+        return None;
     }
     let map = map_of(rec, info, m);
-    let Position::At(i) = map::search(map, 64, id.author) else {
-        return Position::Absent;
-    };
+    let i = map::search(map, 64, id.author)?;
     if parts::same(map::digest_at(map, i as usize), id.digest) {
-        return Position::At(i);
+        return Some(i);
     }
-    Position::Absent
+    None
 }
 
 // Whether an id is a version of the author's point at the round before, of which the point references none.
+#[tactic(auto, unfolding(rules::specs::Mismatch::is_version))]
 pub fn is_version(rec: &[u8], info: PointInfo, id: PointId) -> bool
     requires { Reads rec.now info }
     ensures { result ≡ is_version (point_of rec.now info) (point_id_of id) }
 {
-    let own = info.id;
-    if !judge_entries::is_own_before(own, id) {
-        return false;
-    }
-    let prev_digest = point::prev_digest(rec, info);
-    match prev_digest {
-        Found::Digest(_) => false,
-        Found::Absent => true,
-    }
+    judge_entries::is_own_before(info.id, id) && point::prev_digest(rec, info).is_none()
 }
 
 // How many of n marks are 0, the first at a place.
@@ -79,14 +67,11 @@ fn count_lacking(seen: &[u8], from: usize, n: usize) -> usize
     ensures { result ≡ zeros_in n from seen.now }
 {
     let mut lacking = 0;
-    let mut i = 0;
-    while i < n {
-        if seen[from + i] == 0 {
-            lacking += 1;
-            i += 1;
-        } else {
-            i += 1;
+    for i in 0..n {
+        if seen[from + i] != 0 {
+            continue;
         }
+        lacking += 1;
     }
     lacking
 }

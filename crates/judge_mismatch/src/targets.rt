@@ -1,13 +1,11 @@
 // The entries of indirect targets: each the target of one of the point's links, and each link once.
-ghost use Rattle.std.specs.Prelude.{◌≡◌, true, false, List, [], ℕ};
-ghost use Rattle.base.specs.Base.{is_some};
+ghost use Rattle.std.specs.Prelude.{◌≡◌, true, false, List, [], ℕ, is_some};
 ghost use Rattle.point.specs.Code.{point_id_of, link_of, point_of};
 ghost use Rattle.rules.specs.List.{read_list, directs, indirects};
 ghost use Rattle.judge_mismatch.specs.Code.{listed, is_target_with};
 ghost use Rattle.rules.specs.Mismatch.{all_targets};
 
 use crate::head::head_of;
-use judge_entries::Aim;
 use point::{AnchorLink, AnchorStageRole, PointId, PointInfo};
 
 // Whether an indirect link leads to the target that an entry stands for.
@@ -16,12 +14,7 @@ fn is_target(link: AnchorLink, is_dropped: bool, id: PointId) -> bool
 {
     match link {
         AnchorLink::Direct(_) => false,
-        AnchorLink::Indirect(indirect) => {
-            if is_dropped {
-                return true;
-            }
-            point::is_same_id(id, indirect.to)
-        }
+        AnchorLink::Indirect(indirect) => is_dropped || point::is_same_id(id, indirect.to),
     }
 }
 
@@ -36,8 +29,7 @@ pub fn are_targets(info: PointInfo, list: &[u8]) -> bool
     let mut at = 0;
     while at < list.len() {
         let head = head_of(&list[at..]);
-        let aim = head.aim;
-        let Aim::Target(role) = aim else {
+        let Some(role) = head.aim else {
             return false;
         };
         if !is_target(info.anchor_link(role), head.is_dropped, head.id) {

@@ -1,8 +1,7 @@
 // Whether a version of the author's point at the round before stands twice among the direct entries of a list. Versions have no
 // row to mark, so they are looked up in an index of their ids, block by block: those of a block among themselves, then all that
 // stand after it.
-ghost use Rattle.std.specs.Prelude.{◌≡◌, true, ◌≤◌, length, drop, replicate};
-ghost use Rattle.base.specs.Base.{is_some};
+ghost use Rattle.std.specs.Prelude.{◌≡◌, true, ◌≤◌, length, drop, replicate, is_some};
 ghost use Rattle.id_index.specs.Code.{count_of, Index};
 ghost use Rattle.point.specs.Code.{point_id_of, point_of, Reads};
 ghost use Rattle.rules.specs.List.{read_entry, read_list, directs};
@@ -11,8 +10,6 @@ ghost use Rattle.judge_mismatch.specs.Code.{own_in, is_twice_in, is_version_twic
 
 use crate::head;
 use crate::head::Head;
-use id_index::Place;
-use map::Found;
 use point::{PointId, PointInfo};
 
 // A block ends before its places pass what an index holds.
@@ -45,17 +42,11 @@ fn id_field(s: &[u8]) -> usize
     flags + 7
 }
 
+#[tactic(auto, unfolding(crate::specs::Code::is_own))]
 fn is_own(own: PointId, head: Head) -> bool
     ensures { result ≡ is_own (point_id_of own) (code_head_of head) }
 {
-    let aim = head.aim;
-    if !head::is_direct(aim) {
-        return false;
-    }
-    if head.is_dropped {
-        return false;
-    }
-    judge_entries::is_own_before(own, head.id)
+    head.aim.is_none() && !head.is_dropped && judge_entries::is_own_before(own, head.id)
 }
 
 // The entry at the front of a list.
@@ -75,13 +66,7 @@ fn has_room(index: &[u16], at: usize) -> bool
     requires { length index.now ≡ 16386 }
     ensures { HasRoom (count_of index.now) at result }
 {
-    if FARTHEST <= at {
-        return false;
-    }
-    if parts::MOST_KEPT <= id_index::count(index) {
-        return false;
-    }
-    true
+    at < FARTHEST && id_index::count(index) < parts::MOST_KEPT
 }
 
 // Notes the versions of a list, up to the first for which there is no room, and says where they end.
@@ -117,9 +102,9 @@ fn meets(own: PointId, list: &[u8], from: usize, index: &[u16]) -> bool
         let v = version_at(own, &list[at..]);
         if v.is_own {
             let id = point::point_id_at(list, at + v.place + 3);
-            let Place::Absent = id_index::find(list, index, id) else {
+            if id_index::find(list, index, id).is_some() {
                 return true;
-            };
+            }
             at += v.size;
         } else {
             at += v.size;
@@ -163,15 +148,14 @@ fn own_twice(own: PointId, list: &[u8]) -> bool
 }
 
 // Whether a version stands twice, of which there are none where the point has a previous digest.
+#[tactic(auto, unfolding(crate::specs::Code::is_version_twice))]
 pub fn stand_twice(rec: &[u8], info: PointInfo, list: &[u8]) -> bool
     requires reads { Reads rec.now info }
     requires list_value { is_some (read_list list.now) ≡ true }
     ensures { result ≡ is_version_twice (point_of rec.now info) (directs (listed list.now)) }
 {
-    let prev_digest = point::prev_digest(rec, info);
-    let Found::Absent = prev_digest else {
+    if point::prev_digest(rec, info).is_some() {
         return false;
-    };
-    let own = info.id;
-    own_twice(own, list)
+    }
+    own_twice(info.id, list)
 }

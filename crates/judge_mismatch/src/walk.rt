@@ -1,15 +1,12 @@
 // The walk over the direct entries, and number 8.
-ghost use Rattle.std.specs.Prelude.{◌≡◌, true, false, not, ◌&&◌, ◌||◌, List, ltb, eqb, length, replicate};
-ghost use Rattle.std.proofs.Math.Option.{some};
-ghost use Rattle.base.specs.Base.{is_some};
+ghost use Rattle.std.specs.Prelude.{◌≡◌, true, false, not, ◌&&◌, ◌||◌, List, ltb, eqb, length, replicate, Some, is_some};
 ghost use Rattle.point.specs.Code.{point_id_of, point_of, Reads};
 ghost use Rattle.rules.specs.List.{Listed, read_list, directs, indirects};
 ghost use Rattle.judge_mismatch.specs.Code.{listed, is_version_twice, DirectsFound};
 ghost use Rattle.rules.specs.Mismatch.{is_version, mismatch};
 
-use crate::head::{head_of, is_direct};
+use crate::head::head_of;
 use crate::{maps, targets, versions};
-use map::Position;
 use point::{PointId, PointInfo};
 
 // What the walk over the direct entries finds: that one of them fails, or how many were dropped and where the walk ended.
@@ -25,10 +22,7 @@ fn has_place(found: bool, rec: &[u8], info: PointInfo, id: PointId) -> bool
     requires { Reads rec.now info }
     ensures { result ≡ (found || is_version (point_of rec.now info) (point_id_of id)) }
 {
-    if found {
-        return true;
-    }
-    maps::is_version(rec, info, id)
+    found || maps::is_version(rec, info, id)
 }
 
 // Walks the direct entries, and for each the point's maps, up to the first mismatch. A row that an entry stands for is
@@ -45,8 +39,7 @@ fn walk(presence: u8, rec: &[u8], info: PointInfo, list: &[u8], seen: &mut [u8])
     let mut at = 0;
     'entries: while at < list.len() {
         let head = head_of(&list[at..]);
-        let aim = head.aim;
-        if !is_direct(aim) {
+        if head.aim.is_some() {
             break 'entries;
         }
         let next = at + head.size;
@@ -57,7 +50,7 @@ fn walk(presence: u8, rec: &[u8], info: PointInfo, list: &[u8], seen: &mut [u8])
         }
         let mut found = false;
         for m in 0..maps {
-            let Position::At(i) = maps::row_of(rec, info, m, head.id) else {
+            let Some(i) = maps::row_of(rec, info, m, head.id) else {
                 continue;
             };
             let mark = maps::HALF * m + i as usize;
@@ -85,17 +78,14 @@ fn walk(presence: u8, rec: &[u8], info: PointInfo, list: &[u8], seen: &mut [u8])
 fn has_absent_targets(presence: u8, list: &[u8], end: usize) -> bool
     ensures { result ≡ (not (eqb presence 3) && ltb end (length list.now)) }
 {
-    if presence == 3 {
-        return false;
-    }
-    end < list.len()
+    presence != 3 && end < list.len()
 }
 
 // Number 8 of a list that reads.
 pub fn is_mismatch(presence: u8, rec: &[u8], info: PointInfo, list: &[u8]) -> bool
     requires reads { Reads rec.now info }
     requires list_value { is_some (read_list list.now) ≡ true }
-    ensures { (l : List Listed) → read_list list.now ≡ some l →
+    ensures { (l : List Listed) → read_list list.now ≡ Some l →
         result ≡ mismatch presence (point_of rec.now info) (directs l) (indirects l) }
 {
     if versions::stand_twice(rec, info, list) {
@@ -109,9 +99,8 @@ pub fn is_mismatch(presence: u8, rec: &[u8], info: PointInfo, list: &[u8]) -> bo
     if walked.dropped < maps::lacking(presence, rec, info, &seen) {
         return true;
     }
-    let end = walked.end;
-    if has_absent_targets(presence, list, end) {
+    if has_absent_targets(presence, list, walked.end) {
         return true;
     }
-    !targets::are_targets(info, &list[end..])
+    !targets::are_targets(info, &list[walked.end..])
 }

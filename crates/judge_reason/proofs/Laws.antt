@@ -1,7 +1,7 @@
 -- Laws of dependencies whose points are there.
+use Rattle.std.specs.Prelude.{Some}
 use Prim.Native.Nat.{ℕ}
 use mathlib.Core.Path.{◌≡◌}
-use mathlib.Core.Option.{some}
 use mathlib.Core.List.{List}
 use Rattle.base.specs.Base.{concat}
 use Rattle.base.proofs.Option.{none-some}
@@ -17,7 +17,7 @@ use Rattle.judge_reason.specs.Code.{info_of}
 
 module _ (s : List ℕ) (i : code-info.PointInfo) where
   -- it was read from the entry's record
-  pub read-from : (d : code-point.DagPoint) → info_of d ≡ some i → ReadFrom s d → Reads s i
+  pub read-from : (d : code-point.DagPoint) → info_of d ≡ Some i → ReadFrom s d → Reads s i
   read-from (case-point.Valid x) e h = let f : x ≡ i = cc in rw f at h
   read-from (case-point.TransInvalid x root n) e h = let f : x ≡ i = cc in rw f at h
   read-from (case-point.Invalid x n) e h = let f : x ≡ i = cc in rw f at h
@@ -26,7 +26,7 @@ module _ (s : List ℕ) (i : code-info.PointInfo) where
   read-from case-point.Dropped e h = none-some e
 
   -- it is checked against the rows
-  pub at_hand_lem : (rows : DepView → List (List InvalidReason)) (d : code-point.DagPoint) → info_of d ≡ some i →
+  pub at_hand_lem : (rows : DepView → List (List InvalidReason)) (d : code-point.DagPoint) → info_of d ≡ Some i →
       dependency_trail rows (dag_point_of s d) ≡ concat (rows (dep_view (point_of s i)))
   unfolding dependency_trail
   at_hand_lem rows (case-point.Valid x) e = let f : x ≡ i = cc in rw f

@@ -2,18 +2,18 @@
 // called at one place is compiled into it, and costs no copies of what it is handed.
 #![tactic(auto)]
 
-ghost use Rattle.std.specs.Prelude.{◌≡◌, List, ℕ};
+ghost use Rattle.reasons.specs.Code.{reason_of};
+ghost use Rattle.std.specs.Prelude.{◌≡◌, List, ℕ, option_map};
 ghost use Rattle.base.specs.Base.{last_of};
 ghost use Rattle.point.specs.Code.{point_id_of};
 ghost use Rattle.schedule.specs.Code.{settings_of};
 ghost use Rattle.rules.specs.Validate.{point_rows, taken, dependency_trail, version_trail, indirect_point_rows};
 ghost use Rattle.judge_entries.specs.Code.{dag_point_of, entry_of, ReadFrom};
-ghost use Rattle.judge_valid.specs.Code.{point_view_of, option_of};
-ghost use Rattle.judge_reason.specs.Code.{taken_of, info_of, read_of, AbsentReason};
+ghost use Rattle.judge_valid.specs.Code.{point_view_of};
+ghost use Rattle.judge_reason.specs.Code.{taken_of, info_of, AbsentReason};
 
 use judge_entries::DagPoint;
-use judge_valid::{PointView, Reason};
-use map::Found;
+use judge_valid::PointView;
 use point::{AnchorStageRole, PointId, PointInfo};
 use reasons::InvalidReason;
 use schedule::Settings;
@@ -26,18 +26,17 @@ pub enum Taken {
     Aside,
 }
 
+#[tactic(auto, unfolding(rules::specs::Validate::taken))]
 pub fn how_taken(p: PointView, id: PointId) -> Taken
     ensures { taken_of result ≡ taken (point_view_of p) (point_id_of id) }
 {
-    let own = p.id;
-    if !judge_entries::is_own_before(own, id) {
+    if !judge_entries::is_own_before(p.id, id) {
         return Taken::AsDependency {
             is_prev_point: false,
         };
     }
-    let prev_digest = p.prev_digest;
-    match prev_digest {
-        Found::Digest(digest) => {
+    match p.prev_digest {
+        Some(digest) => {
             if parts::same(digest, id.digest) {
                 return Taken::AsDependency {
                     is_prev_point: true,
@@ -45,44 +44,32 @@ pub fn how_taken(p: PointView, id: PointId) -> Taken
             }
             Taken::Aside
         }
-        Found::Absent => Taken::AsVersion,
+        None => Taken::AsVersion,
     }
 }
 
-// What was read of an entry's point, if it is there.
-#[derive(Clone, Copy)]
-enum Read {
-    Info(PointInfo),
-    Nothing,
-}
-
-fn read_of(point: DagPoint) -> Read
-    ensures { read_of result ≡ info_of point }
+fn read_of(point: DagPoint) -> Option<PointInfo>
+    ensures { result ≡ info_of point }
 {
     match point {
-        DagPoint::Valid(info) => Read::Info(info),
-        DagPoint::TransInvalid(info, _, _) => Read::Info(info),
-        DagPoint::Invalid(info, _) => Read::Info(info),
-        DagPoint::IllFormed(_, _) => Read::Nothing,
-        DagPoint::NotFound(_) => Read::Nothing,
-        DagPoint::Dropped => Read::Nothing,
+        DagPoint::Valid(info) | DagPoint::TransInvalid(info, _, _) | DagPoint::Invalid(info, _) =>
+            Some(info),
+        _ => None,
     }
 }
 
 // What a dependency gives of reasons whose point is not there.
-fn absent_reason(point: DagPoint) -> Reason
+#[tactic(auto, unfolding(rules::specs::Validate::dependency_trail, base::specs::Base::last_of))]
+fn absent_reason(point: DagPoint) -> Option<InvalidReason>
     ensures { AbsentReason point result }
 {
     match point {
-        DagPoint::Valid(_) => Reason::NoReason,
-        DagPoint::TransInvalid(_, _, _) => Reason::NoReason,
-        DagPoint::Invalid(_, _) => Reason::NoReason,
-        DagPoint::IllFormed(id, n) => Reason::Reason(InvalidReason::DepIllFormed {
+        DagPoint::IllFormed(id, n) => Some(InvalidReason::DepIllFormed {
             dependency: id,
             reason: n,
         }),
-        DagPoint::NotFound(id) => Reason::Reason(InvalidReason::DepNotFound(id)),
-        DagPoint::Dropped => Reason::NoReason,
+        DagPoint::NotFound(id) => Some(InvalidReason::DepNotFound(id)),
+        _ => None,
     }
 }
 
@@ -94,12 +81,12 @@ pub fn dependency_reason(
     p: PointView,
     rec: &[u8],
     point: DagPoint,
-) -> Reason
+) -> Option<InvalidReason>
     requires { ReadFrom rec.now point }
-    ensures { option_of result
+    ensures { option_map reason_of result
         ≡ last_of (dependency_trail (point_rows (settings_of conf) required is_prev_point (point_view_of p)) (dag_point_of rec.now point)) }
 {
-    let Read::Info(info) = read_of(point) else {
+    let Some(info) = read_of(point) else {
         return absent_reason(point);
     };
     judge_valid::check_dependency(
@@ -112,33 +99,22 @@ pub fn dependency_reason(
 }
 
 // What a version of the author's point at the round before gives of reasons, where none is referenced.
-pub fn version_reason(point: DagPoint, certified: bool, first_valid: bool) -> Reason
-    ensures { (s : List ℕ) → option_of result ≡ last_of (version_trail (entry_of s point certified first_valid) (dag_point_of s point)) }
+#[tactic(auto, unfolding(base::specs::Base::last_of))]
+pub fn version_reason(point: DagPoint, certified: bool, first_valid: bool) -> Option<InvalidReason>
+    ensures { (s : List ℕ) → option_map reason_of result ≡ last_of (version_trail (entry_of s point certified first_valid) (dag_point_of s point)) }
 {
     match point {
         DagPoint::Valid(info) => {
-            let id = info.id;
-            if first_valid {
-                return Reason::Reason(InvalidReason::MustHaveReferencedPrevPoint(id));
-            }
-            Reason::NoReason
+            first_valid.then_some(InvalidReason::MustHaveReferencedPrevPoint(info.id))
         }
-        DagPoint::TransInvalid(info, _, _) => {
-            let id = info.id;
-            Reason::Reason(InvalidReason::MustHaveSkippedRound(id))
+        DagPoint::TransInvalid(info, _, _) | DagPoint::Invalid(info, _) => {
+            Some(InvalidReason::MustHaveSkippedRound(info.id))
         }
-        DagPoint::Invalid(info, _) => {
-            let id = info.id;
-            Reason::Reason(InvalidReason::MustHaveSkippedRound(id))
-        }
-        DagPoint::IllFormed(id, _) => Reason::Reason(InvalidReason::MustHaveSkippedRound(id)),
+        DagPoint::IllFormed(id, _) => Some(InvalidReason::MustHaveSkippedRound(id)),
         DagPoint::NotFound(id) => {
-            if certified {
-                return Reason::Reason(InvalidReason::MustHaveReferencedPrevPoint(id));
-            }
-            Reason::NoReason
+            certified.then_some(InvalidReason::MustHaveReferencedPrevPoint(id))
         }
-        DagPoint::Dropped => Reason::NoReason,
+        DagPoint::Dropped => None,
     }
 }
 
@@ -149,12 +125,12 @@ pub fn indirect_reason(
     p: PointView,
     rec: &[u8],
     point: DagPoint,
-) -> Reason
+) -> Option<InvalidReason>
     requires { ReadFrom rec.now point }
-    ensures { option_of result
+    ensures { option_map reason_of result
         ≡ last_of (dependency_trail (indirect_point_rows (settings_of conf) role (point_view_of p)) (dag_point_of rec.now point)) }
 {
-    let Read::Info(info) = read_of(point) else {
+    let Some(info) = read_of(point) else {
         return absent_reason(point);
     };
     judge_valid::check_indirect(conf, role, p, judge_valid::dep_view(rec, info))

@@ -1,11 +1,15 @@
 -- Laws for callers: judging entry by entry gives what `over_lists` says of whole lists, and a point that is not invalid passed every
 -- check of every entry.
+use Rattle.std.specs.Prelude.{Option, None, Some, option_map, unwrap_or, is_some}
+use Rattle.std.specs.Option.{option_or}
+use Rattle.reasons.specs.Code.{reason_of}
+use Rattle.reasons.specs.declared.invalid.InvalidReason as code-reason
+use Rattle.reasons.specs.declared.invalid.InvalidReason.TheVariants as case-reason
 use Prim.Native.Nat.{ℕ}
 use mathlib.Core.Path.{◌≡◌, refl, sym, ap, ◌∙◌, subst}
 use mathlib.Core.Bool.{Bool, true, false, not, ◌&&◌, ◌||◌}
-use mathlib.Core.Option.{Option, none, some, map, get_or}
 use mathlib.Core.List.{List, [], ◌∷◌, ◌++◌}
-use Rattle.base.specs.Base.{pick, when, last_of, is_some, is_empty}
+use Rattle.base.specs.Base.{pick, when, last_of, is_empty}
 use Rattle.base.proofs.Bool.{and_right, clash}
 use Rattle.point.specs.Point.{PointId, Through, PointInfo}
 use Rattle.point.specs.declared.data.AnchorStageRole.{AnchorStageRole}
@@ -29,13 +33,22 @@ use Rattle.judge_step.specs.Code.{dependency_as, DirectGives, Quiet, direct_fold
 
 -- ---- the last reason
 
-later-none : (o : Option InvalidReason) → later_of none o ≡ o
-later-none none = refl
-later-none (some r) = refl
+later-none : (o : Option InvalidReason) → later_of None o ≡ o
+later-none None = refl
+later-none (Some r) = refl
+
+-- of the code's values
+pub later_told : (old new : Option code-reason.InvalidReason) → option_map reason_of (option_or new old) ≡ later_of (option_map reason_of old) (option_map reason_of new)
+later_told old None = refl
+later_told old (Some r) = refl
+
+pub dropped_told : (old : Option code-reason.InvalidReason) → option_map reason_of (option_or old (Some case-reason.DependencyRoundDropped)) ≡ or_dropped (option_map reason_of old)
+dropped_told None = refl
+dropped_told (Some r) = refl
 
 later_assoc : (a b d : Option InvalidReason) → later_of (later_of a b) d ≡ later_of a (later_of b d)
-later_assoc a b none = refl
-later_assoc a b (some r) = refl
+later_assoc a b None = refl
+later_assoc a b (Some r) = refl
 
 -- a list that isn't empty has a last reason, which replaces any
 later_last : (l : List InvalidReason) (x : InvalidReason) (o : Option InvalidReason) → later_of o (last_of (x ∷ l)) ≡ last_of (x ∷ l)
@@ -52,16 +65,16 @@ last-append : (a b : List InvalidReason) → last_of (a ++ b) ≡ later_of (last
 unfolding last_of
 last-append [] b = sym (later-none (last_of b))
 last-append (x ∷ []) [] = refl
-last-append (x ∷ []) (y ∷ l) = sym (later_last l y (some x))
+last-append (x ∷ []) (y ∷ l) = sym (later_last l y (Some x))
 last-append (x ∷ y ∷ a) b = last-append (y ∷ a) b
 
 -- whether a reason is set, once those of an entry are taken in
 set-later : (t : List InvalidReason) (d : Option InvalidReason) → is_some (later_of d (last_of t)) ≡ (is_some d || not (is_empty t))
 unfolding last_of
-set-later [] none = refl
-set-later [] (some r) = refl
-set-later (x ∷ l) none = ap is_some (later_last l x none) ∙ some-last l x
-set-later (x ∷ l) (some r) = ap is_some (later_last l x (some r)) ∙ some-last l x
+set-later [] None = refl
+set-later [] (Some r) = refl
+set-later (x ∷ l) None = ap is_some (later_last l x None) ∙ some-last l x
+set-later (x ∷ l) (Some r) = ap is_some (later_last l x (Some r)) ∙ some-last l x
 
 -- ---- the lists, entry by entry
 
@@ -77,8 +90,8 @@ judging d i w ended = record { direct = d; indirect = i; recorded = w; ended = e
 -- a dropped entry sets its reason only if none is set
 dropped-last : (d : Option InvalidReason) → or_dropped d ≡ later_of d (last_of (when (not (is_some d)) DependencyRoundDropped))
 unfolding last_of
-dropped-last none = refl
-dropped-last (some r) = refl
+dropped-last None = refl
+dropped-last (Some r) = refl
 
 -- the reasons of an entry before those after it, which go by whether one is set
 later-after : (t : List InvalidReason) (d : Option InvalidReason) (after : Bool → List InvalidReason) →
@@ -163,9 +176,9 @@ module _ (c : Settings) (required : Bool) (p : PointInfo) where
   fold_over-lists es ts =
       let dt = direct_trail c required (point_view p) false es in
       let it = indirect_trail c p ts in
-      let w = indirect_record c p (direct_record c required (point_view p) none es) ts in
+      let w = indirect_record c p (direct_record c required (point_view p) None es) ts in
       let j = direct_fold c required (point_view p) start es in
-      let f = directs-judged c required (point_view p) es none none none in
+      let f = directs-judged c required (point_view p) es None None None in
       let g = indirects-judged c p ts j in
       result-found
       (last_of dt)
@@ -182,12 +195,12 @@ module _ (c : Settings) (required : Bool) (p : PointInfo) where
 
 -- ---- what an entry gives
 
-join-none : (o : Option InvalidDependency) → join o none ≡ o
+join-none : (o : Option InvalidDependency) → join o None ≡ o
 unfolding join
-join-none none = refl
-join-none (some d) = refl
+join-none None = refl
+join-none (Some d) = refl
 
-pub last-nothing : record { reason = none; root = none; dropped = false } ≡ gives_all nothing
+pub last-nothing : record { reason = None; root = None; dropped = false } ≡ gives_all nothing
 unfolding last_of
 last-nothing = refl
 
@@ -211,9 +224,9 @@ nothing-direct j g h = go j.ended g.dropped g.reason g.root refl h
         ≡ j
     go true dropped reason root e k = refl
     go false true reason root e k = clash false k refl
-    go false false (some r) root e k = clash false k refl
-    go false false none (some d) e k = clash false k refl
-    go false false none none e k =
+    go false false (Some r) root e k = clash false k refl
+    go false false None (Some d) e k = clash false k refl
+    go false false None None e k =
         λ i. record { direct = j.direct; indirect = j.indirect; recorded = join-none j.recorded i; ended = sym e i }
 
 pub nothing-indirect : (j : Judging) (g : Gives) → is_nothing g ≡ true → with_indirect j g ≡ j
@@ -223,9 +236,9 @@ nothing-indirect j g h = go g.dropped g.reason g.root h
         is_nothing (record { reason = reason; root = root; dropped = dropped }) ≡ true →
         record { direct = j.direct; indirect = later_of j.indirect reason; recorded = join j.recorded root; ended = j.ended } ≡ j
     go true reason root k = clash false k refl
-    go false (some r) root k = clash false k refl
-    go false none (some d) k = clash false k refl
-    go false none none k = λ i. record { direct = j.direct; indirect = j.indirect; recorded = join-none j.recorded i; ended = j.ended }
+    go false (Some r) root k = clash false k refl
+    go false None (Some d) k = clash false k refl
+    go false None None k = λ i. record { direct = j.direct; indirect = j.indirect; recorded = join-none j.recorded i; ended = j.ended }
 
 module _ (c : Settings) (required : Bool) (p : PointView) (e : Entry) where
   -- an entry by how it is taken
@@ -262,7 +275,7 @@ module _ (c : Settings) (required : Bool) (p : PointView) (q : PointInfo) (n : G
 
   pub quiet_step : (j : Judging) → direct_step c required p j quiet ≡ j
   quiet_step j =
-      let g : Gives = record { reason = none; root = none; dropped = false } in
+      let g : Gives = record { reason = None; root = None; dropped = false } in
       sym (gives_found c required p quiet nothing g refl quiet-found last-nothing j) ∙ nothing-direct j g refl
 
 -- an entry that passed the quick test is valid, not the author's at the round before, and changes nothing
@@ -285,8 +298,8 @@ passed-step c required p s d k certified first j =
 
 -- an entry is judged by what it is for
 abbrev pub listed_step : Option AnchorStageRole → Settings → Bool → PointInfo → Judging → Entry → Judging
-listed_step none c required p j e = direct_step c required (point_view p) j e
-listed_step (some g) c required p j e = target_step c p g j e
+listed_step None c required p j e = direct_step c required (point_view p) j e
+listed_step (Some g) c required p j e = target_step c p g j e
 
 -- over a list as it stands, direct and indirect entries mixed
 unfoldable pub listed_fold : Settings → Bool → PointInfo → Judging → List Listed → Judging
@@ -305,19 +318,19 @@ module _ (c : Settings) (required : Bool) (p : PointInfo) where
           ((next : Bool) (k : Judging) → in_order next l ≡ true → listed_fold c required p k l ≡ indirect_fold c p (direct_fold c required (point_view p) k (directs l)) (indirects l)) →
           (is_in_order indirect_seen aim && in_order (is_some aim) l) ≡ true →
           listed_fold c required p (listed_step aim c required p j x.entry) l
-          ≡ indirect_fold c p (direct_fold c required (point_view p) j (pick (is_some aim) (directs l) (x.entry ∷ directs l))) (get_or (map (λ g. record { role = g; entry = x.entry } ∷ indirects l) aim) (indirects l))
-      go none f k = f false (direct_step c required (point_view p) j x.entry) (and_right (is_in_order indirect_seen none) (in_order false l) k)
-      go (some g) f k =
-          let ordered : in_order true l ≡ true = and_right (is_in_order indirect_seen (some g)) (in_order true l) k in
+          ≡ indirect_fold c p (direct_fold c required (point_view p) j (pick (is_some aim) (directs l) (x.entry ∷ directs l))) (unwrap_or (option_map (λ g. record { role = g; entry = x.entry } ∷ indirects l) aim) (indirects l))
+      go None f k = f false (direct_step c required (point_view p) j x.entry) (and_right (is_in_order indirect_seen None) (in_order false l) k)
+      go (Some g) f k =
+          let ordered : in_order true l ≡ true = and_right (is_in_order indirect_seen (Some g)) (in_order true l) k in
           let e : directs l ≡ [] = after-target l ordered in
           rw e (rw e at (f true (target_step c p g j x.entry) ordered))
 
   -- entries one by one as they stand in a list that was read
-  pub listed-parted : (n : ℕ) (indirect_seen : Bool) (s : List ℕ) (l : List Listed) (j : Judging) → list_from n indirect_seen s ≡ some l →
+  pub listed-parted : (n : ℕ) (indirect_seen : Bool) (s : List ℕ) (l : List Listed) (j : Judging) → list_from n indirect_seen s ≡ Some l →
       listed_fold c required p j l ≡ indirect_fold c p (direct_fold c required (point_view p) j (directs l)) (indirects l)
   listed-parted n indirect_seen s l j h = parted l indirect_seen j (in_order_lem n indirect_seen s l h)
 
-  pub listed-over-lists : (n : ℕ) (indirect_seen : Bool) (s : List ℕ) (l : List Listed) → list_from n indirect_seen s ≡ some l →
+  pub listed-over-lists : (n : ℕ) (indirect_seen : Bool) (s : List ℕ) (l : List Listed) → list_from n indirect_seen s ≡ Some l →
       result_of (listed_fold c required p start l) ≡ over_lists c required p (directs l) (indirects l)
   listed-over-lists n indirect_seen s l h =
       ap (λ (j : Judging). result_of j) (listed-parted n indirect_seen s l start h) ∙ fold_over-lists c required p (directs l) (indirects l)

@@ -1,8 +1,8 @@
 -- What the code's values stand for, and judging as a step from entry to entry. This serves contracts below the public call's and
 -- follows the code; proofs/Laws.antt leads from it to `over_lists`.
-use Rattle.std.specs.Prelude.{ℕ, ◌≡◌, Bool, true, false, not, ◌&&◌, List, [], ◌∷◌}
-use Rattle.std.proofs.Math.Option.{Option, none, some}
-use Rattle.base.specs.Base.{pick, last_of, is_some}
+use Rattle.reasons.specs.Code.{reason_of, dependency_of}
+use Rattle.std.specs.Prelude.{ℕ, ◌≡◌, Bool, true, false, not, ◌&&◌, List, [], ◌∷◌, Option, None, Some, is_some, option_map}
+use Rattle.base.specs.Base.{pick, last_of}
 use Rattle.point.specs.Point.{Through, PointInfo, through, anchor_link}
 use Rattle.point.specs.declared.data.AnchorStageRole.{AnchorStageRole}
 use Rattle.schedule.specs.Settings.{Settings}
@@ -13,9 +13,8 @@ use Rattle.rules.specs.Validate.{Findings, direct_through, join, dependency, poi
 use Rattle.point.specs.declared.info.PointInfo as code-info
 use Rattle.judge_entries.specs.declared.DagPoint as code-point
 use Rattle.judge_entries.specs.declared.DagPoint.TheVariants as case-point
-use Rattle.judge_valid.specs.Code.{option_of, IsQuick}
+use Rattle.judge_valid.specs.Code.{IsQuick}
 use Rattle.judge_valid.specs.declared.quick.Quick as code-quick
-use Rattle.judge_dependency.specs.Code.{recorded_of}
 use Rattle.judge_step.specs.declared.step.Gives as code_gives
 use Rattle.judge_step.specs.declared.step.Judging as code-judging
 
@@ -29,15 +28,15 @@ pub record Judging : Type 0 where
 
 -- a later reason replaces an earlier one
 abbrev pub later_of : Option InvalidReason → Option InvalidReason → Option InvalidReason
-later_of old none = old
-later_of old (some reason) = some reason
+later_of old None = old
+later_of old (Some reason) = Some reason
 
 abbrev pub or_dropped : Option InvalidReason → Option InvalidReason
-or_dropped none = some DependencyRoundDropped
-or_dropped (some reason) = some reason
+or_dropped None = Some DependencyRoundDropped
+or_dropped (Some reason) = Some reason
 
 abbrev pub start : Judging
-start = record { direct = none; indirect = none; recorded = none; ended = false }
+start = record { direct = None; indirect = None; recorded = None; ended = false }
 
 -- ---- what an entry gives: its last reason, the root cause that it records, and that it is dropped
 pub record Gives : Type 0 where
@@ -103,14 +102,14 @@ abbrev pub IndirectGives : Settings → PointView → AnchorStageRole → Throug
 IndirectGives c p role t e g = (j : Judging) → with_indirect j g ≡ indirect_step c p role t j e
 
 abbrev pub gives_of : code_gives.Gives → Gives
-gives_of x = record { reason = option_of x.reason; root = recorded_of x.recorded; dropped = x.dropped }
+gives_of x = record { reason = option_map reason_of x.reason; root = option_map dependency_of x.recorded; dropped = x.dropped }
 
 abbrev pub judging_of : code-judging.Judging → Judging
 judging_of j =
     record {
-      direct = option_of j.direct;
-      indirect = option_of j.indirect;
-      recorded = recorded_of j.recorded;
+      direct = option_map reason_of j.direct;
+      indirect = option_map reason_of j.indirect;
+      recorded = option_map dependency_of j.recorded;
       ended = j.ended;
     }
 

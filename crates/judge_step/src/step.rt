@@ -3,84 +3,62 @@ ghost use Rattle.std.specs.Prelude.{◌≡◌, Bool, true};
 ghost use Rattle.point.specs.Code.{through_of};
 ghost use Rattle.schedule.specs.Code.{settings_of};
 ghost use Rattle.judge_entries.specs.Code.{entry_of, ReadFrom};
-ghost use Rattle.judge_valid.specs.Code.{point_view_of, option_of};
-ghost use Rattle.judge_step.specs.Code.{later_of, or_dropped, Quiet, is_nothing, gives_of, gives_all, dependency_as, DirectGives, IndirectGives};
+ghost use Rattle.judge_valid.specs.Code.{point_view_of};
+ghost use Rattle.judge_step.specs.Code.{Quiet, is_nothing, gives_of, gives_all, dependency_as, DirectGives, IndirectGives};
 ghost use Rattle.judge_step.specs.Code.{with_direct, with_indirect, judging_of};
 
-use judge_dependency::Recorded;
 use judge_entries::DagPoint;
 use judge_reason::Taken;
-use judge_valid::{PointView, Quick, Reason};
+use judge_valid::{PointView, Quick};
 use point::{AnchorStageRole, Through};
-use reasons::InvalidReason;
+use reasons::{InvalidDependency, InvalidReason};
 use schedule::Settings;
 
 // What judging has found so far.
 #[derive(Clone, Copy)]
 pub struct Judging {
-    pub direct: Reason,
-    pub indirect: Reason,
-    pub recorded: Recorded,
+    pub direct: Option<InvalidReason>,
+    pub indirect: Option<InvalidReason>,
+    pub recorded: Option<InvalidDependency>,
     pub ended: bool,
 }
 
 pub const START: Judging = Judging {
-    direct: Reason::NoReason,
-    indirect: Reason::NoReason,
-    recorded: Recorded::Nothing,
+    direct: None,
+    indirect: None,
+    recorded: None,
     ended: false,
 };
 
 // What an entry gives: its last reason, the root cause that it would have recorded, and that it is dropped with its round.
 #[derive(Clone, Copy)]
 pub struct Gives {
-    pub reason: Reason,
-    pub recorded: Recorded,
+    pub reason: Option<InvalidReason>,
+    pub recorded: Option<InvalidDependency>,
     pub dropped: bool,
 }
 
 pub const NOTHING: Gives = Gives {
-    reason: Reason::NoReason,
-    recorded: Recorded::Nothing,
+    reason: None,
+    recorded: None,
     dropped: false,
-};
-
-const DROPPED: Gives = Gives {
-    reason: Reason::NoReason,
-    recorded: Recorded::Nothing,
-    dropped: true,
 };
 
 // Whether an entry gives nothing, and so changes nothing of what was found.
 pub fn gives_nothing(x: Gives) -> bool
     ensures { result ≡ is_nothing (gives_of x) }
 {
-    if x.dropped {
-        return false;
-    }
-    let reason = x.reason;
-    let recorded = x.recorded;
-    match reason {
-        Reason::Reason(_) => false,
-        Reason::NoReason => match recorded {
-            Recorded::Recorded(_) => false,
-            Recorded::Nothing => true,
-        },
-    }
+    !x.dropped && x.reason.is_none() && x.recorded.is_none()
 }
 
-// Whether an entry of this state is valid, and gives nothing for sure.
-pub fn is_quiet(quick: Quick, rec: &[u8], state: DagPoint) -> bool
-    requires { ReadFrom rec.now state }
-    ensures { result ≡ true → Quiet quick rec.now state }
+// Whether an entry of this state is valid, and gives nothing for sure. The state is borrowed, since handing it on would copy it.
+pub fn is_quiet(quick: Quick, rec: &[u8], state: &DagPoint) -> bool
+    requires { ReadFrom rec.now state.now }
+    ensures { result ≡ true → Quiet quick rec.now state.now }
 {
-    match state {
+    match *state {
         DagPoint::Valid(_) => judge_valid::is_quick(quick, rec),
-        DagPoint::TransInvalid(_, _, _) => false,
-        DagPoint::Invalid(_, _) => false,
-        DagPoint::IllFormed(_, _) => false,
-        DagPoint::NotFound(_) => false,
-        DagPoint::Dropped => false,
+        _ => false,
     }
 }
 
@@ -98,12 +76,11 @@ fn dependency_gives(
     ensures { (first : Bool) →
         gives_of result ≡ gives_all (dependency_as (settings_of conf) required is_prev_point (point_view_of p) (entry_of rec.now point certified first)) }
 {
-    let own = p.id;
-    let through = judge_dependency::direct_through(own.round, point.id());
+    let direct = judge_dependency::direct_through(p.id.round, point.id());
     Gives {
         reason: judge_reason::dependency_reason(conf, required, is_prev_point, p, rec, point),
-        recorded: judge_dependency::record_of(conf, own.round, certified, through, point),
-        dropped: false,
+        recorded: judge_dependency::record_of(conf, p.id.round, certified, direct, point),
+        ..NOTHING
     }
 }
 
@@ -121,17 +98,18 @@ pub fn direct_gives(
     ensures { DirectGives (settings_of conf) required (point_view_of p) (entry_of rec.now point certified first_valid) (gives_of result) }
 {
     if point.is_dropped() {
-        return DROPPED;
+        return Gives {
+            dropped: true,
+            ..NOTHING
+        };
     }
-    let how = judge_reason::how_taken(p, point.id());
-    match how {
+    match judge_reason::how_taken(p, point.id()) {
         Taken::AsDependency { is_prev_point } => {
             dependency_gives(conf, required, is_prev_point, p, rec, point, certified)
         }
         Taken::AsVersion => Gives {
             reason: judge_reason::version_reason(point, certified, first_valid),
-            recorded: Recorded::Nothing,
-            dropped: false,
+            ..NOTHING
         },
         Taken::Aside => NOTHING,
     }
@@ -151,77 +129,46 @@ pub fn indirect_gives(
     ensures { (first : Bool) →
         IndirectGives (settings_of conf) (point_view_of p) role (through_of through) (entry_of rec.now point certified first) (gives_of result) }
 {
-    let id = p.id;
-    let dropped = false;
     Gives {
         reason: judge_reason::indirect_reason(conf, role, p, rec, point),
-        recorded: judge_dependency::record_of(conf, id.round, certified, through, point),
-        dropped,
+        recorded: judge_dependency::record_of(conf, p.id.round, certified, through, point),
+        ..NOTHING
     }
 }
 
-// A later reason replaces an earlier one.
-fn later(old: Reason, new: Reason) -> Reason
-    ensures { option_of result ≡ later_of (option_of old) (option_of new) }
-{
-    match new {
-        Reason::Reason(_) => new,
-        Reason::NoReason => old,
-    }
-}
-
-// A dropped entry sets its reason only if none is set.
-fn or_dropped(old: Reason) -> Reason
-    ensures { option_of result ≡ or_dropped (option_of old) }
-{
-    match old {
-        Reason::Reason(_) => old,
-        Reason::NoReason => Reason::Reason(InvalidReason::DependencyRoundDropped),
-    }
-}
-
-// What was found, and then what a direct entry gives: a dropped one ends the list.
+// What was found, and then what a direct entry gives: a dropped one ends the list, and sets its reason only if none is set. A later
+// reason replaces an earlier one.
+#[tactic(auto, using(crate::proofs::Laws::later_told, crate::proofs::Laws::dropped_told))]
 pub fn with_direct(so_far: Judging, x: Gives) -> Judging
     ensures { judging_of result ≡ with_direct (judging_of so_far) (gives_of x) }
 {
     if so_far.ended {
         return so_far;
     }
-    let direct = so_far.direct;
-    let indirect = so_far.indirect;
-    let recorded = so_far.recorded;
     if x.dropped {
         return Judging {
-            direct: or_dropped(direct),
-            indirect,
-            recorded,
+            direct: so_far
+                .direct
+                .or(Some(InvalidReason::DependencyRoundDropped)),
             ended: true,
+            ..so_far
         };
     }
-    let reason = x.reason;
-    let root = x.recorded;
     Judging {
-        direct: later(direct, reason),
-        indirect,
-        recorded: judge_dependency::join(recorded, root),
-        ended: false,
+        direct: x.reason.or(so_far.direct),
+        recorded: judge_dependency::join(so_far.recorded, x.recorded),
+        ..so_far
     }
 }
 
 // What was found, and then what the entry of an indirect link's target gives.
+#[tactic(auto, using(crate::proofs::Laws::later_told))]
 pub fn with_indirect(so_far: Judging, x: Gives) -> Judging
     ensures { judging_of result ≡ with_indirect (judging_of so_far) (gives_of x) }
 {
-    let ended = so_far.ended;
-    let direct = so_far.direct;
-    let indirect = so_far.indirect;
-    let recorded = so_far.recorded;
-    let reason = x.reason;
-    let root = x.recorded;
     Judging {
-        direct,
-        indirect: later(indirect, reason),
-        recorded: judge_dependency::join(recorded, root),
-        ended,
+        indirect: x.reason.or(so_far.indirect),
+        recorded: judge_dependency::join(so_far.recorded, x.recorded),
+        ..so_far
     }
 }

@@ -1,9 +1,9 @@
 -- Laws of the quick test: what the bytes of a dependency say of its few numbers, and that a dependency which passes gives no reason.
+use Rattle.std.specs.Prelude.{Option, None, Some}
 use Prim.Native.Nat.{ℕ, ◌+◌, ◌-◌, ◌*◌, ◌/◌, ◌^◌, ◌≤◌, ◌<◌}
 use native.Mathlib.Omega.{arith}
 use mathlib.Core.Path.{◌≡◌, refl, ap, sym, ◌∙◌}
 use mathlib.Core.Bool.{Bool, true, false, ◌&&◌, ◌||◌}
-use mathlib.Core.Option.{Option, none, some}
 use mathlib.Core.List.{List}
 use lib.ListN.{length, get_or}
 use lib.Dec.{leb, ltb, eqb}
@@ -112,8 +112,8 @@ module _ (s : List ℕ) (round : ℕ) where
   -- a link that goes through t, direct or not
   abbrev links : Through → Option AnchorLink
   links t =
-      pick (eqb (length s) 34 && eqb (get_or s 0 0) 0) (some (Direct t))
-      (pick (eqb (length s) 102 && eqb (get_or s 0 0) 1) (some (Indirect (point_id_at s 34) t)) none)
+      pick (eqb (length s) 34 && eqb (get_or s 0 0) 0) (Some (Direct t))
+      (pick (eqb (length s) 102 && eqb (get_or s 0 0) 1) (Some (Indirect (point_id_at s 34) t)) None)
 
   links-near : (n : ℕ) (t : Through) → length s < 102 → n ≡ through_round t round → IfSome (λ (l : AnchorLink). n ≡ target_round_of round l) (links t)
   links-near n t h e =
@@ -128,7 +128,7 @@ module _ (s : List ℕ) (round : ℕ) where
       pick-has P (eqb (length s) 34 && eqb (get_or s 0 0) 0) _ _ (λ k. let m = eqb-true (length s) 34 (and_left (eqb (length s) 34) _ k) in absurd (omega arith))
       (pick-has P (eqb (length s) 102 && eqb (get_or s 0 0) 1) _ _ (λ k. refl) tt)
 
-  module _ (l : AnchorLink) (e : read_link s ≡ some l) where
+  module _ (l : AnchorLink) (e : read_link s ≡ Some l) where
     pub target-far : 102 ≤ length s → little_at 4 s 34 ≡ target_round_of round l
     unfolding read_link
     target-far h =
@@ -171,19 +171,19 @@ top_read g q own round r h e f = h ∙ rw (e, f) (sym (top-is g q))
 -- what a point has of its record, of what the test asks
 pub record Asked (s : List ℕ) (q : PointInfo) : Type 0 where
   pub id : q.id ≡ point_id_at (content_of s 0) 0
-  pub proof : read_link (content_of s 5) ≡ some q.anchor_proof
-  pub trigger : read_link (content_of s 6) ≡ some q.anchor_trigger
-  pub role : read_role (content_of s 7) ≡ some q.role
+  pub proof : read_link (content_of s 5) ≡ Some q.anchor_proof
+  pub trigger : read_link (content_of s 6) ≡ Some q.anchor_trigger
+  pub role : read_role (content_of s 7) ≡ Some q.role
   pub time : q.time ≡ little_at 8 (content_of s 8) 0
 
-asked_with : (s : List ℕ) (a b : Option AnchorLink) (r : Option PointRole) (q : PointInfo) → reads s a b r ≡ some q →
-    (q.id ≡ point_id_at (content_of s 0) 0) × (a ≡ some q.anchor_proof) × (b ≡ some q.anchor_trigger) × (r ≡ some q.role) × (q.time ≡ little_at 8 (content_of s 8) 0)
-asked_with s none b r q e = none-some e
-asked_with s (some x) none r q e = none-some e
-asked_with s (some x) (some y) none q e = none-some e
-asked_with s (some x) (some y) (some r) q e = (cc, cc, cc, cc, cc)
+asked_with : (s : List ℕ) (a b : Option AnchorLink) (r : Option PointRole) (q : PointInfo) → reads s a b r ≡ Some q →
+    (q.id ≡ point_id_at (content_of s 0) 0) × (a ≡ Some q.anchor_proof) × (b ≡ Some q.anchor_trigger) × (r ≡ Some q.role) × (q.time ≡ little_at 8 (content_of s 8) 0)
+asked_with s None b r q e = none-some e
+asked_with s (Some x) None r q e = none-some e
+asked_with s (Some x) (Some y) None q e = none-some e
+asked_with s (Some x) (Some y) (Some r) q e = (cc, cc, cc, cc, cc)
 
-pub asked : (s : List ℕ) (q : PointInfo) → read_point s ≡ some q → Asked s q
+pub asked : (s : List ℕ) (q : PointInfo) → read_point s ≡ Some q → Asked s q
 unfolding read_point
 asked s q h =
     let a = asked_with s (read_link (content_of s 5)) (read_link (content_of s 6)) (read_role (content_of s 7)) q (picked (well_shaped s && maps_ok s) _ q h).1 in
@@ -243,11 +243,3 @@ passes c p q r b k f own linked newer late =
     })
 
 -- ---- a top
-
-pub top-target : (g : AnchorStageRole) (q : PointInfo) → is_anchor_stage g q.role ≡ false → target g q ≡ top g q
-unfolding top
-top-target g q h = rw h
-
-pub top-indirect : (g : AnchorStageRole) (q : PointInfo) (to : PointId) (t : Through) → is_anchor_stage g q.role ≡ false → Indirect to t ≡ anchor_link g q → to ≡ top g q
-unfolding top target
-top-indirect g q to t h e = rw (h, ← e)

@@ -1,15 +1,12 @@
 -- What the code's values stand for, and what its functions promise each other.
-use Rattle.std.specs.Prelude.{ℕ, ◌-◌, ◌/◌, ◌^◌, ◌≡◌, Bool, false, List, []}
-use Rattle.std.proofs.Math.Option.{Option, none, some}
+use Rattle.std.specs.Prelude.{ℕ, ◌-◌, ◌/◌, ◌^◌, ◌≡◌, Bool, false, List, [], Some, option_map}
 use Rattle.base.specs.Base.{concat}
-use Rattle.map.specs.Code.{found_of}
+use Rattle.parts.specs.Code.{number}
 use Rattle.point.specs.Point.{PointInfo, top}
 use Rattle.point.specs.Reading.{read_point}
 use Rattle.point.specs.Code.{point_id_of}
 use Rattle.point.specs.declared.data.AnchorStageRole.TheVariants.{Proof, Trigger}
 use Rattle.schedule.specs.Settings.{Settings}
-use Rattle.reasons.specs.Invalid.{InvalidReason}
-use Rattle.reasons.specs.Code.{reason_of}
 use Rattle.rules.specs.DagPoint.{is_by, LinkIds, PointView, DepView, dep_view}
 use Rattle.rules.specs.Validate.{point_rows}
 use Rattle.judge_valid.specs.declared.brief.Brief as code-brief
@@ -17,8 +14,6 @@ use Rattle.judge_valid.specs.declared.quick.Quick as code-quick
 use Rattle.judge_valid.specs.declared.view.LinkIds as code-links
 use Rattle.judge_valid.specs.declared.view.PointView as code-point
 use Rattle.judge_valid.specs.declared.view.DepView as code-dep
-use Rattle.judge_valid.specs.declared.rows.Reason as code-reason
-use Rattle.judge_valid.specs.declared.rows.Reason.TheVariants as case-reason
 
 abbrev pub link_ids_of : code-links.LinkIds → LinkIds
 link_ids_of l = record { target = point_id_of l.target; source = point_id_of l.source }
@@ -30,7 +25,7 @@ point_view_of p =
       role = p.role;
       time = p.time;
       anchor_time = p.anchor_time;
-      prev_digest = found_of p.prev_digest;
+      prev_digest = option_map number p.prev_digest;
       proof = link_ids_of p.proof;
       trigger = link_ids_of p.trigger;
     }
@@ -45,10 +40,6 @@ dep_view_of q =
       proof_top = point_id_of q.proof_top;
       trigger_top = point_id_of q.trigger_top;
     }
-
-abbrev pub option_of : code-reason.Reason → Option InvalidReason
-option_of (case-reason.Reason r) = some (reason_of r)
-option_of case-reason.NoReason = none
 
 -- ---- the quick test
 
@@ -85,4 +76,4 @@ pub record GivesNoReason (c : Settings) (p : PointView) (q : PointInfo) : Type 0
 
 -- so does the point of a record that passed the test
 abbrev pub IsQuick : code-quick.Quick → List ℕ → Type 0
-IsQuick r s = (c : Settings) (p : PointView) (q : PointInfo) → QuickOf c p r → read_point s ≡ some q → GivesNoReason c p q
+IsQuick r s = (c : Settings) (p : PointView) (q : PointInfo) → QuickOf c p r → read_point s ≡ Some q → GivesNoReason c p q

@@ -1,6 +1,5 @@
 // The few numbers of a dependency that decide of most whether they give a reason. No map is searched for them.
-ghost use Rattle.std.specs.Prelude.{◌≡◌, true, ◌≤◌, length};
-ghost use Rattle.std.proofs.Math.Option.{some};
+ghost use Rattle.std.specs.Prelude.{◌≡◌, true, ◌≤◌, length, Some};
 ghost use Rattle.base.specs.Base.{pick};
 ghost use Rattle.record.specs.Record.{well_shaped};
 ghost use Rattle.point.specs.Point.{PointInfo, AnchorLink, is_anchor_proof, is_anchor_trigger, target_round_of};
@@ -22,18 +21,15 @@ pub struct Brief {
 // Whether the content of a role's field is a proof's.
 fn is_proof(role: &[u8]) -> bool
     requires { 1 ≤ length role.now }
-    ensures { (g : PointRole) → read_role role.now ≡ some g → result ≡ is_anchor_proof g }
+    ensures { (g : PointRole) → read_role role.now ≡ Some g → result ≡ is_anchor_proof g }
 {
-    if role.len() == 3 {
-        return true;
-    }
-    role[0] == 3
+    role.len() == 3 || role[0] == 3
 }
 
 // Whether it is a trigger's.
 fn is_trigger(role: &[u8]) -> bool
     requires { 1 ≤ length role.now }
-    ensures { (g : PointRole) → read_role role.now ≡ some g → result ≡ is_anchor_trigger g }
+    ensures { (g : PointRole) → read_role role.now ≡ Some g → result ≡ is_anchor_trigger g }
 {
     if role.len() == 3 {
         return 0 < role[1];
@@ -44,7 +40,7 @@ fn is_trigger(role: &[u8]) -> bool
 // The round of a point's top: its own where it has the role, else that of the target of the link with this content.
 fn top_round(has_role: bool, round: u32, link: &[u8]) -> u32
     requires { 34 ≤ length link.now }
-    ensures { (l : AnchorLink) → read_link link.now ≡ some l → result ≡ pick has_role round (target_round_of round l) }
+    ensures { (l : AnchorLink) → read_link link.now ≡ Some l → result ≡ pick has_role round (target_round_of round l) }
 {
     if has_role {
         return round;
@@ -60,7 +56,7 @@ fn top_round(has_role: bool, round: u32, link: &[u8]) -> u32
 
 pub fn brief_of(rec: &[u8]) -> Brief
     requires { well_shaped rec.now ≡ true }
-    ensures { (q : PointInfo) → read_point rec.now ≡ some q → BriefOf q result }
+    ensures { (q : PointInfo) → read_point rec.now ≡ Some q → BriefOf q result }
 {
     let at = record::find_places(rec);
     let id = record::content_from(rec, 0, at.payload, 0);

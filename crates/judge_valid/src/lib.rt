@@ -7,5 +7,5 @@ mod rows;
 mod view;
 
 pub use quick::{Quick, is_quick, quick_of};
-pub use rows::{Reason, check_dependency, check_indirect};
+pub use rows::{check_dependency, check_indirect};
 pub use view::{PointView, dep_view, point_view};

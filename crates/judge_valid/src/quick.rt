@@ -27,6 +27,7 @@ pub struct Quick {
 }
 
 // The first eight bytes of an id.
+#[tactic(auto, using(crate::proofs::QuickLaws::first_of))]
 fn first_word(id: Id) -> u64
     ensures { result ≡ first_word (number id) }
 {
@@ -36,20 +37,15 @@ fn first_word(id: Id) -> u64
 pub fn quick_of(conf: Settings, p: PointView) -> Quick
     ensures { QuickOf (settings_of conf) (point_view_of p) result }
 {
-    let id = p.id;
-    let proof = p.proof;
-    let trigger = p.trigger;
-    let to_proof = proof.target;
-    let to_trigger = trigger.target;
     Quick {
-        before: parts::rounds_back(id.round, 1),
-        author: first_word(id.author),
-        proof_target: first_word(to_proof.digest),
-        proof_source: first_word(proof.source.digest),
-        trigger_target: first_word(to_trigger.digest),
-        trigger_source: first_word(trigger.source.digest),
-        proof_round: to_proof.round,
-        trigger_round: to_trigger.round,
+        before: parts::rounds_back(p.id.round, 1),
+        author: first_word(p.id.author),
+        proof_target: first_word(p.proof.target.digest),
+        proof_source: first_word(p.proof.source.digest),
+        trigger_target: first_word(p.trigger.target.digest),
+        trigger_source: first_word(p.trigger.source.digest),
+        proof_round: p.proof.target.round,
+        trigger_round: p.trigger.target.round,
         time: p.time,
         skew: conf.clock_skew_millis as u64,
     }
@@ -59,46 +55,31 @@ pub fn quick_of(conf: Settings, p: PointView) -> Quick
 fn is_own(q: Quick, b: Brief) -> bool
     ensures { result ≡ (eqb b.round q.before && eqb b.author q.author) }
 {
-    if b.round != q.before {
-        return false;
-    }
-    b.author == q.author
+    b.round == q.before && b.author == q.author
 }
 
 // Whether it can be a link's target or source.
 fn is_linked(q: Quick, b: Brief) -> bool
     ensures { result ≡ (eqb b.digest q.proof_target || (eqb b.digest q.proof_source || (eqb b.digest q.trigger_target || eqb b.digest q.trigger_source))) }
 {
-    if b.digest == q.proof_target {
-        return true;
-    }
-    if b.digest == q.proof_source {
-        return true;
-    }
-    if b.digest == q.trigger_target {
-        return true;
-    }
-    b.digest == q.trigger_source
+    b.digest == q.proof_target
+        || b.digest == q.proof_source
+        || b.digest == q.trigger_target
+        || b.digest == q.trigger_source
 }
 
 // Whether one of its tops has a greater round than the link's target.
 fn is_newer(q: Quick, b: Brief) -> bool
     ensures { result ≡ (ltb q.proof_round b.proof_round || ltb q.trigger_round b.trigger_round) }
 {
-    if q.proof_round < b.proof_round {
-        return true;
-    }
-    q.trigger_round < b.trigger_round
+    q.proof_round < b.proof_round || q.trigger_round < b.trigger_round
 }
 
-// Whether its time exceeds the point's by more than the clock skew.
-fn is_late(q: Quick, b: Brief) -> bool
-    ensures { result ≡ ltb (q.time + q.skew) b.time }
+// Whether a dependency's time exceeds the point's by more than the clock skew.
+pub fn is_late(time: u64, skew: u64, dependency_time: u64) -> bool
+    ensures { result ≡ ltb (time + skew) dependency_time }
 {
-    if b.time <= q.skew {
-        return false;
-    }
-    q.time < b.time - q.skew
+    time.saturating_add(skew) < dependency_time
 }
 
 // Whether a valid dependency gives nothing for sure: false says nothing of it.
@@ -107,14 +88,8 @@ pub fn is_quick(q: Quick, rec: &[u8]) -> bool
     ensures { result ≡ true → IsQuick q rec.now }
 {
     let b = brief::brief_of(rec);
-    if is_own(q, b) {
+    if is_own(q, b) || is_linked(q, b) || is_newer(q, b) || is_late(q.time, q.skew, b.time) {
         return false;
     }
-    if is_linked(q, b) {
-        return false;
-    }
-    if is_newer(q, b) {
-        return false;
-    }
-    !is_late(q, b)
+    true
 }

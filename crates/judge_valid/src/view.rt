@@ -5,7 +5,7 @@ ghost use Rattle.point.specs.Code.{point_id_of, point_of, Reads};
 ghost use Rattle.rules.specs.DagPoint.{link_ids, point_view, dep_view, links_in, top_in};
 ghost use Rattle.judge_valid.specs.Code.{link_ids_of, point_view_of, dep_view_of};
 
-use map::Found;
+use parts::Id;
 use point::{AnchorLink, AnchorStageRole, PointId, PointInfo, PointRole};
 
 // The target and the source of a link.
@@ -22,7 +22,7 @@ pub struct PointView {
     pub role: PointRole,
     pub time: u64,
     pub anchor_time: u64,
-    pub prev_digest: Found,
+    pub prev_digest: Option<Id>,
     pub proof: LinkIds,
     pub trigger: LinkIds,
 }
@@ -60,26 +60,27 @@ impl DepView {
     }
 }
 
+#[tactic(auto, unfolding(rules::specs::DagPoint::link_ids, point::specs::Point::anchor))]
 fn link_ids(rec: &[u8], info: PointInfo, role: AnchorStageRole) -> LinkIds
     requires { Reads rec.now info }
     ensures { link_ids_of result ≡ link_ids role (point_of rec.now info) }
 {
     let view = point::anchor(rec, info, role);
-    let target = view.target;
-    let source = view.source;
-    LinkIds { target, source }
+    LinkIds {
+        target: view.target,
+        source: view.source,
+    }
 }
 
 // What judging asks of the point that it judges.
+#[tactic(auto, unfolding(rules::specs::DagPoint::point_view))]
 pub fn point_view(rec: &[u8], info: PointInfo) -> PointView
     requires { Reads rec.now info }
     ensures { point_view_of result ≡ point_view (point_of rec.now info) }
 {
-    let id = info.id;
-    let role = info.role;
     PointView {
-        id,
-        role,
+        id: info.id,
+        role: info.role,
         time: info.time,
         anchor_time: info.anchor_time,
         prev_digest: point::prev_digest(rec, info),
@@ -89,34 +90,29 @@ pub fn point_view(rec: &[u8], info: PointInfo) -> PointView
 }
 
 // The point itself where it has the role, else its link's target. Only a direct link's has to be looked up.
+#[tactic(auto, unfolding(point::specs::Point::top, point::specs::Point::target, point::specs::Point::anchor), using(point::proofs::Laws::link_in_lem))]
 fn top(rec: &[u8], info: PointInfo, role: AnchorStageRole) -> PointId
     requires { Reads rec.now info }
     ensures { point_id_of result ≡ top role (point_of rec.now info) }
 {
-    let own = info.role;
-    if own.is_anchor_stage(role) {
+    if info.role.is_anchor_stage(role) {
         return info.id;
     }
-    let link = info.anchor_link(role);
-    match link {
+    match info.anchor_link(role) {
         AnchorLink::Indirect(indirect) => indirect.to,
-        AnchorLink::Direct(_) => {
-            let view = point::anchor(rec, info, role);
-            view.target
-        }
+        AnchorLink::Direct(_) => point::anchor(rec, info, role).target,
     }
 }
 
 // What judging asks of a dependency.
+#[tactic(auto, unfolding(rules::specs::DagPoint::dep_view))]
 pub fn dep_view(rec: &[u8], info: PointInfo) -> DepView
     requires { Reads rec.now info }
     ensures { dep_view_of result ≡ dep_view (point_of rec.now info) }
 {
-    let id = info.id;
-    let role = info.role;
     DepView {
-        id,
-        role,
+        id: info.id,
+        role: info.role,
         time: info.time,
         anchor_time: info.anchor_time,
         proof_top: top(rec, info, AnchorStageRole::Proof),

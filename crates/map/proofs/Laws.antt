@@ -1,18 +1,12 @@
 -- Laws of rows: their number and places, what rising peers give, and the position of a peer by halving.
-use Prim.Native.Nat.{ℕ, zero, suc, ◌+◌, ◌-◌, ◌*◌, ◌/◌, ◌%◌, ◌≤◌, ◌<◌}
-use native.Mathlib.Nat.{add-suc, add-zero, mul-le-mul_left, mul-div-le, div-le_self, mul-suc, div-add-mod}
-use native.Mathlib.Omega.{arith}
+use Rattle.std.proofs.Common.{Option, None, Some, option_map, is_some, ℕ, zero, suc, ◌+◌, ◌-◌, ◌*◌, ◌/◌, ◌%◌, ◌≤◌, ◌<◌, add-suc, add-zero, mul-le-mul_left, div-le_self, mul-suc, arith, ◌≡◌, refl, ap, sym, ◌∙◌, List, [], ◌∷◌, ◌⊎◌, inl, inr, ⊎_elim, Bool, true, false, ◌&&◌, length, get_or, drop, length-drop, drop-cons, ltb, eqb, ltb-true, eqb-true, eq-eqb, ne_eqb, add-one, is_lt}
+use Rattle.std.proofs.Math.Nat.{mul-div-le, div-add-mod}
+use Rattle.std.proofs.Math.Bool.{and-eq-true_iff}
+use Rattle.std.proofs.lemmas.Bool.Decides.{nat_tests}
+use Rattle.std.specs.List.{list_all, range_with_len}
 use native.Mathlib.Decide.{dec_lt, ℕ_discrete}
-use mathlib.Core.Path.{◌≡◌, refl, ap, ◌∙◌}
-use mathlib.Core.List.{List, [], ◌∷◌}
-use mathlib.Core.Logic.{◌⊎◌, inl, inr, ⊎_elim}
-use mathlib.Core.Option.{Option, none, some, map}
-use mathlib.Core.Bool.{Bool, true, false, ◌&&◌, and-eq-true_iff}
-use lib.ListN.{length, get_or, drop, length-drop}
-use lib.Seq.{drop-cons}
-use lib.Dec.{ltb, eqb}
-use borrow.Author.Tests.{ltb-true, eqb-true, eq-eqb, ne_eqb}
-use Rattle.base.specs.Base.{pick, is_some, tabulate}
+use Rattle.parts.specs.Parts.{order, order_then}
+use Rattle.base.specs.Base.{pick, tabulate}
 use Rattle.base.proofs.Lists.{tabulate-length, tabulate-at}
 use Rattle.base.proofs.Impossible.{impossible}
 use Rattle.map.specs.Rows.{Pair, peer_at, pair_at, peers_of, pairs_of, rising, well_rowed, find_from, find, peers, digests, get}
@@ -96,6 +90,24 @@ short (x ∷ y ∷ l) h = absurd (omega arith)
 pub rising-end : (l : List ℕ) (j : ℕ) → length l ≤ suc j → rising (drop j l) ≡ true
 rising-end l j h = short (drop j l) (omega (arith, length-drop j l))
 
+-- whether the peer at a position stands below the one before it
+abbrev pub rises_at : List ℕ → ℕ → Bool
+rises_at l j = is_lt (order (get_or l (j - 1) 0) (get_or l j 0))
+
+is_lt-order : (m n : ℕ) → is_lt (order m n) ≡ ltb m n
+unfolding order order_then
+is_lt-order m n = grind (arith, nat_tests)
+
+rises_from : (l : List ℕ) (j n : ℕ) → n ≡ length l - suc j → list_all (rises_at l) (range_with_len (suc j) n) ≡ rising (drop j l)
+rises_from l j zero e = sym (rising-end l j (omega arith))
+rises_from l j (suc n) e =
+    let before : suc j - 1 ≡ j = omega arith in
+    rw (rising_step l j (omega arith), ← rises_from l (suc j) n (omega arith), ← is_lt-order (get_or l j 0) (get_or l (suc j) 0), add-one, before)
+
+-- peers rise if each stands below the one before it
+pub rises : (l : List ℕ) (n : ℕ) → n ≡ length l - 1 → list_all (rises_at l) (range_with_len 1 n) ≡ rising l
+rises l n e = rises_from l 0 n e
+
 -- neighbours rise
 next-rises : (l : List ℕ) (j : ℕ) → rising l ≡ true → suc j < length l → get_or l j 0 < get_or l (suc j) 0
 unfolding rising
@@ -158,93 +170,90 @@ place (y ∷ l) x = elim (ℕ_discrete y x) [
   | no d ↦ ⊎_elim (λ f. inl (suc f.0, first_next y l x f.0 d f.1)) (λ b. inr (nowhere_next y l x d b)) (place l x)
 ]
 
-from_first : (l : List ℕ) (x n i : ℕ) → First l x n → find_from i l x ≡ some (i + n)
+from_first : (l : List ℕ) (x n i : ℕ) → First l x n → find_from i l x ≡ Some (i + n)
 unfolding find_from
 from_first [] x n i f = absurd (omega (arith, f.inside))
 from_first (y ∷ l) x zero i f = rw (eq-eqb y x f.here, add-zero i)
 from_first (y ∷ l) x (suc n) i f =
     rw (ne_eqb y x (f.before 0 (omega arith)))
-    (from_first l x n (suc i) (record { inside = omega (arith, f.inside); here = f.here; before = λ k g. f.before (suc k) (omega arith) }) ∙ ap some (omega arith))
+    (from_first l x n (suc i) (record { inside = omega (arith, f.inside); here = f.here; before = λ k g. f.before (suc k) (omega arith) }) ∙ ap Some (omega arith))
 
-from_nowhere : (l : List ℕ) (x i : ℕ) → Nowhere l x → find_from i l x ≡ none
+from_nowhere : (l : List ℕ) (x i : ℕ) → Nowhere l x → find_from i l x ≡ None
 unfolding find_from
 from_nowhere [] x i b = refl
 from_nowhere (y ∷ l) x i b = rw (ne_eqb y x (b 0 (omega arith))) (from_nowhere l x (suc i) (λ k g. b (suc k) (omega arith)))
 
 module _ (l : List ℕ) (x : ℕ) where
-  pub find_first : (n : ℕ) → First l x n → find l x ≡ some n
+  pub find_first : (n : ℕ) → First l x n → find l x ≡ Some n
   unfolding find
-  find_first n f = from_first l x n 0 f ∙ ap some (omega arith)
+  find_first n f = from_first l x n 0 f ∙ ap Some (omega arith)
 
-  pub find_nowhere : Nowhere l x → find l x ≡ none
+  pub find_nowhere : Nowhere l x → find l x ≡ None
   unfolding find
   find_nowhere b = from_nowhere l x 0 b
 
-  pub find-some : (n : ℕ) → find l x ≡ some n → First l x n
+  pub find-some : (n : ℕ) → find l x ≡ Some n → First l x n
   find-some n e = ⊎_elim
       (λ f. let q = find_first f.0 f.1 in let g : f.0 ≡ n = cc in rw g at f.1)
       (λ b. let q = find_nowhere b in impossible (cc))
       (place l x)
 
-  pub find_none : find l x ≡ none → Nowhere l x
+  pub find_none : find l x ≡ None → Nowhere l x
   find_none e = ⊎_elim
       (λ f. let q = find_first f.0 f.1 in impossible (cc))
       (λ b. b)
       (place l x)
 
 -- in a rising list a peer has one position
-pub find-rising : (l : List ℕ) (x n : ℕ) → rising l ≡ true → n < length l → get_or l n 0 ≡ x → find l x ≡ some n
+pub find-rising : (l : List ℕ) (x n : ℕ) → rising l ≡ true → n < length l → get_or l n 0 ≡ x → find l x ≡ Some n
 find-rising l x n r h e =
     find_first l x n (record { inside = h; here = e; before = λ k g f. omega (arith, rising-less l k n r g h) })
 
 -- ---- the digest beside a peer
 
-find-later : (l : List ℕ) (x i : ℕ) → find_from (suc i) l x ≡ map suc (find_from i l x)
+find-later : (l : List ℕ) (x i : ℕ) → find_from (suc i) l x ≡ option_map suc (find_from i l x)
 unfolding find_from
 find-later [] x i = refl
 find-later (y ∷ l) x i = go (eqb y x) (find-later l x (suc i))
   where
-    go : (b : Bool) → find_from (suc (suc i)) l x ≡ map suc (find_from (suc i) l x) →
-        pick b (some (suc i)) (find_from (suc (suc i)) l x) ≡ map suc (pick b (some i) (find_from (suc i) l x))
+    go : (b : Bool) → find_from (suc (suc i)) l x ≡ option_map suc (find_from (suc i) l x) →
+        pick b (Some (suc i)) (find_from (suc (suc i)) l x) ≡ option_map suc (pick b (Some i) (find_from (suc i) l x))
     go true h = refl
     go false h = h
 
-pub get-empty : (x : ℕ) → get [] x ≡ none
+pub get-empty : (x : ℕ) → get [] x ≡ None
 unfolding get find find_from peers
 get-empty x = refl
 
 -- row by row
-pub get-next : (q : Pair) (l : List Pair) (x : ℕ) → get (q ∷ l) x ≡ pick (eqb q.peer x) (some q.digest) (get l x)
+pub get-next : (q : Pair) (l : List Pair) (x : ℕ) → get (q ∷ l) x ≡ pick (eqb q.peer x) (Some q.digest) (get l x)
 unfolding get find find_from peers digests
 get-next q l x = go (eqb q.peer x)
   where
-    later : (o : Option ℕ) → map (λ n. get_or (q.digest ∷ digests l) n 0) (map suc o) ≡ map (λ n. get_or (digests l) n 0) o
-    later none = refl
-    later (some n) = refl
+    later : (o : Option ℕ) → option_map (λ n. get_or (q.digest ∷ digests l) n 0) (option_map suc o) ≡ option_map (λ n. get_or (digests l) n 0) o
+    later None = refl
+    later (Some n) = refl
 
     go : (b : Bool) →
-        map (λ n. get_or (q.digest ∷ digests l) n 0) (pick b (some 0) (find_from 1 (peers l) x))
-        ≡ pick b (some q.digest) (map (λ n. get_or (digests l) n 0) (find_from 0 (peers l) x))
+        option_map (λ n. get_or (q.digest ∷ digests l) n 0) (pick b (Some 0) (find_from 1 (peers l) x))
+        ≡ pick b (Some q.digest) (option_map (λ n. get_or (digests l) n 0) (find_from 0 (peers l) x))
     go true = refl
-    go false = ap (map (λ n. get_or (q.digest ∷ digests l) n 0)) (find-later (peers l) x 0) ∙ later (find_from 0 (peers l) x)
+    go false = ap (option_map (λ n. get_or (q.digest ∷ digests l) n 0)) (find-later (peers l) x 0) ∙ later (find_from 0 (peers l) x)
 
 module _ (l : List Pair) (x : ℕ) where
-  pub get-some : (n : ℕ) → find (peers l) x ≡ some n → get l x ≡ some (get_or (digests l) n 0)
-  unfolding get
-  get-some n e = rw e
-
-  pub get_none : find (peers l) x ≡ none → get l x ≡ none
-  unfolding get
-  get_none e = rw e
-
   -- a peer has a position in a map exactly if a digest stands beside it
   pub find-get : is_some (find (peers l) x) ≡ is_some (get l x)
   unfolding get
   find-get = go (find (peers l) x)
     where
-      go : (o : Option ℕ) → is_some o ≡ is_some (map (λ n. get_or (digests l) n 0) o)
-      go none = refl
-      go (some n) = refl
+      go : (o : Option ℕ) → is_some o ≡ is_some (option_map (λ n. get_or (digests l) n 0) o)
+      go None = refl
+      go (Some n) = refl
+
+-- the digest beside a peer, from the peer's position among the rows
+pub get-rows : (s : List ℕ) (x : ℕ) → get (pairs_of s) x ≡ option_map (λ n. get_or (digests (pairs_of s)) n 0) (find (peers_of 64 s) x)
+unfolding get
+get-rows s x = rw (peers-pairs_of s)
 
 -- ---- halving: what is known of a rising list while a peer is looked for between lo and hi
 
@@ -254,18 +263,15 @@ pub record Bracket (l : List ℕ) (x lo hi : ℕ) : Type 0 where
   pub less : (k : ℕ) → k < lo → get_or l k 0 < x
   pub more : (k : ℕ) → hi ≤ k → k < length l → x < get_or l k 0
 
-pub bracket_start : (l : List ℕ) (x : ℕ) → Bracket l x 0 (length l)
-bracket_start l x = record { ordered = omega arith; within = omega arith; less = λ k h. absurd (omega arith); more = λ k h g. absurd (omega arith) }
-
 module _ (l : List ℕ) (x lo hi mid : ℕ) (r : rising l ≡ true) (b : Bracket l x lo hi) (from : lo ≤ mid) (to : mid < hi) where
-  pub bracket_up : get_or l mid 0 < x → Bracket l x (mid + 1) hi
-  bracket_up e = record {
+  pub bracket_up : (next : ℕ) → next ≤ mid + 1 → get_or l mid 0 < x → Bracket l x next hi
+  bracket_up next h e = record {
     ordered = omega arith;
     within = b.within;
     more = b.more;
-    less = λ k h. elim (dec_lt k mid) [
-      | yes g ↦ omega (arith, rising-less l k mid r g (omega arith))
-      | no g ↦ (let q : k ≡ mid = omega arith in rw q e)
+    less = λ k g. elim (dec_lt k mid) [
+      | yes f ↦ omega (arith, rising-less l k mid r f (omega arith))
+      | no f ↦ (let q : k ≡ mid = omega arith in rw q e)
     ];
   }
 
@@ -280,6 +286,6 @@ module _ (l : List ℕ) (x lo hi mid : ℕ) (r : rising l ≡ true) (b : Bracket
     ];
   }
 
-pub bracket_none : (l : List ℕ) (x lo hi : ℕ) → hi ≤ lo → Bracket l x lo hi → find l x ≡ none
+pub bracket_none : (l : List ℕ) (x lo hi : ℕ) → hi ≤ lo → Bracket l x lo hi → find l x ≡ None
 bracket_none l x lo hi h b =
     find_nowhere l x (λ k g e. elim (dec_lt k lo) [ yes f ↦ omega (arith, b.less k f) | no f ↦ omega (arith, b.more k (omega (arith, b.ordered)) g) ])

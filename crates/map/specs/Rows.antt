@@ -1,6 +1,5 @@
 -- What the bytes of a set or a map mean: rising peers, or pairs of a peer and a digest.
-use Rattle.std.specs.Prelude.{ℕ, suc, ◌+◌, ◌*◌, ◌/◌, ◌%◌, List, [], ◌∷◌, Bool, true, ◌&&◌, length, get_or, ltb, eqb}
-use Rattle.std.proofs.Math.Option.{Option, none, some, map}
+use Rattle.std.specs.Prelude.{ℕ, suc, ◌+◌, ◌*◌, ◌/◌, ◌%◌, List, [], ◌∷◌, Bool, true, ◌&&◌, length, get_or, ltb, eqb, Option, None, Some, option_map}
 use Rattle.base.specs.Base.{pick, tabulate}
 use Rattle.parts.specs.Bytes.{id_at}
 
@@ -46,8 +45,8 @@ well_rowed width s = eqb (length s % width) 0 && rising (peers_of width s)
 
 -- the position of a peer, counted from i where the list begins
 unfoldable pub find_from : ℕ → List ℕ → ℕ → Option ℕ
-find_from i [] x = none
-find_from i (y ∷ l) x = pick (eqb y x) (some i) (find_from (suc i) l x)
+find_from i [] x = None
+find_from i (y ∷ l) x = pick (eqb y x) (Some i) (find_from (suc i) l x)
 
 -- the one question whether a peer is in a set or a map: its position, or none. FastHashSet::contains and FastHashMap::contains_key
 unfoldable pub find : List ℕ → ℕ → Option ℕ
@@ -65,4 +64,4 @@ digests (q ∷ l) = q.digest ∷ digests l
 -- FastHashMap::get: the digest at the peer's position
 unfoldable pub get : List Pair → ℕ → Option ℕ
 unfolding find peers digests
-get l x = map (λ n. get_or (digests l) n 0) (find (peers l) x)
+get l x = option_map (λ n. get_or (digests l) n 0) (find (peers l) x)

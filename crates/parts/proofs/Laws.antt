@@ -1,22 +1,17 @@
 -- Laws of numbers read from bytes, and of ids: their order is that of their byte strings.
-use Prim.Native.Nat.{ℕ, zero, suc, ◌+◌, ◌*◌, ◌/◌, ◌%◌, ◌^◌, ◌≤◌, ◌<◌}
-use native.Mathlib.Nat.{mul-le-mul_left, suc-mul, mul_comm, mul_assoc, add-mul, pow-succ'}
-use native.Mathlib.Omega.{arith}
-use lib.Pow.{pow-add}
+use Rattle.std.proofs.Common.{ℕ, zero, suc, ◌+◌, ◌-◌, ◌*◌, ◌/◌, ◌%◌, ◌^◌, ◌≤◌, ◌<◌, mul-le-mul_left, suc-mul, mul_comm, mul_assoc, add-mul, div-one, arith, pow-add, ◌≡◌, refl, ap, sym, ◌∙◌, List, [], ◌∷◌, ◌++◌, length, get_or, take, drop, length-append, length-take, length-drop, drop-cons, take-suc, take-add, take-take, take_all, drop-drop, length-take-le, get_or-take, get_or-drop, slice_index, nat_cmp, Ordering, Less, Equal, Greater}
+use Rattle.std.proofs.Math.Nat.{pow-succ', div-div-eq-div-mul}
+use Rattle.std.proofs.Math.ListN.{get_or-eq_default}
+use Rattle.std.proofs.lemmas.Bool.Decides.{nat_tests}
+use Rattle.std.proofs.lemmas.Cmp.{ranked}
+use Rattle.std.specs.Cmp.{nat_cmp_is}
+use Rattle.std.specs.Int.{byte_at, byte_worth, bytes_low_first, bytes_high_first, sum_through}
+use Rattle.std.specs.Ordering.{MatchOrdering, ordering_then}
 use native.Mathlib.Decide.{dec_lt}
-use mathlib.Core.Path.{◌≡◌, refl, ap, sym, ◌∙◌}
-use mathlib.Core.List.{List, [], ◌∷◌, ◌++◌}
-use mathlib.Core.Bool.{false}
-use lib.ListN.{length, get_or, take, drop, length-append, length-take, length-drop, get_or-eq_default}
-use lib.Seq.{drop-cons, take-add, take-take, drop-drop, length-take-le, get_or-take, get_or-drop}
-use lib.Dec.{eqb}
-use borrow.Author.Tests.{lt-ltb, le-ltb, eq-eqb, ne_eqb}
-use Rattle.parts.specs.Bytes.{little, big, bytes_at, little_at, big_at, little_bytes, Bytes}
-use Rattle.parts.specs.Code.{number, order_of_rest}
+use Rattle.parts.specs.Bytes.{little, big, bytes_at, little_at, big_at, little_bytes, big_bytes, Bytes}
+use Rattle.parts.specs.Code.{number}
 use Rattle.parts.specs.Parts.{order, order_then, order_of_bytes}
 use Rattle.parts.specs.declared.Id.{Id}
-use Rattle.parts.specs.declared.Order.{Order}
-use Rattle.parts.specs.declared.Order.TheVariants.{Less, Same, More}
 
 -- ---- bytes one after the other
 
@@ -26,7 +21,7 @@ at_split m n s at = rw (take-add m n (drop at s), drop-drop m at s)
 pub at_length : (n : ℕ) (s : List ℕ) (at : ℕ) → at + n ≤ length s → length (bytes_at n s at) ≡ n
 at_length n s at h = length-take-le n (drop at s) (simp length-drop (omega arith))
 
-pub at_one : (s : List ℕ) (at : ℕ) → at < length s → bytes_at 1 s at ≡ get_or s at 0 ∷ []
+at_one : (s : List ℕ) (at : ℕ) → at < length s → bytes_at 1 s at ≡ get_or s at 0 ∷ []
 at_one s at h = rw (drop-cons s at 0 h)
 
 -- a part of a front is a part of the whole
@@ -61,18 +56,6 @@ pub little-one : (s : List ℕ) (at : ℕ) → at < length s → little_at 1 s a
 unfolding little_at little
 little-one s at h = rw (at_one s at h) (omega arith)
 
-pub big-one : (s : List ℕ) (at : ℕ) → at < length s → big_at 1 s at ≡ get_or s at 0
-unfolding big_at big
-big-one s at h = rw (at_one s at h) (omega arith)
-
--- the first byte, and the bytes after it
-pub big-next : (n : ℕ) (s : List ℕ) (at next : ℕ) → next ≡ at + 1 → at + (1 + n) ≤ length s → big_at (1 + n) s at ≡ get_or s at 0 * 256 ^ n + big_at n s next
-big-next n s at next e h = rw e (big_split 1 n s at (omega arith) ∙ ap (λ (x : ℕ). x * 256 ^ n + big_at n s (at + 1)) (big-one s at (omega arith)))
-
-pub big-none : (s : List ℕ) (at : ℕ) → big_at 0 s at ≡ 0
-unfolding big_at big
-big-none s at = refl
-
 -- the four words of an id
 pub big_words : (s : List ℕ) (at : ℕ) → at + 32 ≤ length s →
     big_at 32 s at ≡ ((big_at 8 s at * 2 ^ 64 + big_at 8 s (at + 8)) * 2 ^ 64 + big_at 8 s (at + 16)) * 2 ^ 64 + big_at 8 s (at + 24)
@@ -89,77 +72,43 @@ pub data Three (a b : ℕ) : Type 0 where
 pub three : (a b : ℕ) → Three a b
 three a b = elim (dec_lt a b) [ yes h ↦ below h | no h ↦ elim (dec_lt b a) [ yes g ↦ above g | no g ↦ equal (omega arith) ] ]
 
-module _ (a b : ℕ) (rest : Order) where
-  pub then_less : a < b → order_then a b rest ≡ Less
-  unfolding order_then
-  then_less h = simp (lt-ltb _ _ h)
+-- the order of two numbers is what `cmp` answers
+order_then-cmp : (m n : ℕ) (rest : Ordering) → order_then m n rest ≡ ordering_then (nat_cmp m n) rest
+unfolding order_then
+order_then-cmp m n rest = grind (arith, nat_tests)
 
-  pub then_more : b < a → order_then a b rest ≡ More
-  unfolding order_then
-  then_more h = let g : b ≤ a = omega arith in simp (le-ltb a b g, lt-ltb b a h)
-
-  pub then_same : a ≡ b → order_then a b rest ≡ rest
-  unfolding order_then
-  then_same h = let g : b ≤ a = omega arith in let f : a ≤ b = omega arith in simp (le-ltb a b g, le-ltb b a f)
-
--- where numbers differ, what follows does not matter
-pub then_any : (a b : ℕ) (rest other : Order) → (a ≡ b → ⊥) → order_then a b rest ≡ order_then a b other
-then_any a b rest other n = elim (three a b) [
-  | below h ↦ then_less a b rest h ∙ sym (then_less a b other h)
-  | equal h ↦ absurd (n h)
-  | above h ↦ then_more a b rest h ∙ sym (then_more a b other h)
-]
-
--- what an order says of the numbers
-abbrev Ordered : Order → ℕ → ℕ → Type 0
-Ordered Less m n = m < n
-Ordered Same m n = m ≡ n
-Ordered More m n = n < m
+pub order-cmp : (m n : ℕ) → order m n ≡ nat_cmp m n
+unfolding order order_then
+order-cmp m n = grind (arith, nat_tests)
 
 module _ (m n : ℕ) where
-  ordered : Ordered (order m n) m n
-  unfolding order
-  ordered = elim (three m n) [
-    | below h ↦ rw (then_less m n Same h) h
-    | equal h ↦ rw (then_same m n Same h) h
-    | above h ↦ rw (then_more m n Same h) h
-  ]
+  says : MatchOrdering (order m n) (m < n) (m ≡ n) (n < m)
+  says = ranked m n (order m n) (order-cmp m n)
 
   pub order-less : order m n ≡ Less → m < n
-  order-less e = rw e at ordered
+  order-less e = rw e at says
 
-  pub order_same : order m n ≡ Same → m ≡ n
-  order_same e = rw e at ordered
+  pub order_same : order m n ≡ Equal → m ≡ n
+  order_same e = rw e at says
 
-  pub order-more : order m n ≡ More → n < m
-  order-more e = rw e at ordered
+  pub order-more : order m n ≡ Greater → n < m
+  order-more e = rw e at says
 
 -- a lower first digit makes a lower number
 digit_below : (k a b c d : ℕ) → b < k → a < c → a * k + b < c * k + d
 digit_below k a b c d hb h = omega (arith, mul-le-mul_left k h, mul_comm k (suc a), mul_comm k c, suc-mul a k)
 
--- a number of two digits is compared by its digits
-digits_order : (k a b c d : ℕ) (rest : Order) → b < k → d < k → order_then (a * k + b) (c * k + d) rest ≡ order_then a c (order_then b d rest)
-digits_order k a b c d rest hb hd =
-    let inner : a ≡ c → order_then (a * k + b) (c * k + d) rest ≡ order_then b d rest =
-    λ h. let e : a * k ≡ c * k = ap (λ (n : ℕ). n * k) h in elim (three b d) [
-      | below g ↦ then_less (a * k + b) (c * k + d) rest (omega arith) ∙ sym (then_less b d rest g)
-      | equal g ↦ then_same (a * k + b) (c * k + d) rest (omega arith) ∙ sym (then_same b d rest g)
-      | above g ↦ then_more (a * k + b) (c * k + d) rest (omega arith) ∙ sym (then_more b d rest g)
-    ] in
-    elim (three a c) [
-      | below h ↦ then_less (a * k + b) (c * k + d) rest (digit_below k a b c d hb h) ∙ sym (then_less a c (order_then b d rest) h)
-      | equal h ↦ inner h ∙ sym (then_same a c (order_then b d rest) h)
-      | above h ↦ then_more (a * k + b) (c * k + d) rest (digit_below k c d a b hd h) ∙ sym (then_more a c (order_then b d rest) h)
-    ]
-
--- equal numbers of two digits have equal digits
-digits_same : (k a b c d : ℕ) → b < k → d < k → a * k + b ≡ c * k + d → (a ≡ c) × (b ≡ d)
-digits_same k a b c d hb hd h = elim (three a c) [
-  | below g ↦ (let f = digit_below k a b c d hb g in absurd (omega arith))
-  | equal g ↦ (let e : a * k ≡ c * k = ap (λ (n : ℕ). n * k) g in (g, omega arith))
-  | above g ↦ (let f = digit_below k c d a b hd g in absurd (omega arith))
-]
+-- numbers of two digits are compared by their digits
+digits_cmp : (k a b c d : ℕ) → b < k → d < k → nat_cmp (a * k + b) (c * k + d) ≡ ordering_then (nat_cmp a c) (nat_cmp b d)
+digits_cmp k a b c d hb hd = sym (nat_cmp_is (a * k + b) (c * k + d) (ordering_then (nat_cmp a c) (nat_cmp b d)) (elim (three a c) [
+  | below h ↦ rw (← nat_cmp_is a c Less h) (digit_below k a b c d hb h)
+  | equal h ↦ (let e : a * k ≡ c * k = ap (λ (n : ℕ). n * k) h in rw (← nat_cmp_is a c Equal h) (elim (three b d) [
+    | below g ↦ rw (← nat_cmp_is b d Less g) (omega arith)
+    | equal g ↦ rw (← nat_cmp_is b d Equal g) (omega arith)
+    | above g ↦ rw (← nat_cmp_is b d Greater g) (omega arith)
+  ]))
+  | above h ↦ rw (← nat_cmp_is a c Greater h) (digit_below k c d a b hd h)
+]))
 
 -- ---- byte strings
 
@@ -174,16 +123,15 @@ big-below (x ∷ s) b =
 
 -- the order of the numbers is the order of the byte strings
 pub order-of-bytes : (s t : List ℕ) → Bytes s → Bytes t → length s ≡ length t → order (big s) (big t) ≡ order_of_bytes s t
-unfolding order big order_of_bytes
-order-of-bytes [] [] bs bt e = then_same 0 0 Same refl
+unfolding big order_of_bytes
+order-of-bytes [] [] bs bt e = order-cmp 0 0
 order-of-bytes [] (y ∷ t) bs bt e = absurd (omega arith)
 order-of-bytes (x ∷ s) [] bs bt e = absurd (omega arith)
 order-of-bytes (x ∷ s) (y ∷ t) bs bt e =
     let f : length s ≡ length t = omega arith in
     let below-s = big-below s (λ k. bs (suc k)) in
     let below-t : big t < 256 ^ length s = rw f (big-below t (λ k. bt (suc k))) in
-    rw (← f) (digits_order (256 ^ length s) x (big s) y (big t) Same below-s below-t
-    ∙ ap (order_then x y) (order-of-bytes s t (λ k. bs (suc k)) (λ k. bt (suc k)) f))
+    rw (order-cmp, ← f, digits_cmp (256 ^ length s) x (big s) y (big t) below-s below-t, order_then-cmp, ← order-of-bytes s t (λ k. bs (suc k)) (λ k. bt (suc k)) f, order-cmp)
 
 -- ---- ids of the code: four words
 
@@ -199,34 +147,12 @@ pub record Words (x : Id) : Type 0 where
   pub wc : x.c < 2 ^ 64
   pub wd : x.d < 2 ^ 64
 
-module _ (x y : Id) (wx : Words x) (wy : Words y) where
-  pub number-order : order (number x) (number y) ≡ order_then x.a y.a (order_then x.b y.b (order_then x.c y.c (order_then x.d y.d Same)))
-  unfolding order number
-  number-order =
-      digits_order (2 ^ 64) _ x.d _ y.d Same wx.wd wy.wd
-      ∙ (digits_order (2 ^ 64) _ x.c _ y.c _ wx.wc wy.wc
-      ∙ digits_order (2 ^ 64) x.a x.b y.a y.b _ wx.wb wy.wb)
+-- equal numbers have equal words
+pub number_same : (x y : Id) → Words x → Words y → number x ≡ number y → (x.a ≡ y.a) × (x.b ≡ y.b) × (x.c ≡ y.c) × (x.d ≡ y.d)
+unfolding number
+number_same x y v w e = (omega (arith, v.wa, w.wa), omega (arith, v.wb, w.wb), omega (arith, v.wc, w.wc), omega arith)
 
-  pub number_same : number x ≡ number y → (x.a ≡ y.a) × (x.b ≡ y.b) × (x.c ≡ y.c) × (x.d ≡ y.d)
-  unfolding number
-  number_same e =
-      let d = digits_same (2 ^ 64) ((x.a * 2 ^ 64 + x.b) * 2 ^ 64 + x.c) x.d ((y.a * 2 ^ 64 + y.b) * 2 ^ 64 + y.c) y.d wx.wd wy.wd e in
-      let c = digits_same (2 ^ 64) (x.a * 2 ^ 64 + x.b) x.c (y.a * 2 ^ 64 + y.b) y.c wx.wc wy.wc d.0 in
-      let b = digits_same (2 ^ 64) x.a x.b y.a y.b wx.wb wy.wb c.0 in
-      (b.0, b.1, c.1, d.1)
-
-  pub number_differs : ((x.a ≡ y.a) × (x.b ≡ y.b) × (x.c ≡ y.c) × (x.d ≡ y.d) → ⊥) → eqb (number x) (number y) ≡ false
-  number_differs no_way = ne_eqb (number x) (number y) (λ e. no_way (number_same e))
-
-  pub number-last : x.a ≡ y.a → x.b ≡ y.b → x.c ≡ y.c → eqb (number x) (number y) ≡ eqb x.d y.d
-  unfolding number
-  number-last ea eb ec = elim (three x.d y.d) [
-    | below g ↦ number_differs (λ e. let f = e.3 in absurd (omega arith)) ∙ sym (ne_eqb x.d y.d (λ e. omega arith))
-    | equal g ↦ eq-eqb (number x) (number y) (cc) ∙ sym (eq-eqb x.d y.d g)
-    | above g ↦ number_differs (λ e. let f = e.3 in absurd (omega arith)) ∙ sym (ne_eqb x.d y.d (λ e. omega arith))
-  ]
-
--- ---- ids at places: their words in turn
+-- ---- bytes at places
 
 pub at-bytes : (n : ℕ) (s : List ℕ) (at : ℕ) → Bytes s → Bytes (bytes_at n s at)
 at-bytes n s at b k = elim (dec_lt k n) [
@@ -238,31 +164,63 @@ pub big-fits : (n : ℕ) (s : List ℕ) (at : ℕ) → Bytes s → at + n ≤ le
 unfolding big_at
 big-fits n s at b h = rw (at_length n s at h) at (big-below (bytes_at n s at) (at-bytes n s at b))
 
-id_of : List ℕ → ℕ → Id
-id_of s at = record { a = big_at 8 s at; b = big_at 8 s (at + 8); c = big_at 8 s (at + 16); d = big_at 8 s (at + 24) }
+-- ---- the numbers that `from_le_bytes` and `from_be_bytes` read
 
-words_of : (s : List ℕ) (at : ℕ) → Bytes s → at + 32 ≤ length s → Words (id_of s at)
-unfolding id_of
-words_of s at b h =
-    record {
-      wa = big-fits 8 s at b (omega arith);
-      wb = big-fits 8 s (at + 8) b (omega arith);
-      wc = big-fits 8 s (at + 16) b (omega arith);
-      wd = big-fits 8 s (at + 24) b (omega arith);
-    }
+worth : (i b : ℕ) → byte_worth i b ≡ b * 256 ^ i
+worth zero b = omega arith
+worth (suc i) b = refl
 
-pub places-order : (s t : List ℕ) (at from : ℕ) → Bytes s → Bytes t → at + 32 ≤ length s → from + 32 ≤ length t →
-    order (big_at 32 s at) (big_at 32 t from) ≡ order_then (big_at 8 s at) (big_at 8 t from) (order_of_rest s at t from)
-unfolding number id_of order_of_rest
-places-order s t at from bs bt hs ht =
-    rw (big_words s at hs, big_words t from ht) (number-order (id_of s at) (id_of t from) (words_of s at bs hs) (words_of t from bt ht))
+-- their sums, up to a byte
+little_sum : (l : List ℕ) (n : ℕ) → n < length l → sum_through (λ i. byte_worth i (slice_index l i)) n ≡ little (take (suc n) l)
+unfolding little
+little_sum l zero h = rw (take-suc l 0 0) (omega arith)
+little_sum l (suc n) h = rw (take-suc l (suc n) 0, little-append, little_sum l n (omega arith), length-take-le (suc n) l (omega arith)) (omega arith)
 
--- an id at a place, checked against an id of the code
-pub place-order : (s : List ℕ) (at : ℕ) (y : Id) → Bytes s → Words y → at + 32 ≤ length s →
-    order (big_at 32 s at) (number y)
-    ≡ order_then (big_at 8 s at) y.a (order_then (big_at 8 s (at + 8)) y.b (order_then (big_at 8 s (at + 16)) y.c (order_then (big_at 8 s (at + 24)) y.d Same)))
-unfolding number id_of
-place-order s at y b w h = rw (big_words s at h) (number-order (id_of s at) y (words_of s at b h) w)
+big_sum : (l : List ℕ) (m n : ℕ) → n ≤ m → n < length l → sum_through (λ i. byte_worth (m - i) (slice_index l i)) n ≡ big (take (suc n) l) * 256 ^ (m - n)
+unfolding big
+big_sum l m zero g h = rw (take-suc l 0 0, worth) (omega arith)
+big_sum l m (suc n) g h =
+    let e : m - n ≡ suc (m - suc n) = omega arith in
+    rw (take-suc l (suc n) 0, worth (m - suc n), big_sum l m n (omega arith) (omega arith), big-append, e, pow-succ' 256 (m - suc n))
+    (omega arith)
+
+-- of the n bytes at a place
+module _ (n : ℕ) (s : List ℕ) (at : ℕ) where
+  pub read_little : 0 < n → at + n ≤ length s → little_at n s at ≡ sum_through (λ i. byte_worth i (slice_index (bytes_at n s at) i)) (n - 1)
+  unfolding little_at
+  read_little h g =
+      let long = at_length n s at g in
+      let next : suc (n - 1) ≡ n = omega arith in
+      rw (little_sum (bytes_at n s at) (n - 1) (omega arith), next, take_all n (bytes_at n s at) (omega arith))
+
+  pub read_big : 0 < n → at + n ≤ length s → big_at n s at ≡ sum_through (λ i. byte_worth (n - 1 - i) (slice_index (bytes_at n s at) i)) (n - 1)
+  unfolding big_at
+  read_big h g =
+      let long = at_length n s at g in
+      let next : suc (n - 1) ≡ n = omega arith in
+      let none : n - 1 - (n - 1) ≡ 0 = omega arith in
+      rw (big_sum (bytes_at n s at) (n - 1) (n - 1) (omega arith) (omega arith), next, none, take_all n (bytes_at n s at) (omega arith))
+      (omega arith)
+
+-- ---- the bytes that `to_le_bytes` and `to_be_bytes` make
+
+byte_is : (i x : ℕ) → byte_at i x ≡ x / 256 ^ i % 256
+byte_is zero x = rw (div-one x)
+byte_is (suc i) x = refl
+
+low_first : (i n x : ℕ) → bytes_low_first i n x ≡ little_bytes n (x / 256 ^ i)
+unfolding little_bytes
+low_first i zero x = refl
+low_first i (suc n) x =
+    rw (byte_is i x, low_first (suc i) n x, pow-succ' 256 i, mul_comm 256 (256 ^ i), ← div-div-eq-div-mul x (256 ^ i) 256)
+
+pub write_little : (n x : ℕ) → little_bytes n x ≡ bytes_low_first 0 n x
+write_little n x = sym (low_first 0 n x ∙ ap (little_bytes n) (div-one x))
+
+pub write_big : (n x : ℕ) → big_bytes n x ≡ bytes_high_first n x
+unfolding big_bytes
+write_big zero x = refl
+write_big (suc n) x = rw (byte_is n x, write_big n x)
 
 -- ---- bytes in the other order
 

@@ -2,13 +2,16 @@
 #![tactic(auto)]
 
 ghost use Rattle.std.specs.Prelude.{◌≡◌, ◌+◌, ◌-◌, ◌≤◌, ◌<◌, eqb, length};
-ghost use Rattle.parts.specs.Bytes.{big, little_at, big_at, id_at, little_bytes};
-ghost use Rattle.parts.specs.Code.{number, order_of_rest, peer_count_of};
-ghost use Rattle.parts.specs.Parts.{order, order_then, peer_count, full, majority, majority_of_others};
+ghost use Rattle.std.specs.Result.{result_ok};
+ghost use Rattle.parts.specs.Bytes.{big, bytes_at, little_at, big_at, id_at, little_bytes};
+ghost use Rattle.parts.specs.Code.{number, peer_count_of};
+ghost use Rattle.parts.specs.Parts.{order, peer_count, full, majority, majority_of_others};
+
+use std::cmp::Ordering;
 
 // A peer or a digest: its 32 bytes as four numbers, the first byte highest, so that comparing the
 // numbers in turn compares the byte strings.
-#[derive(Clone, Copy)]
+#[derive(Clone, Copy, PartialEq, Eq, PartialOrd, Ord)]
 pub struct Id {
     pub a: u64,
     pub b: u64,
@@ -44,80 +47,60 @@ pub const MOST_KEPT: usize = 4096;
 
 pub const LONGEST_BOOK: usize = 16777216;
 
-// How one id stands to another.
-#[derive(Clone, Copy)]
-pub enum Order {
-    Less,
-    Same,
-    More,
-}
-
-fn wide(x: u8) -> u64
-    ensures value { result ≡ x }
-    ensures upper_bound { result < 256 }
+// The bytes at a place, as many as the array has.
+fn bytes_at<const N: usize>(s: &[u8], at: usize) -> [u8; N]
+    requires { at + N ≤ length s.now }
+    ensures { result ≡ bytes_at N s.now at }
 {
-    x as u64
+    s[at..at + N].try_into().unwrap()
 }
 
 // The little-endian number of two bytes at a place.
+#[tactic(auto, using(crate::proofs::Laws::read_little))]
 pub fn u16_at(s: &[u8], at: usize) -> u16
     requires { at + 2 ≤ length s.now }
     ensures { result ≡ little_at 2 s.now at }
 {
-    let low = wide(s[at]);
-    let high = wide(s[at + 1]);
-    (low + 256 * high) as u16
+    u16::from_le_bytes(bytes_at(s, at))
 }
 
 // The little-endian number of four bytes at a place.
+#[tactic(auto, using(crate::proofs::Laws::read_little))]
 pub fn u32_at(s: &[u8], at: usize) -> u32
     requires { at + 4 ≤ length s.now }
     ensures { result ≡ little_at 4 s.now at }
 {
-    let low = u16_at(s, at);
-    let high = u16_at(s, at + 2);
-    low as u32 + 65536 * high as u32
+    u32::from_le_bytes(bytes_at(s, at))
 }
 
 // The little-endian number of eight bytes at a place.
+#[tactic(auto, using(crate::proofs::Laws::read_little))]
 pub fn u64_at(s: &[u8], at: usize) -> u64
     requires { at + 8 ≤ length s.now }
     ensures { result ≡ little_at 8 s.now at }
 {
-    let low = u32_at(s, at);
-    let high = u32_at(s, at + 4);
-    low as u64 + 4294967296 * high as u64
+    u64::from_le_bytes(bytes_at(s, at))
 }
 
-// The number whose eight bytes are those of a number in the other order. Compiles to one instruction.
+// The number whose eight bytes are those of a number in the other order.
+#[tactic(auto, unfolding(crate::specs::Bytes::big, crate::specs::Bytes::little_bytes))]
 pub fn swapped(w: u64) -> u64
     ensures { result ≡ big (little_bytes 8 w) }
 {
-    let b = w / 256;
-    let c = b / 256;
-    let d = c / 256;
-    let e = d / 256;
-    let f = e / 256;
-    let g = f / 256;
-    let h = g / 256;
-    let first = w % 256 * 72057594037927936 + b % 256 * 281474976710656;
-    let second = c % 256 * 1099511627776 + d % 256 * 4294967296;
-    let third = e % 256 * 16777216 + f % 256 * 65536;
-    let fourth = g % 256 * 256 + h % 256;
-    first + second + (third + fourth)
+    w.swap_bytes()
 }
 
-// The number of eight bytes at a place, the first highest. The compiler makes one load of the eight bytes where the first
-// is lowest before it weighs what to inline, and where the first is highest only after that: so they are read lowest first
-// and swapped.
+// The number of eight bytes at a place, the first highest.
+#[tactic(auto, using(crate::proofs::Laws::read_big))]
 fn big64_at(s: &[u8], at: usize) -> u64
     requires { at + 8 ≤ length s.now }
     ensures { result ≡ big_at 8 s.now at }
 {
-    swapped(u64_at(s, at))
+    u64::from_be_bytes(bytes_at(s, at))
 }
 
 // The id whose 32 bytes stand at a place.
+#[tactic(auto, using(crate::proofs::Laws::big_words), unfolding(crate::specs::Code::number))]
 pub fn id_at(s: &[u8], at: usize) -> Id
     requires { at + 32 ≤ length s.now }
     ensures { number result ≡ id_at s.now at }
@@ -131,122 +114,75 @@ pub fn id_at(s: &[u8], at: usize) -> Id
 }
 
 // Whether two ids are the same.
+#[tactic(auto, unfolding(crate::specs::Code::number))]
 pub fn same(x: Id, y: Id) -> bool
     ensures { result ≡ eqb (number x) (number y) }
 {
-    if x.a != y.a {
-        return false;
-    }
-    if x.b != y.b {
-        return false;
-    }
-    if x.c != y.c {
-        return false;
-    }
-    x.d == y.d
+    x == y
 }
 
-// The order of two numbers, and where they are equal what is handed in.
-fn by_number(x: u64, y: u64, rest: Order) -> Order
-    ensures { result ≡ order_then x y rest }
-{
-    if x < y {
-        return Order::Less;
-    }
-    if y < x {
-        return Order::More;
-    }
-    rest
-}
-
-// The order of two ids, which is that of their byte strings. Words that are equal are passed over first: so ids that are
-// the same, as most that are compared, take no more than four tests.
-pub fn compare(x: Id, y: Id) -> Order
+// The order of two ids, which is that of their byte strings. By hand, since `x.cmp(&y)`, which is proved as well, is slower: with it
+// a walk over rising rows takes 11 instructions a row and not 9, and a search among 255 rows 185 and not 160.
+#[tactic(auto, unfolding(crate::specs::Code::number, crate::specs::Parts::order, crate::specs::Parts::order_then))]
+pub fn compare(x: Id, y: Id) -> Ordering
     ensures { result ≡ order (number x) (number y) }
 {
-    if x.a != y.a {
-        return by_number(x.a, y.a, Order::Same);
+    if x.a < y.a {
+        return Ordering::Less;
+    }
+    if y.a < x.a {
+        return Ordering::Greater;
     }
     if x.b != y.b {
-        return by_number(x.b, y.b, Order::Same);
+        return x.b.cmp(&y.b);
     }
     if x.c != y.c {
-        return by_number(x.c, y.c, Order::Same);
+        return x.c.cmp(&y.c);
     }
-    by_number(x.d, y.d, Order::Same)
+    x.d.cmp(&y.d)
 }
 
-// The order of the ids that stand at two places, by their last three words.
-fn compare_rest(s: &[u8], at: usize, t: &[u8], from: usize) -> Order
-    requires { (at + 32 ≤ length s.now) × (from + 32 ≤ length t.now) }
-    ensures { result ≡ order_of_rest s.now at t.now from }
-{
-    let b = big64_at(s, at + 8);
-    let v = big64_at(t, from + 8);
-    if b != v {
-        return by_number(b, v, Order::Same);
-    }
-    let c = big64_at(s, at + 16);
-    let w = big64_at(t, from + 16);
-    if c != w {
-        return by_number(c, w, Order::Same);
-    }
-    by_number(big64_at(s, at + 24), big64_at(t, from + 24), Order::Same)
-}
-
-// The order of the ids that stand at two places. Where their first words differ no more is read.
-pub fn compare_at(s: &[u8], at: usize, t: &[u8], from: usize) -> Order
+// The order of the ids that stand at two places. The compiler reads no more than their first words where these differ.
+pub fn compare_at(s: &[u8], at: usize, t: &[u8], from: usize) -> Ordering
     requires { (at + 32 ≤ length s.now) × (from + 32 ≤ length t.now) }
     ensures { result ≡ order (id_at s.now at) (id_at t.now from) }
 {
-    let x = big64_at(s, at);
-    let y = big64_at(t, from);
-    if x < y {
-        return Order::Less;
-    }
-    if y < x {
-        return Order::More;
-    }
-    compare_rest(s, at, t, from)
+    compare(id_at(s, at), id_at(t, from))
 }
 
-// The order of the id that stands at a place and an id. Where their first words differ no more is read.
-pub fn compare_to(s: &[u8], at: usize, id: Id) -> Order
+// The order of the id that stands at a place and an id. Here too the first word is mostly all that is read.
+pub fn compare_to(s: &[u8], at: usize, id: Id) -> Ordering
     requires { at + 32 ≤ length s.now }
     ensures { result ≡ order (id_at s.now at) (number id) }
 {
-    let x = big64_at(s, at);
-    if x < id.a {
-        return Order::Less;
-    }
-    if id.a < x {
-        return Order::More;
-    }
     compare(id_at(s, at), id)
 }
 
 // F of a count of peers 3F+1.
-#[derive(Clone, Copy)]
+#[derive(Clone, Copy, PartialEq, Eq)]
 pub struct PeerCount(pub u8);
 
-#[derive(Clone, Copy)]
-pub enum PeerCountAnswer {
-    Count(PeerCount),
-    NotEnough,
+// The error of too few peers for one of them to fail.
+#[derive(Clone, Copy, PartialEq, Eq)]
+pub struct NotEnoughPeers;
+
+impl TryFrom<u8> for PeerCount {
+    type Error = NotEnoughPeers;
+
+    #[tactic(auto, unfolding(crate::specs::Parts::peer_count))]
+    fn try_from(total_peers: u8) -> Result<PeerCount, NotEnoughPeers>
+        ensures { peer_count_of (result_ok result) ≡ peer_count total_peers }
+    {
+        if total_peers < 3 {
+            return Err(NotEnoughPeers);
+        }
+        let total = total_peers as u16;
+        Ok(PeerCount(((total + 1) / 3) as u8))
+    }
 }
 
 impl PeerCount {
     pub const GENESIS: PeerCount = PeerCount(0);
-
-    pub fn try_from(total_peers: u8) -> PeerCountAnswer
-        ensures { peer_count_of result ≡ peer_count total_peers }
-    {
-        if total_peers < 3 {
-            return PeerCountAnswer::NotEnough;
-        }
-        let total = total_peers as u16;
-        PeerCountAnswer::Count(PeerCount(((total + 1) / 3) as u8))
-    }
 
     pub fn full(self) -> usize
         ensures { result ≡ full self.0 }
@@ -271,8 +207,5 @@ impl PeerCount {
 pub fn rounds_back(round: u32, rounds: u32) -> u32
     ensures { result ≡ round - rounds }
 {
-    if round < rounds {
-        return 0;
-    }
-    round - rounds
+    round.saturating_sub(rounds)
 }

@@ -1,25 +1,63 @@
--- Laws of points: what a record gives that was read, and the steps of its reading.
-use Prim.Native.Nat.{ℕ, zero, suc, ◌*◌, ◌≤◌}
+-- Laws of points: what a record of the right shape holds, and what one gives that was read.
+use Rattle.std.specs.Prelude.{Option, None, Some, option_map}
+use Prim.Native.Nat.{ℕ, ◌*◌, ◌≤◌}
 use native.Mathlib.Omega.{arith}
 use mathlib.Core.Path.{◌≡◌, refl, sym}
-use mathlib.Core.Bool.{Bool, true, false, ◌&&◌, and-eq-true_iff}
-use mathlib.Core.Option.{Option, none, some, map, get_or}
+use mathlib.Core.Bool.{true, ◌&&◌, and-eq-true_iff}
 use mathlib.Core.List.{List}
 use lib.ListN.{length}
-use Rattle.base.specs.Base.{pick, and_then}
+use Rattle.base.specs.Base.{and_then}
 use Rattle.base.proofs.Option.{picked, none-some}
+use Rattle.parts.specs.Bytes.{little_at}
 use Rattle.map.specs.Rows.{Pair, peers_of, pairs_of, peers, rising, well_rowed}
 use Rattle.map.proofs.Laws.{peers_of-length, pairs_of-length, peers-pairs_of, well_rowed-rising, well_rowed-whole}
-use Rattle.record.specs.Record.{rows, row_of, content_of, well_shaped}
-use Rattle.record.proofs.Laws.{content-greatest}
-use Rattle.point.specs.Point.{PointId, Through, Includes, Witness, AnchorLink, PointInfo, through_round, through_peer, through_map, digest_safe, is_anchor_stage, through, anchor_link, source, target, top, anchor, is_wave_link_ok}
+use Rattle.record.specs.Record.{rows, row_of, start_of, content_of, well_shaped}
+use Rattle.record.proofs.Laws.{end_is, shaped-end, content-least, content-greatest, third-start, start-most}
+use Rattle.point.specs.Point.{Through, Includes, Witness, AnchorLink, PointInfo, through_map, anchor_link}
 use Rattle.point.specs.Reading.{point_id_at, read_link, read_role, maps_ok, point_in, read_point}
-use Rattle.point.specs.Code.{point_of, link_in}
+use Rattle.point.specs.Code.{point_of, link_in, Reads}
 use Rattle.point.specs.declared.data.PointRole.{PointRole}
-use Rattle.point.specs.declared.data.PointRole.TheVariants.{AnchorProof}
 use Rattle.point.specs.declared.data.AnchorStageRole.{AnchorStageRole}
 use Rattle.point.specs.declared.data.AnchorStageRole.TheVariants.{Proof, Trigger}
 use Rattle.point.specs.declared.info.PointInfo as code-info
+
+-- ---- what a record of the right shape holds
+
+pub start_first : (s : List ℕ) → start_of s 0 ≡ 0
+unfolding start_of
+start_first s = refl
+
+module _ (s : List ℕ) (w : well_shaped s ≡ true) where
+  pub start_third : start_of s 2 ≡ 82
+  start_third = third-start s w
+
+  pub start_last : start_of s 9 ≡ length s
+  start_last = end_is s (length s) (shaped-end s w)
+
+  pub start_small : (k : ℕ) → start_of s k ≤ 41126
+  start_small k = start-most s w k
+
+  pub id_long : 68 ≤ length (content_of s 0)
+  unfolding row_of rows
+  id_long = content-least s w 0 (omega arith)
+
+  pub payload_long : 8 ≤ length (content_of s 1)
+  unfolding row_of rows
+  payload_long = content-least s w 1 (omega arith)
+
+  pub proof_long : 34 ≤ length (content_of s 5)
+  unfolding row_of rows
+  proof_long = content-least s w 5 (omega arith)
+
+  pub trigger_long : 34 ≤ length (content_of s 6)
+  unfolding row_of rows
+  trigger_long = content-least s w 6 (omega arith)
+
+  pub times_long : 16 ≤ length (content_of s 8)
+  unfolding row_of rows
+  times_long = content-least s w 8 (omega arith)
+
+pub ruleset shape_facts = (start_first, start_third, start_last, start_small, id_long, payload_long, proof_long, trigger_long, times_long)
 
 -- ---- a point that was read
 
@@ -60,24 +98,26 @@ pub record PartsOf (s : List ℕ) (a b : Option AnchorLink) (p : PointInfo) : Ty
   pub includes : p.includes ≡ pairs_of (content_of s 2)
   pub witness : p.witness ≡ pairs_of (content_of s 3)
   pub evidence : p.evidence ≡ peers_of 32 (content_of s 4)
-  pub proof : a ≡ some p.anchor_proof
-  pub trigger : b ≡ some p.anchor_trigger
+  pub proof : a ≡ Some p.anchor_proof
+  pub trigger : b ≡ Some p.anchor_trigger
+  pub time : p.time ≡ little_at 8 (content_of s 8) 0
+  pub anchor_time : p.anchor_time ≡ little_at 8 (content_of s 8) 8
 
 -- what is read of a record past its tests: up to its links and its role
 abbrev pub reads : List ℕ → Option AnchorLink → Option AnchorLink → Option PointRole → Option PointInfo
-reads s a b r = and_then a (λ p. and_then b (λ t. map (point_in s p t) r))
+reads s a b r = and_then a (λ p. and_then b (λ t. option_map (point_in s p t) r))
 
-parts_with : (s : List ℕ) (a b : Option AnchorLink) (r : Option PointRole) (p : PointInfo) → reads s a b r ≡ some p → PartsOf s a b p
-parts_with s none b r p e = none-some e
-parts_with s (some x) none r p e = none-some e
-parts_with s (some x) (some y) none p e = none-some e
-parts_with s (some x) (some y) (some r) p e = record { id = cc; includes = cc; witness = cc; evidence = cc; proof = cc; trigger = cc }
+parts_with : (s : List ℕ) (a b : Option AnchorLink) (r : Option PointRole) (p : PointInfo) → reads s a b r ≡ Some p → PartsOf s a b p
+parts_with s None b r p e = none-some e
+parts_with s (Some x) None r p e = none-some e
+parts_with s (Some x) (Some y) None p e = none-some e
+parts_with s (Some x) (Some y) (Some r) p e = record { id = cc; includes = cc; witness = cc; evidence = cc; proof = cc; trigger = cc; time = cc; anchor_time = cc }
 
-pub parts-of : (s : List ℕ) (p : PointInfo) → read_point s ≡ some p → PartsOf s (read_link (content_of s 5)) (read_link (content_of s 6)) p
+pub parts-of : (s : List ℕ) (p : PointInfo) → read_point s ≡ Some p → PartsOf s (read_link (content_of s 5)) (read_link (content_of s 6)) p
 unfolding read_point
 parts-of s p h = parts_with s _ _ (read_role (content_of s 7)) p (picked (well_shaped s && maps_ok s) _ p h).1
 
-pub readable : (s : List ℕ) (p : PointInfo) → read_point s ≡ some p → Readable s p
+pub readable : (s : List ℕ) (p : PointInfo) → read_point s ≡ Some p → Readable s p
 unfolding read_point maps_ok row_of rows
 readable s p h =
     let all = picked (well_shaped s && maps_ok s) _ p h in
@@ -93,50 +133,34 @@ readable s p h =
     }
 
 -- the map that a link goes through rises
-pub through-rises : (s : List ℕ) (p : PointInfo) (t : Through) → read_point s ≡ some p → rising (peers (through_map t p)) ≡ true
-through-rises s p (Includes x) h = (readable s p h).includes.rise
-through-rises s p (Witness x) h = (readable s p h).witness.rise
+pub through_rises : (s : List ℕ) (p : PointInfo) (t : Through) → read_point s ≡ Some p → rising (peers (through_map t p)) ≡ true
+through_rises s p (Includes x) h = (readable s p h).includes.rise
+through_rises s p (Witness x) h = (readable s p h).witness.rise
 
-pub through-few : (s : List ℕ) (p : PointInfo) (t : Through) → read_point s ≡ some p → length (through_map t p) ≤ 255
-through-few s p (Includes x) h = (readable s p h).includes.few
-through-few s p (Witness x) h = (readable s p h).witness.few
+pub through_few : (s : List ℕ) (p : PointInfo) (t : Through) → read_point s ≡ Some p → length (through_map t p) ≤ 255
+through_few s p (Includes x) h = (readable s p h).includes.few
+through_few s p (Witness x) h = (readable s p h).witness.few
 
--- ---- steps of the code
+-- the same of the record of a point of the code
+module _ (s : List ℕ) (i : code-info.PointInfo) (r : Reads s i) where
+  pub reads_shaped : well_shaped s ≡ true
+  reads_shaped = (readable s _ r.read).shaped
 
-module _ (s : List ℕ) where
-  pub unshaped : well_shaped s ≡ false → read_point s ≡ none
-  unfolding read_point
-  unshaped h = rw h
+  pub includes_rise : rising (peers (pairs_of (content_of s 2))) ≡ true
+  includes_rise = (readable s _ r.read).includes.rise
 
-  pub unrowed : well_shaped s ≡ true → maps_ok s ≡ false → read_point s ≡ none
-  unfolding read_point
-  unrowed h g = rw (h, g)
+  pub includes_few : length (pairs_of (content_of s 2)) ≤ 255
+  includes_few = (readable s _ r.read).includes.few
 
-  pub shaped-reads : well_shaped s ≡ true → maps_ok s ≡ true →
-      read_point s ≡ reads s (read_link (content_of s 5)) (read_link (content_of s 6)) (read_role (content_of s 7))
-  unfolding read_point
-  shaped-reads h g = rw (h, g)
+  pub read_rises : (t : Through) → rising (peers (through_map t (point_of s i))) ≡ true
+  read_rises t = through_rises s _ t r.read
+
+  pub read_few : (t : Through) → length (through_map t (point_of s i)) ≤ 255
+  read_few t = through_few s _ t r.read
+
+pub ruleset read_facts = (shape_facts, reads_shaped, includes_rise, includes_few, read_rises, read_few)
 
 -- the link of a role, of the code's point and of the point that it stands for
 pub link_in_lem : (g : AnchorStageRole) (s : List ℕ) (i : code-info.PointInfo) → link_in g i ≡ anchor_link g (point_of s i)
 link_in_lem Proof s i = refl
 link_in_lem Trigger s i = refl
-
--- the source of a link, by its parts
-pub source_is : (g : AnchorStageRole) (p : PointInfo) (t : Through) (r d a : ℕ) → t ≡ through (anchor_link g p) →
-    r ≡ through_round t p.id.round → d ≡ get_or (digest_safe p t) 0 → a ≡ through_peer t → record { round = r; digest = d; author = a } ≡ source g p
-unfolding source
-source_is g p t r d a e f h k = rw (f, h, k, e)
-
--- the view of a link, by its parts
-pub view-is : (g : AnchorStageRole) (p : PointInfo) (own : Bool) (t s : PointId) → own ≡ is_anchor_stage g p.role → t ≡ target g p → s ≡ source g p →
-    record { top = pick own p.id t; target = t; source = s } ≡ anchor g p
-unfolding anchor top
-view-is g p own t s e f h = rw (e, f, h)
-
--- a proof that is not the first of its sequence asks nothing of its link
-pub later-proof : (leader prev : Bool) (round : ℕ) (l : AnchorLink) (n : ℕ) (last : Bool) → (n ≡ 0 → ⊥) →
-    is_wave_link_ok leader prev round l (AnchorProof n last) ≡ true
-unfolding is_wave_link_ok
-later-proof leader prev round l zero last d = absurd (d refl)
-later-proof leader prev round l (suc n) last d = refl

@@ -1,6 +1,5 @@
 -- What the code's values stand for.
-use Rattle.std.specs.Prelude.{ℕ, List, ◌≡◌}
-use Rattle.std.proofs.Math.Option.{Option, none, some}
+use Rattle.std.specs.Prelude.{ℕ, List, ◌≡◌, Option, None, Some}
 use Rattle.parts.specs.Code.{number}
 use Rattle.map.specs.Rows.{peers_of, pairs_of}
 use Rattle.record.specs.Record.{start_of, content_of}
@@ -15,12 +14,7 @@ use Rattle.point.specs.declared.link.AnchorLink as code-link
 use Rattle.point.specs.declared.link.AnchorLink.TheVariants as case-link
 use Rattle.point.specs.declared.info.PointInfo as code-info
 use Rattle.point.specs.declared.info.AnchorView as code_view
-use Rattle.point.specs.declared.read.ReadPoint as code-read-point
-use Rattle.point.specs.declared.read.ReadPoint.TheVariants as case-read-point
-use Rattle.point.specs.declared.info.ThroughId as code-through-id
-use Rattle.point.specs.declared.info.ThroughId.TheVariants as case-through-id
 use Rattle.point.specs.declared.info.StickyAnchors as code-sticky
-use Rattle.point.specs.declared.info.StickyAnchors.TheVariants as case-sticky
 
 abbrev pub point_id_of : code-id.PointId → PointId
 point_id_of i = record { round = i.round; digest = number i.digest; author = number i.author }
@@ -60,19 +54,14 @@ view_of v = record { top = point_id_of v.top; target = point_id_of v.target; sou
 
 -- what the reader gave for a record: the point that it says, and where its maps end
 pub record Reads (s : List ℕ) (i : code-info.PointInfo) : Type 0 where
-  pub read : read_point s ≡ some (point_of s i)
+  pub read : read_point s ≡ Some (point_of s i)
   pub includes : i.includes_end ≡ start_of s 3
   pub witness : i.witness_end ≡ start_of s 4
   pub evidence : i.evidence_end ≡ start_of s 5
 
-abbrev pub PointRead : List ℕ → code-read-point.ReadPoint → Type 0
-PointRead s (case-read-point.Point i) = Reads s i
-PointRead s case-read-point.Unreadable = read_point s ≡ none
+abbrev pub PointRead : List ℕ → Option code-info.PointInfo → Type 0
+PointRead s (Some i) = Reads s i
+PointRead s None = read_point s ≡ None
 
-abbrev pub through_id_of : code-through-id.ThroughId → Option PointId
-through_id_of (case-through-id.Id i) = some (point_id_of i)
-through_id_of case-through-id.Absent = none
-
-abbrev pub sticky_of : code-sticky.StickyAnchors → Option Sticky
-sticky_of (case-sticky.Sticky n l) = some (record { seq_no = n; is_last = l })
-sticky_of case-sticky.NoSticky = none
+abbrev pub sticky_of : code-sticky.StickyAnchors → Sticky
+sticky_of x = record { seq_no = x.seq_no; is_last = x.is_last }

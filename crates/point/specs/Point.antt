@@ -1,7 +1,6 @@
 -- Points as values, and what data.rs, link.rs and info.rs ask of them.
 -- Peers and digests are numbers: the 32 bytes read with the first byte highest, so that < is the order of byte strings.
-use Rattle.std.specs.Prelude.{ℕ, zero, suc, ◌-◌, Bool, true, false, not, ◌&&◌, List, leb, ltb, eqb}
-use Rattle.std.proofs.Math.Option.{Option, none, some, map, get_or}
+use Rattle.std.specs.Prelude.{ℕ, zero, suc, ◌-◌, Bool, true, false, not, ◌&&◌, List, leb, ltb, eqb, Option, None, Some, option_map, unwrap_or}
 use Rattle.base.specs.Base.{pick}
 use Rattle.parts.specs.Limits.{first_round, last_round}
 use Rattle.map.specs.Rows.{Pair, get}
@@ -122,7 +121,7 @@ digest_safe p t = get (through_map t p) (through_peer t)
 -- PointData::through_id
 unfoldable pub through_id : PointInfo → Through → Option PointId
 unfolding digest_safe
-through_id p t = map (λ d. record { round = through_round t p.id.round; digest = d; author = through_peer t }) (digest_safe p t)
+through_id p t = option_map (λ d. record { round = through_round t p.id.round; digest = d; author = through_peer t }) (digest_safe p t)
 
 -- ---- info.rs
 
@@ -134,7 +133,7 @@ prev_digest p = get p.includes p.id.author
 -- PointInfo::prev_id
 unfoldable pub prev_id : PointInfo → Option PointId
 unfolding prev_digest
-prev_id p = map (λ d. record { round = p.id.round - 1; digest = d; author = p.id.author }) (prev_digest p)
+prev_id p = option_map (λ d. record { round = p.id.round - 1; digest = d; author = p.id.author }) (prev_digest p)
 
 -- the number of a proof in its sequence, and whether it is the last
 pub record Sticky : Type 0 where
@@ -143,10 +142,10 @@ pub record Sticky : Type 0 where
 
 -- PointInfo::sticky_anchors
 abbrev pub sticky_anchors : PointRole → Option Sticky
-sticky_anchors Regular = none
-sticky_anchors (AnchorProof n l) = some (record { seq_no = n; is_last = l })
-sticky_anchors AnchorTrigger = none
-sticky_anchors Genesis = none
+sticky_anchors Regular = None
+sticky_anchors (AnchorProof n l) = Some (record { seq_no = n; is_last = l })
+sticky_anchors AnchorTrigger = None
+sticky_anchors Genesis = None
 
 abbrev pub through : AnchorLink → Through
 through (Direct t) = t
@@ -165,7 +164,7 @@ unfolding digest_safe
 source g p =
     record {
       round = through_round (through (anchor_link g p)) p.id.round;
-      digest = get_or (digest_safe p (through (anchor_link g p))) 0;
+      digest = unwrap_or (digest_safe p (through (anchor_link g p))) 0;
       author = through_peer (through (anchor_link g p));
     }
 

@@ -1,6 +1,5 @@
 -- What the bytes of a point record mean, and what the code's values stand for.
-use Rattle.std.specs.Prelude.{ℕ, ◌+◌, Bool, ◌&&◌, List, length, get_or, leb, eqb}
-use Rattle.std.proofs.Math.Option.{Option, none, some, map}
+use Rattle.std.specs.Prelude.{ℕ, ◌+◌, Bool, ◌&&◌, List, length, get_or, leb, eqb, Option, None, Some, option_map}
 use Rattle.base.specs.Base.{pick, and_then}
 use Rattle.parts.specs.Bytes.{id_at, little_at}
 use Rattle.map.specs.Rows.{peers_of, pairs_of, well_rowed}
@@ -18,25 +17,25 @@ point_id_at s at = record { round = little_at 4 s at; digest = id_at s (at + 4);
 -- tags 6 and 7: "map (0 includes, 1 witness), peer (32)", after the kind
 unfoldable pub read_through : List ℕ → Option Through
 read_through s =
-    pick (eqb (get_or s 1 0) 0) (some (Includes (id_at s 2)))
-    (pick (eqb (get_or s 1 0) 1) (some (Witness (id_at s 2))) none)
+    pick (eqb (get_or s 1 0) 0) (Some (Includes (id_at s 2)))
+    (pick (eqb (get_or s 1 0) 1) (Some (Witness (id_at s 2))) None)
 
 -- "kind (0 direct, 1 indirect)"; "indirect adds a target id (68)"
 unfoldable pub read_link : List ℕ → Option AnchorLink
 unfolding read_through point_id_at
 read_link s = and_then (read_through s) (λ t.
-    pick (eqb (length s) 34 && eqb (get_or s 0 0) 0) (some (Direct t))
-    (pick (eqb (length s) 102 && eqb (get_or s 0 0) 1) (some (Indirect (point_id_at s 34) t)) none))
+    pick (eqb (length s) 34 && eqb (get_or s 0 0) 0) (Some (Direct t))
+    (pick (eqb (length s) 102 && eqb (get_or s 0 0) 1) (Some (Indirect (point_id_at s 34) t)) None))
 
 -- tag 8: "0 regular, 1 proof then seq_no (1) and is_last (0 or 1), 2 trigger, 3 genesis"
 unfoldable pub read_role : List ℕ → Option PointRole
 read_role s =
     pick (eqb (length s) 1)
-    (pick (eqb (get_or s 0 0) 0) (some Regular)
-    (pick (eqb (get_or s 0 0) 2) (some AnchorTrigger)
-    (pick (eqb (get_or s 0 0) 3) (some Genesis) none)))
+    (pick (eqb (get_or s 0 0) 0) (Some Regular)
+    (pick (eqb (get_or s 0 0) 2) (Some AnchorTrigger)
+    (pick (eqb (get_or s 0 0) 3) (Some Genesis) None)))
     (pick (eqb (length s) 3 && (eqb (get_or s 0 0) 1 && leb (get_or s 2 0) 1))
-    (some (AnchorProof (get_or s 1 0) (eqb (get_or s 2 0) 1))) none)
+    (Some (AnchorProof (get_or s 1 0) (eqb (get_or s 2 0) 1))) None)
 
 -- tags 3, 4 and 5: whole rows, rising
 unfoldable pub maps_ok : List ℕ → Bool
@@ -65,5 +64,5 @@ unfoldable pub read_point : List ℕ → Option PointInfo
 unfolding well_shaped maps_ok content_of read_link read_role point_id_at
 read_point s =
     pick (well_shaped s && maps_ok s)
-    (and_then (read_link (content_of s 5)) (λ p. and_then (read_link (content_of s 6)) (λ t. map (point_in s p t) (read_role (content_of s 7)))))
-    none
+    (and_then (read_link (content_of s 5)) (λ p. and_then (read_link (content_of s 6)) (λ t. option_map (point_in s p t) (read_role (content_of s 7)))))
+    None

@@ -3,20 +3,20 @@ ghost use Rattle.std.specs.Prelude.{◌≡◌};
 ghost use Rattle.point.specs.Point.{is_anchor_proof, is_anchor_trigger, is_anchor_stage, requires_prev_point};
 
 // Evidence is at r, includes at r-1, witness at r-2.
-#[derive(Clone, Copy)]
+#[derive(Clone, Copy, PartialEq, Eq)]
 pub enum PointMap {
     Evidence,
     Includes,
     Witness,
 }
 
-#[derive(Clone, Copy)]
+#[derive(Clone, Copy, PartialEq, Eq)]
 pub enum AnchorStageRole {
     Proof,
     Trigger,
 }
 
-#[derive(Clone, Copy)]
+#[derive(Clone, Copy, PartialEq, Eq)]
 pub enum PointRole {
     Regular,
     AnchorProof { seq_no: u8, is_last: bool },
@@ -28,15 +28,7 @@ impl PointRole {
     pub fn is_anchor_proof(self) -> bool
         ensures { result ≡ is_anchor_proof self }
     {
-        match self {
-            PointRole::Regular => false,
-            PointRole::AnchorProof {
-                seq_no: _,
-                is_last: _,
-            } => true,
-            PointRole::AnchorTrigger => false,
-            PointRole::Genesis => true,
-        }
+        matches!(self, PointRole::AnchorProof { .. } | PointRole::Genesis)
     }
 
     pub fn is_anchor_trigger(self) -> bool
@@ -44,9 +36,8 @@ impl PointRole {
     {
         match self {
             PointRole::Regular => false,
-            PointRole::AnchorProof { seq_no, is_last: _ } => 0 < seq_no,
-            PointRole::AnchorTrigger => true,
-            PointRole::Genesis => true,
+            PointRole::AnchorProof { seq_no, .. } => 0 < seq_no,
+            PointRole::AnchorTrigger | PointRole::Genesis => true,
         }
     }
 
@@ -62,14 +53,9 @@ impl PointRole {
     pub fn requires_prev_point(self) -> bool
         ensures { result ≡ requires_prev_point self }
     {
-        match self {
-            PointRole::Regular => false,
-            PointRole::AnchorProof {
-                seq_no: _,
-                is_last: _,
-            } => true,
-            PointRole::AnchorTrigger => true,
-            PointRole::Genesis => false,
-        }
+        matches!(
+            self,
+            PointRole::AnchorProof { .. } | PointRole::AnchorTrigger
+        )
     }
 }

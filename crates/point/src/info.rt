@@ -1,19 +1,17 @@
 // PointInfo and AnchorView: the port of info.rs. What the Rust asks of a point's maps is asked of its record.
-ghost use Rattle.std.specs.Prelude.{◌≡◌};
-ghost use Rattle.std.proofs.Math.Option.{get_or};
+ghost use Rattle.std.specs.Prelude.{◌≡◌, ◌&&◌, leb, option_map};
+ghost use Rattle.parts.specs.Limits.{first_round, last_round};
 ghost use Rattle.map.specs.Rows.{pairs_of};
-ghost use Rattle.map.specs.Code.{found_of};
 ghost use Rattle.record.specs.Record.{content_of};
 ghost use Rattle.parts.specs.Code.{number};
 ghost use Rattle.point.specs.Point.{same_id, in_domain, is_wave_link_ok, through_map, digest_safe, through_id, prev_digest, sticky_anchors, source, target_of, anchor};
-ghost use Rattle.point.specs.Code.{point_id_of, through_of, link_of, link_in, point_of, view_of, through_id_of, sticky_of, Reads};
+ghost use Rattle.point.specs.Code.{point_id_of, through_of, link_of, link_in, point_of, view_of, sticky_of, Reads};
 
 use crate::data::{AnchorStageRole, PointRole};
 use crate::link::{AnchorLink, Through};
-use map::Found;
 use parts::Id;
 
-#[derive(Clone, Copy)]
+#[derive(Clone, Copy, PartialEq, Eq)]
 pub struct PointId {
     pub round: u32,
     pub digest: Id,
@@ -36,16 +34,10 @@ pub struct PointInfo {
     pub evidence_end: u16,
 }
 
-#[derive(Clone, Copy)]
-pub enum StickyAnchors {
-    Sticky { seq_no: u8, is_last: bool },
-    NoSticky,
-}
-
-#[derive(Clone, Copy)]
-pub enum ThroughId {
-    Id(PointId),
-    Absent,
+#[derive(Clone, Copy, PartialEq, Eq)]
+pub struct StickyAnchors {
+    pub seq_no: u8,
+    pub is_last: bool,
 }
 
 // AnchorView, which borrows in the Rust, by value.
@@ -63,40 +55,39 @@ pub const NO_POINT: PointId = PointId {
     author: parts::NO_ID,
 };
 
-// PartialEq of PointId.
+// Whether two ids are the same, as the definitions say it: `==` compares their words.
+#[tactic(auto, using(crate::proofs::Ids::same_words), unfolding(crate::specs::Point::same_id))]
 pub fn is_same_id(x: PointId, y: PointId) -> bool
     ensures { result ≡ same_id (point_id_of x) (point_id_of y) }
 {
-    if x.round != y.round {
-        return false;
-    }
-    if !parts::same(x.digest, y.digest) {
-        return false;
-    }
-    parts::same(x.author, y.author)
+    x == y
+}
+
+// The last time of the domain, 2^63 - 1.
+const LAST_TIME: u64 = i64::MAX as u64;
+
+// Whether a point of this round and these times lies in the domain.
+pub(crate) fn are_in_domain(round: u32, time: u64, anchor_time: u64) -> bool
+    ensures { result ≡ (leb first_round round && (leb round last_round && (leb time LAST_TIME && leb anchor_time LAST_TIME))) }
+{
+    (parts::FIRST_ROUND..=parts::LAST_ROUND).contains(&round)
+        && time <= LAST_TIME
+        && anchor_time <= LAST_TIME
 }
 
 // Whether a point's round and times lie in the domain.
+#[tactic(auto, unfolding(crate::specs::Point::in_domain))]
 pub fn is_in_domain(rec: &[u8], info: PointInfo) -> bool
     ensures { result ≡ in_domain (point_of rec.now info) }
 {
-    let id = info.id;
-    if id.round < parts::FIRST_ROUND {
-        return false;
-    }
-    if parts::LAST_ROUND < id.round {
-        return false;
-    }
-    if 9223372036854775807 < info.time {
-        return false;
-    }
-    info.anchor_time <= 9223372036854775807
+    are_in_domain(info.id.round, info.time, info.anchor_time)
 }
 
 // Where the field of the includes starts: the two fields before it have one length.
-const INCLUDES: usize = 82;
+pub const INCLUDES: usize = 82;
 
-// The includes, the witness and the evidence of a record, as parts of it.
+// The includes, the witness and the evidence of a record, as parts of it: each is one call of what they share, `content_from`.
+#[tactic(auto, using(crate::proofs::Laws::read_facts))]
 pub fn includes(rec: &[u8], info: PointInfo) -> &[u8]
     requires { Reads rec.now info }
     ensures { result.now ≡ content_of rec.now 2 }
@@ -104,6 +95,7 @@ pub fn includes(rec: &[u8], info: PointInfo) -> &[u8]
     record::content_from(rec, INCLUDES, info.includes_end as usize, 2)
 }
 
+#[tactic(auto, using(crate::proofs::Laws::read_facts))]
 pub fn witness(rec: &[u8], info: PointInfo) -> &[u8]
     requires { Reads rec.now info }
     ensures { result.now ≡ content_of rec.now 3 }
@@ -116,6 +108,7 @@ pub fn witness(rec: &[u8], info: PointInfo) -> &[u8]
     )
 }
 
+#[tactic(auto, using(crate::proofs::Laws::read_facts))]
 pub fn evidence(rec: &[u8], info: PointInfo) -> &[u8]
     requires { Reads rec.now info }
     ensures { result.now ≡ content_of rec.now 4 }
@@ -129,33 +122,24 @@ pub fn evidence(rec: &[u8], info: PointInfo) -> &[u8]
 }
 
 impl PointInfo {
+    #[tactic(auto, unfolding(crate::specs::Point::is_wave_link_ok))]
     pub fn is_wave_link_ok(self, is_leader: bool, has_prev_point: bool) -> bool
         ensures { result ≡ is_wave_link_ok is_leader has_prev_point self.id.round (link_of self.anchor_proof) self.role }
     {
-        let role = self.role;
-        let id = self.id;
-        let far = self.anchor_proof.is_wave_far_enough(id.round);
-        match role {
+        let far = self.anchor_proof.is_wave_far_enough(self.id.round);
+        match self.role {
             PointRole::Regular => !(is_leader && has_prev_point && far),
-            PointRole::AnchorProof { seq_no, is_last: _ } => {
-                if seq_no == 0 { is_leader && far } else { true }
-            }
-            PointRole::AnchorTrigger => true,
-            PointRole::Genesis => true,
+            PointRole::AnchorProof { seq_no, .. } => seq_no != 0 || (is_leader && far),
+            PointRole::AnchorTrigger | PointRole::Genesis => true,
         }
     }
 
-    pub fn sticky_anchors(self) -> StickyAnchors
-        ensures { sticky_of result ≡ sticky_anchors self.role }
+    pub fn sticky_anchors(self) -> Option<StickyAnchors>
+        ensures { option_map sticky_of result ≡ sticky_anchors self.role }
     {
-        let role = self.role;
-        match role {
-            PointRole::Regular => StickyAnchors::NoSticky,
-            PointRole::AnchorProof { seq_no, is_last } => {
-                StickyAnchors::Sticky { seq_no, is_last }
-            }
-            PointRole::AnchorTrigger => StickyAnchors::NoSticky,
-            PointRole::Genesis => StickyAnchors::NoSticky,
+        match self.role {
+            PointRole::AnchorProof { seq_no, is_last } => Some(StickyAnchors { seq_no, is_last }),
+            _ => None,
         }
     }
 
@@ -170,12 +154,12 @@ impl PointInfo {
 }
 
 // The digest of the author's previous point, of a record and what was read of it.
-pub fn prev_digest(rec: &[u8], info: PointInfo) -> Found
+#[tactic(auto, using(crate::proofs::Laws::read_facts), unfolding(crate::specs::Point::prev_digest))]
+pub fn prev_digest(rec: &[u8], info: PointInfo) -> Option<Id>
     requires { Reads rec.now info }
-    ensures { found_of result ≡ prev_digest (point_of rec.now info) }
+    ensures { option_map number result ≡ prev_digest (point_of rec.now info) }
 {
-    let id = info.id;
-    map::get(includes(rec, info), id.author)
+    map::get(includes(rec, info), info.id.author)
 }
 
 // The map that a link goes through. It is chosen before the search, so that digest_safe is short enough to stand where it
@@ -191,50 +175,38 @@ fn map_of(rec: &[u8], info: PointInfo, through: Through) -> &[u8]
 }
 
 // The digest beside the peer that a link goes through.
-pub fn digest_safe(rec: &[u8], info: PointInfo, through: Through) -> Found
+#[tactic(auto, using(crate::proofs::Laws::read_facts), unfolding(crate::specs::Point::digest_safe))]
+pub fn digest_safe(rec: &[u8], info: PointInfo, through: Through) -> Option<Id>
     requires { Reads rec.now info }
-    ensures { found_of result ≡ digest_safe (point_of rec.now info) (through_of through) }
+    ensures { option_map number result ≡ digest_safe (point_of rec.now info) (through_of through) }
 {
     map::get(map_of(rec, info, through), through.peer())
 }
 
 // The point that a link goes through.
-pub fn through_id(rec: &[u8], info: PointInfo, through: Through) -> ThroughId
+#[tactic(auto, unfolding(crate::specs::Point::through_id))]
+pub fn through_id(rec: &[u8], info: PointInfo, through: Through) -> Option<PointId>
     requires { Reads rec.now info }
-    ensures { through_id_of result ≡ through_id (point_of rec.now info) (through_of through) }
+    ensures { option_map point_id_of result ≡ through_id (point_of rec.now info) (through_of through) }
 {
-    let id = info.id;
-    let found = digest_safe(rec, info, through);
-    match found {
-        Found::Digest(digest) => ThroughId::Id(PointId {
-            round: through.round(id.round),
-            digest,
-            author: through.peer(),
-        }),
-        Found::Absent => ThroughId::Absent,
-    }
-}
-
-// The digest that was found, or zeros.
-fn digest_or_zero(found: Found) -> Id
-    ensures { number result ≡ get_or (found_of found) 0 }
-{
-    match found {
-        Found::Digest(digest) => digest,
-        Found::Absent => parts::NO_ID,
-    }
+    let digest = digest_safe(rec, info, through)?;
+    Some(PointId {
+        round: through.round(info.id.round),
+        digest,
+        author: through.peer(),
+    })
 }
 
 // The source of a link.
+#[tactic(auto, using(parts::proofs::Laws::number_zero), unfolding(crate::specs::Point::source))]
 fn source(rec: &[u8], info: PointInfo, role: AnchorStageRole) -> PointId
     requires { Reads rec.now info }
     ensures { point_id_of result ≡ source role (point_of rec.now info) }
 {
-    let id = info.id;
     let through = info.anchor_link(role).through();
     PointId {
-        round: through.round(id.round),
-        digest: digest_or_zero(digest_safe(rec, info, through)),
+        round: through.round(info.id.round),
+        digest: digest_safe(rec, info, through).unwrap_or(parts::NO_ID),
         author: through.peer(),
     }
 }
@@ -250,23 +222,17 @@ fn target(source: PointId, link: AnchorLink) -> PointId
 }
 
 // The view of an anchor link: where it goes through, where it leads, and the point itself where it has the role.
+#[tactic(auto, unfolding(crate::specs::Point::anchor))]
 pub fn anchor(rec: &[u8], info: PointInfo, role: AnchorStageRole) -> AnchorView
     requires { Reads rec.now info }
     ensures { view_of result ≡ anchor role (point_of rec.now info) }
 {
     let source = source(rec, info, role);
     let target = target(source, info.anchor_link(role));
-    let own = info.role;
-    if own.is_anchor_stage(role) {
-        let top = info.id;
-        return AnchorView {
-            top,
-            target,
-            source,
-        };
-    }
+    let has_role = info.role.is_anchor_stage(role);
+    let top = if has_role { info.id } else { target };
     AnchorView {
-        top: target,
+        top,
         target,
         source,
     }

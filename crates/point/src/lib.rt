@@ -11,8 +11,8 @@ mod read;
 pub use data::{AnchorStageRole, PointMap, PointRole};
 pub use front::{is_point, is_record_in_domain};
 pub use info::{
-    AnchorView, NO_POINT, PointId, PointInfo, StickyAnchors, ThroughId, anchor, digest_safe,
+    AnchorView, INCLUDES, NO_POINT, PointId, PointInfo, StickyAnchors, anchor, digest_safe,
     evidence, includes, is_in_domain, is_same_id, prev_digest, through_id, witness,
 };
 pub use link::{AnchorLink, IndirectLink, Through};
-pub use read::{ReadPoint, known_point, point_id_at, read_point, read_shaped};
+pub use read::{known_point, point_id_at, read_point, read_shaped};

@@ -7,19 +7,19 @@ ghost use Rattle.point.specs.Code.{through_of, link_of};
 use crate::info::PointId;
 use parts::Id;
 
-#[derive(Clone, Copy)]
+#[derive(Clone, Copy, PartialEq, Eq)]
 pub enum Through {
     Includes(Id),
     Witness(Id),
 }
 
-#[derive(Clone, Copy)]
+#[derive(Clone, Copy, PartialEq, Eq)]
 pub struct IndirectLink {
     pub to: PointId,
     pub through: Through,
 }
 
-#[derive(Clone, Copy)]
+#[derive(Clone, Copy, PartialEq, Eq)]
 pub enum AnchorLink {
     Direct(Through),
     Indirect(IndirectLink),
@@ -30,8 +30,7 @@ impl Through {
         ensures { number result ≡ through_peer (through_of self) }
     {
         match self {
-            Through::Includes(peer) => peer,
-            Through::Witness(peer) => peer,
+            Through::Includes(peer) | Through::Witness(peer) => peer,
         }
     }
 
@@ -62,8 +61,7 @@ impl AnchorLink {
         match self {
             AnchorLink::Direct(_) => false,
             AnchorLink::Indirect(link) => {
-                let to = link.to;
-                parts::WAVE_ROUNDS <= parts::rounds_back(current_round, to.round)
+                parts::WAVE_ROUNDS <= parts::rounds_back(current_round, link.to.round)
             }
         }
     }

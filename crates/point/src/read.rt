@@ -1,7 +1,5 @@
 // The reader of point records.
-ghost use Rattle.std.specs.Prelude.{◌≡◌, true, ◌+◌, ◌≤◌, length};
-ghost use Rattle.std.proofs.Math.Option.{some};
-ghost use Rattle.base.specs.Base.{is_some};
+ghost use Rattle.std.specs.Prelude.{◌≡◌, true, ◌+◌, ◌≤◌, length, Some, is_some};
 ghost use Rattle.record.specs.Record.{well_shaped};
 ghost use Rattle.record.specs.Code.{PlacesOf};
 ghost use Rattle.point.specs.Reading.{point_id_at, read_through, read_link, read_role, read_point};
@@ -13,13 +11,8 @@ use crate::info::{PointId, PointInfo};
 use crate::link::{AnchorLink, IndirectLink, Through};
 use record::Places;
 
-#[derive(Clone, Copy)]
-pub enum ReadPoint {
-    Point(PointInfo),
-    Unreadable,
-}
-
 // The id whose round, digest and author stand at a place.
+#[tactic(auto, unfolding(crate::specs::Reading::point_id_at))]
 pub fn point_id_at(s: &[u8], at: usize) -> PointId
     requires { at + 68 ≤ length s.now }
     ensures { point_id_of result ≡ point_id_at s.now at }
@@ -32,46 +25,52 @@ pub fn point_id_at(s: &[u8], at: usize) -> PointId
 }
 
 // The map and the peer of a link that can be read, after its kind.
+#[tactic(auto, unfolding(crate::specs::Reading::read_through))]
 fn through_of(s: &[u8]) -> Through
     requires { (34 ≤ length s.now) × (is_some (read_through s.now) ≡ true) }
-    ensures { read_through s.now ≡ some (through_of result) }
+    ensures { read_through s.now ≡ Some (through_of result) }
 {
     let peer = parts::id_at(s, 2);
     if s[1] == 0 {
-        return Through::Includes(peer);
+        Through::Includes(peer)
+    } else {
+        Through::Witness(peer)
     }
-    Through::Witness(peer)
 }
 
+#[tactic(auto, unfolding(crate::specs::Reading::read_link))]
 fn link_of(s: &[u8]) -> AnchorLink
     requires { (34 ≤ length s.now) × (is_some (read_link s.now) ≡ true) }
-    ensures { read_link s.now ≡ some (link_of result) }
+    ensures { read_link s.now ≡ Some (link_of result) }
 {
     let through = through_of(s);
-    if s[0] == 0 {
-        return AnchorLink::Direct(through);
+    match s[0] {
+        0 => AnchorLink::Direct(through),
+        _ => AnchorLink::Indirect(IndirectLink {
+            to: point_id_at(s, 34),
+            through,
+        }),
     }
-    let to = point_id_at(s, 34);
-    AnchorLink::Indirect(IndirectLink { to, through })
 }
 
+#[tactic(auto, unfolding(crate::specs::Reading::read_role))]
 fn role_of(s: &[u8]) -> PointRole
     requires { is_some (read_role s.now) ≡ true }
-    ensures { read_role s.now ≡ some result }
+    ensures { read_role s.now ≡ Some result }
 {
-    let kind = s[0];
-    match kind {
-        0 => PointRole::Regular,
-        1 => PointRole::AnchorProof {
-            seq_no: s[1],
-            is_last: s[2] == 1,
+    match s {
+        [0, ..] => PointRole::Regular,
+        [1, seq_no, is_last] => PointRole::AnchorProof {
+            seq_no: *seq_no,
+            is_last: *is_last == 1,
         },
-        2 => PointRole::AnchorTrigger,
+        [2, ..] => PointRole::AnchorTrigger,
         _ => PointRole::Genesis,
     }
 }
 
 // What a record says that is a point, its fields at these places: nothing of it is tested.
+#[tactic(auto, using(crate::proofs::Known::point_facts))]
 fn point_of(rec: &[u8], at: Places) -> PointInfo
     requires { (is_some (read_point rec.now) ≡ true) × PlacesOf rec.now at }
     ensures { Reads rec.now result }
@@ -101,6 +100,7 @@ fn point_of(rec: &[u8], at: Places) -> PointInfo
 }
 
 // What a record says that was read before.
+#[tactic(auto, using(crate::proofs::Known::point_facts))]
 pub fn known_point(rec: &[u8]) -> PointInfo
     requires { is_some (read_point rec.now) ≡ true }
     ensures { Reads rec.now result }
@@ -109,23 +109,22 @@ pub fn known_point(rec: &[u8]) -> PointInfo
 }
 
 // What a record of the right shape says.
-pub fn read_shaped(rec: &[u8]) -> ReadPoint
+pub fn read_shaped(rec: &[u8]) -> Option<PointInfo>
     requires { well_shaped rec.now ≡ true }
     ensures { PointRead rec.now result }
 {
     let at = record::find_places(rec);
-    if !front::is_point(rec, at) {
-        return ReadPoint::Unreadable;
-    }
-    ReadPoint::Point(point_of(rec, at))
+    front::is_point(rec, at).then(|| point_of(rec, at))
 }
 
 // What a slice that holds one point record says.
-pub fn read_point(rec: &[u8]) -> ReadPoint
+#[tactic(auto, unfolding(crate::specs::Reading::read_point))]
+pub fn read_point(rec: &[u8]) -> Option<PointInfo>
     ensures { PointRead rec.now result }
 {
-    if !record::is_well_shaped(rec) {
-        return ReadPoint::Unreadable;
+    if record::is_well_shaped(rec) {
+        read_shaped(rec)
+    } else {
+        None
     }
-    read_shaped(rec)
 }

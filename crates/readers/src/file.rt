@@ -2,7 +2,6 @@
 // and record; every other blob is passed over.
 ghost use Rattle.std.specs.Prelude.{◌≤◌, length};
 
-use crate::mix::add;
 use crate::tally::Tally;
 use crate::{damage, tally};
 use case_files::Head;
@@ -43,58 +42,40 @@ enum Blob {
 }
 
 fn blob_at(kind: u8, i: u8) -> Blob {
-    if kind == 0 {
-        return Blob::Other;
-    }
-    if 2 < kind {
-        return Blob::Other;
-    }
-    match i {
-        0 => Blob::Settings,
-        1 => Blob::Schedule,
-        2 => Blob::Record,
+    match (kind, i) {
+        (1 | 2, 0) => Blob::Settings,
+        (1 | 2, 1) => Blob::Schedule,
+        (1 | 2, 2) => Blob::Record,
         _ => Blob::Other,
     }
 }
 
 // Counts a record, and if it is short and among the first, its damaged copies.
-fn record(c: Counts, buf: &mut [u8], n: usize) -> Counts
+fn record(c: &mut Counts, buf: &mut [u8], n: usize)
     requires { n ≤ length buf.old }
 {
-    let mut c = c;
-    c.records = tally::record(c.records, &buf[0..n]);
-    if LONGEST_DAMAGED < n {
-        return c;
+    c.records.record(&buf[..n]);
+    if n <= LONGEST_DAMAGED && n < buf.len() && c.damaged < RECORDS_DAMAGED {
+        c.damaged += 1;
+        damage::damage(&mut c.copies, buf, n);
     }
-    if buf.len() <= n {
-        return c;
-    }
-    if RECORDS_DAMAGED <= c.damaged {
-        return c;
-    }
-    c.damaged = add(c.damaged, 1);
-    c.copies = damage::damage(c.copies, buf, n);
-    c
 }
 
-fn count(c: Counts, blob: Blob, buf: &mut [u8], n: usize) -> Counts
+fn count(mut c: Counts, blob: Blob, buf: &mut [u8], n: usize) -> Counts
     requires { n ≤ length buf.old }
 {
-    let mut c = c;
     match blob {
-        Blob::Settings => c.settings = tally::settings(c.settings, &buf[0..n]),
-        Blob::Schedule => c.schedules = tally::schedule(c.schedules, &buf[0..n]),
-        Blob::Record => return record(c, buf, n),
+        Blob::Settings => c.settings.settings(&buf[..n]),
+        Blob::Schedule => c.schedules.schedule(&buf[..n]),
+        Blob::Record => record(&mut c, buf, n),
         Blob::Other => {}
     }
     c
 }
 
-fn too_long(c: Counts, blob: Blob) -> Counts {
-    let mut c = c;
-    match blob {
-        Blob::Settings | Blob::Schedule | Blob::Record => c.too_long = add(c.too_long, 1),
-        Blob::Other => {}
+fn too_long(mut c: Counts, blob: Blob) -> Counts {
+    if !matches!(blob, Blob::Other) {
+        c.too_long = c.too_long.wrapping_add(1);
     }
     c
 }
@@ -108,13 +89,10 @@ fn run_blob<R: Read>(c: Counts, file: &mut R, blob: Blob, buf: &mut [u8]) -> Cou
     count(c, blob, buf, read.end)
 }
 
-fn run_case<R: Read>(c: Counts, file: &mut R, head: Head, buf: &mut [u8]) -> Counts {
-    let mut c = c;
-    c.cases = add(c.cases, 1);
-    let mut i = 0;
-    while i < head.blobs {
+fn run_case<R: Read>(mut c: Counts, file: &mut R, head: Head, buf: &mut [u8]) -> Counts {
+    c.cases = c.cases.wrapping_add(1);
+    for i in 0..head.blobs {
         c = run_blob(c, file, blob_at(head.kind, i), buf);
-        i += 1;
     }
     c
 }
@@ -122,14 +100,12 @@ fn run_case<R: Read>(c: Counts, file: &mut R, head: Head, buf: &mut [u8]) -> Cou
 // A proved loop has to end, and nothing says that a file does: so the turns are counted down.
 pub fn run<R: Read>(file: &mut R, buf: &mut [u8]) -> Counts {
     let mut c = NONE;
-    let mut turns = u64::MAX;
-    while 0 < turns {
+    for _ in 0..u64::MAX {
         let head = case_files::read_head(file);
         if !head.is_there {
             return c;
         }
         c = run_case(c, file, head, buf);
-        turns -= 1;
     }
     c
 }

@@ -25,27 +25,23 @@ fn line(rt: &impl Print, name: &str, n: u64) -> io::Result<()> {
 }
 
 fn report_cases(rt: &impl Print, c: Counts) -> io::Result<()> {
-    let settings = c.settings;
-    let schedules = c.schedules;
-    let records = c.records;
-    let sum = mix(mix(mix(0, settings.sum), schedules.sum), records.sum);
+    let sum = mix(mix(mix(0, c.settings.sum), c.schedules.sum), c.records.sum);
     line(rt, "cases", c.cases)?;
     line(rt, "too long", c.too_long)?;
-    line(rt, "settings usable", settings.readable)?;
-    line(rt, "settings unusable", settings.unreadable)?;
-    line(rt, "schedules readable", schedules.readable)?;
-    line(rt, "schedules unreadable", schedules.unreadable)?;
-    line(rt, "records readable", records.readable)?;
-    line(rt, "records unreadable", records.unreadable)?;
+    line(rt, "settings usable", c.settings.readable)?;
+    line(rt, "settings unusable", c.settings.unreadable)?;
+    line(rt, "schedules readable", c.schedules.readable)?;
+    line(rt, "schedules unreadable", c.schedules.unreadable)?;
+    line(rt, "records readable", c.records.readable)?;
+    line(rt, "records unreadable", c.records.unreadable)?;
     line(rt, "sum", sum)
 }
 
 fn report_copies(rt: &impl Print, c: Counts) -> io::Result<()> {
-    let copies = c.copies;
     line(rt, "records damaged", c.damaged)?;
-    line(rt, "damaged copies readable", copies.readable)?;
-    line(rt, "damaged copies unreadable", copies.unreadable)?;
-    line(rt, "damaged copies sum", copies.sum)
+    line(rt, "damaged copies readable", c.copies.readable)?;
+    line(rt, "damaged copies unreadable", c.copies.unreadable)?;
+    line(rt, "damaged copies sum", c.copies.sum)
 }
 
 // The first argument, in a buffer; nothing where there is none that is text of the buffer's length.
@@ -53,10 +49,7 @@ fn argument<'a>(rt: &impl Env, buf: &'a mut [u8]) -> &'a str {
     let Ok(n) = rt.arg(1, buf) else {
         return "";
     };
-    match std::str::from_utf8(&buf[..n]) {
-        Ok(path) => path,
-        Err(_) => "",
-    }
+    std::str::from_utf8(&buf[..n]).unwrap_or("")
 }
 
 fn main(rt: HostRuntime) -> io::Result<()> {

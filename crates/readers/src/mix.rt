@@ -4,24 +4,13 @@ use point::PointId;
 
 const FACTOR: u64 = 2654435761;
 
-const HALF: u64 = 4294967296;
-
-pub fn add(x: u64, y: u64) -> u64 {
-    std::num::wrapping_add_u64(x, y)
-}
-
-// The sum times FACTOR plus the number, in 64 bits. The product is taken by halves, so that neither part overflows.
+// The sum times FACTOR plus the number, in 64 bits.
 pub fn mix(sum: u64, x: u64) -> u64 {
-    let low = sum % HALF * FACTOR;
-    let high = sum / HALF * FACTOR % HALF * HALF;
-    add(add(low, high), x)
+    sum.wrapping_mul(FACTOR).wrapping_add(x)
 }
 
 pub fn mix_flag(sum: u64, flag: bool) -> u64 {
-    if flag {
-        return mix(sum, 1);
-    }
-    mix(sum, 0)
+    mix(sum, u64::from(flag))
 }
 
 pub fn mix_id(sum: u64, id: Id) -> u64 {
@@ -29,17 +18,25 @@ pub fn mix_id(sum: u64, id: Id) -> u64 {
 }
 
 pub fn mix_point_id(sum: u64, id: PointId) -> u64 {
-    mix_id(mix_id(mix(sum, id.round as u64), id.digest), id.author)
+    mix_id(mix_id(mix(sum, u64::from(id.round)), id.digest), id.author)
+}
+
+// Whether a value is there, and it.
+pub fn mix_option<T, F: FnOnce(u64, T) -> u64>(sum: u64, value: Option<T>, mix_some: F) -> u64
+    requires { F.IsAlwaysCallable mix_some }
+{
+    match value {
+        Some(x) => mix_some(mix(sum, 1), x),
+        None => mix(sum, 0),
+    }
 }
 
 // How many peers a set has, and each.
 pub fn sum_of_set(rows: &[u8]) -> u64 {
     let n = map::count(rows, 32);
     let mut sum = mix(0, n as u64);
-    let mut i = 0;
-    while i < n {
+    for i in 0..n {
         sum = mix_id(sum, map::peer_at(rows, 32, i));
-        i += 1;
     }
     sum
 }
@@ -48,11 +45,9 @@ pub fn sum_of_set(rows: &[u8]) -> u64 {
 pub fn sum_of_map(rows: &[u8]) -> u64 {
     let n = map::count(rows, 64);
     let mut sum = mix(0, n as u64);
-    let mut i = 0;
-    while i < n {
+    for i in 0..n {
         let peer = mix_id(sum, map::peer_at(rows, 64, i));
         sum = mix_id(peer, map::digest_at(rows, i));
-        i += 1;
     }
     sum
 }

@@ -1,9 +1,7 @@
 // How many were read and how many not, and a sum in which each of them shows.
-use crate::mix::{add, mix};
+use crate::mix::{mix, mix_option};
 use crate::point_sum::sum_of_point;
 use crate::schedule_sum::{sum_of_schedule, sum_of_settings};
-use point::ReadPoint;
-use schedule::ReadSettings;
 
 #[derive(Clone, Copy)]
 pub struct Tally {
@@ -18,42 +16,25 @@ pub const NONE: Tally = Tally {
     sum: 0,
 };
 
-fn with(t: Tally, sum: u64) -> Tally {
-    Tally {
-        readable: add(t.readable, 1),
-        unreadable: t.unreadable,
-        sum: mix(mix(t.sum, 1), sum),
+impl Tally {
+    // One more, by the sum of what was read.
+    fn count(&mut self, read: Option<u64>) {
+        match read {
+            Some(_) => self.readable = self.readable.wrapping_add(1),
+            None => self.unreadable = self.unreadable.wrapping_add(1),
+        }
+        self.sum = mix_option(self.sum, read, mix);
     }
-}
 
-fn without(t: Tally) -> Tally {
-    Tally {
-        readable: t.readable,
-        unreadable: add(t.unreadable, 1),
-        sum: mix(t.sum, 0),
+    pub fn settings(&mut self, s: &[u8]) {
+        self.count(schedule::read_settings(s).map(sum_of_settings));
     }
-}
 
-pub fn settings(t: Tally, s: &[u8]) -> Tally {
-    let read = schedule::read_settings(s);
-    match read {
-        ReadSettings::Settings(c) => with(t, sum_of_settings(c)),
-        ReadSettings::Unusable => without(t),
+    pub fn schedule(&mut self, s: &[u8]) {
+        self.count(schedule::read_schedule(s).map(|c| sum_of_schedule(s, c)));
     }
-}
 
-pub fn schedule(t: Tally, s: &[u8]) -> Tally {
-    let read = schedule::read_schedule(s);
-    if !read.readable {
-        return without(t);
-    }
-    with(t, sum_of_schedule(s, read.schedule))
-}
-
-pub fn record(t: Tally, rec: &[u8]) -> Tally {
-    let read = point::read_point(rec);
-    match read {
-        ReadPoint::Point(p) => with(t, sum_of_point(rec, p)),
-        ReadPoint::Unreadable => without(t),
+    pub fn record(&mut self, rec: &[u8]) {
+        self.count(point::read_point(rec).map(|p| sum_of_point(rec, p)));
     }
 }

@@ -1,7 +1,6 @@
 -- What judging finds (InvalidReason, verifier.rs 94-133, and InvalidDependency, verifier.rs 157-160), and document 01's number and
 -- values of each reason.
-use Rattle.std.specs.Prelude.{ℕ, Bool, true, false, ◌&&◌, ◌||◌, leb, eqb}
-use Rattle.std.proofs.Math.Option.{Option, none, some}
+use Rattle.std.specs.Prelude.{ℕ, Bool, true, false, ◌&&◌, ◌||◌, leb, eqb, Option, None, Some}
 use Rattle.base.specs.Base.{pick}
 use Rattle.point.specs.Point.{PointId, Through, no_point}
 use Rattle.point.specs.declared.data.AnchorStageRole.{AnchorStageRole}
@@ -35,8 +34,8 @@ named n i m g a b = answer 2 n i m g a b 0 0 0
 
 -- 2^32−1 where there is none
 abbrev pub prev_seq_no : Option ℕ → ℕ
-prev_seq_no none = 4294967295
-prev_seq_no (some n) = n
+prev_seq_no None = 4294967295
+prev_seq_no (Some n) = n
 
 -- "Reason numbers count the variants as declared: .. 1 to 19 for `InvalidReason`, where 1 is `AfterLoadFromDb` with a DAG
 -- round and 20 without". Each has the point id that it names; 16 the seq_no and the previous one, 17 a 1 if it is of the target, 18
@@ -67,12 +66,12 @@ invalid_number r = (invalid_answer r).reason
 -- InvalidReason::has_dag_round, verifier.rs 147-153: "Reason numbers 2, 3 and 20 have no DAG round"; none of a number that counts no reason
 unfoldable pub dag_round : ℕ → Option Bool
 dag_round n =
-    pick (eqb n 2 || (eqb n 3 || eqb n 20)) (some false)
-    (pick (leb 1 n && leb n 19) (some true) none)
+    pick (eqb n 2 || (eqb n 3 || eqb n 20)) (Some false)
+    (pick (leb 1 n && leb n 19) (Some true) None)
 
 abbrev pub is_yes : Option Bool → Bool
-is_yes none = false
-is_yes (some b) = b
+is_yes None = false
+is_yes (Some b) = b
 
 abbrev pub has_dag_round : ℕ → Bool
 has_dag_round n = is_yes (dag_round n)

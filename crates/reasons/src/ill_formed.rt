@@ -1,6 +1,8 @@
 // What verification finds: IllFormedReason, VerifyError and StructureIssue.
 ghost use Rattle.std.specs.Prelude.{◌≡◌};
 ghost use Rattle.reasons.specs.IllFormed.{ill_formed_number};
+ghost use Rattle.reasons.specs.declared.ill_formed.IllFormedReason.TheVariants.{Structure};
+ghost use Rattle.reasons.specs.declared.ill_formed.VerifyError.TheVariants.{IllFormed};
 
 use parts::PeerCount;
 use point::{AnchorStageRole, PointMap};
@@ -47,13 +49,6 @@ pub enum IllFormedReason {
     BadWaveLink(bool),
 }
 
-// Result<(), StructureIssue>
-#[derive(Clone, Copy)]
-pub enum Checked {
-    Sound,
-    Issue(StructureIssue),
-}
-
 // A peer set of a length that verification can't use, at a round, for a map.
 #[derive(Clone, Copy)]
 pub struct UninitVset {
@@ -68,11 +63,20 @@ pub enum VerifyError {
     IllFormed(IllFormedReason),
 }
 
-// Result<(), VerifyError>
-#[derive(Clone, Copy)]
-pub enum Verified {
-    Passed,
-    Failed(VerifyError),
+impl From<IllFormedReason> for VerifyError {
+    ghost from_gives = { λ reason e. e ≡ IllFormed reason };
+
+    fn from(reason: IllFormedReason) -> VerifyError {
+        VerifyError::IllFormed(reason)
+    }
+}
+
+impl From<StructureIssue> for VerifyError {
+    ghost from_gives = { λ issue e. e ≡ IllFormed (Structure issue) };
+
+    fn from(issue: StructureIssue) -> VerifyError {
+        VerifyError::IllFormed(IllFormedReason::Structure(issue))
+    }
 }
 
 // What Verifier::check_ill_formed finds: a round outside the schedule's horizon, a fault, or sound; then whether regular points are required.
@@ -81,13 +85,6 @@ pub enum WaveChecked {
     Horizon,
     IllFormed(IllFormedReason),
     Sound(bool),
-}
-
-// Document 01's number in place of a verdict, or what verification found.
-#[derive(Clone, Copy)]
-pub enum VerifyAnswer {
-    Number(u8),
-    Verdict(Verified),
 }
 
 impl IllFormedReason {

@@ -1,16 +1,9 @@
 // What judging finds: InvalidReason and InvalidDependency.
 ghost use Rattle.std.specs.Prelude.{◌≡◌};
 ghost use Rattle.reasons.specs.Invalid.{invalid_number, dag_round, has_dag_round};
-ghost use Rattle.reasons.specs.Code.{reason_of, dag_round_of};
+ghost use Rattle.reasons.specs.Code.{reason_of};
 
 use point::{AnchorStageRole, PointId, PointMap, Through};
-
-// The seq_no of the proof before, if it has one.
-#[derive(Clone, Copy)]
-pub enum PrevSeqNo {
-    SeqNo(u8),
-    NoSeqNo,
-}
 
 // The Rust's AfterLoadFromDb, numbers 1 and 20, is never given by judging: it has no case here. A dependency's own reason
 // is its number.
@@ -44,7 +37,7 @@ pub enum InvalidReason {
     },
     BadStickySequence {
         dependency: PointId,
-        prev_seq_no: PrevSeqNo,
+        prev_seq_no: Option<u8>,
         seq_no: u8,
     },
     TriggerProofMismatch {
@@ -64,14 +57,6 @@ pub struct InvalidDependency {
     pub to: PointId,
     pub reason: u8,
     pub through: Through,
-}
-
-// Whether a reason has a DAG round, by its number.
-#[derive(Clone, Copy)]
-pub enum DagRound {
-    Has,
-    HasNot,
-    NoReason,
 }
 
 impl InvalidReason {
@@ -102,25 +87,20 @@ impl InvalidReason {
 }
 
 // Whether the reason of a number has a DAG round, and whether there is such a reason.
-pub fn dag_round(number: u8) -> DagRound
-    ensures { dag_round_of result ≡ dag_round number }
+pub fn dag_round(number: u8) -> Option<bool>
+    ensures { result ≡ dag_round number }
 {
     match number {
-        1 => DagRound::Has,
-        2..=3 => DagRound::HasNot,
-        4..=19 => DagRound::Has,
-        20 => DagRound::HasNot,
-        _ => DagRound::NoReason,
+        1 => Some(true),
+        2..=3 => Some(false),
+        4..=19 => Some(true),
+        20 => Some(false),
+        _ => None,
     }
 }
 
 pub fn has_dag_round(number: u8) -> bool
     ensures { result ≡ has_dag_round number }
 {
-    let round = dag_round(number);
-    match round {
-        DagRound::Has => true,
-        DagRound::HasNot => false,
-        DagRound::NoReason => false,
-    }
+    dag_round(number) == Some(true)
 }

@@ -3,13 +3,10 @@
 
 mod ill_formed;
 mod invalid;
+mod refusal;
 mod verdict;
 
-pub use ill_formed::{
-    Checked, IllFormedReason, StructureIssue, UninitVset, Verified, VerifyAnswer, VerifyError,
-    WaveChecked,
-};
-pub use invalid::{
-    DagRound, InvalidDependency, InvalidReason, PrevSeqNo, dag_round, has_dag_round,
-};
+pub use ill_formed::{IllFormedReason, StructureIssue, UninitVset, VerifyError, WaveChecked};
+pub use invalid::{InvalidDependency, InvalidReason, dag_round, has_dag_round};
+pub use refusal::Refusal;
 pub use verdict::Verdict;

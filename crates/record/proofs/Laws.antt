@@ -1,25 +1,26 @@
 -- Laws of fields one after the other, and of records of nine of them.
+use Rattle.std.specs.Prelude.{Option, None, Some, MatchOption, is_some}
+use Rattle.std.specs.Bool.{then_some}
 use Prim.Native.Nat.{ℕ, zero, suc, ◌+◌, ◌-◌, ◌≤◌, ◌<◌}
 use native.Mathlib.Omega.{arith}
 use native.Mathlib.Decide.{dec_lt}
 use mathlib.Core.Path.{◌≡◌, refl, ap, sym, ◌∙◌}
 use mathlib.Core.List.{List, [], ◌∷◌, ◌++◌}
-use mathlib.Core.Option.{Option, none, some}
-use mathlib.Core.Bool.{Bool, true, false, ◌&&◌}
+use mathlib.Core.Bool.{Bool, true, false}
 use lib.ListN.{length, get_or, take, drop, length-take, length-drop, length-append}
 use lib.Seq.{drop-cons, take-take, get_or-take, length-take-le, take-length, take-append_seam}
 use lib.Dec.{leb, eqb}
-use borrow.Author.Tests.{leb-true, leb-false, eqb-true, le-leb, lt-leb, eq-eqb, ne_eqb}
+use Rattle.std.proofs.lemmas.Bool.Decides.{nat_tests}
+use native.Mathlib.Numerals.{add-one}
+use borrow.Author.Tests.{eqb-true, le-leb, lt-leb}
 use Rattle.base.specs.Base.{pick, is_some_and}
-use Rattle.base.proofs.Bool.{and_left, and_right, and_both}
-use Rattle.base.proofs.Option.{picked}
-use Rattle.base.proofs.Impossible.{impossible}
+use Rattle.base.proofs.Option.{picked, some_of}
 use Rattle.parts.specs.Bytes.{bytes_at, little_at}
 use Rattle.parts.proofs.Laws.{part_front}
 use Rattle.record.specs.declared.Row.{Row}
 use Rattle.record.specs.Record.{length_at, next_at, content_at, field_ok, end_from, start_of, content_of, field_row, rows, row_of, record_end, well_shaped}
 use Rattle.record.specs.declared.Places.{Places}
-use Rattle.record.specs.Code.{PlacesOf, next_if, next_after}
+use Rattle.record.specs.Code.{PlacesOf, Walked, length_if}
 
 -- ---- one field
 
@@ -27,10 +28,6 @@ module _ (s : List ℕ) (at : ℕ) where
   pub next-within : next_at s at ≤ length s
   unfolding next_at
   next-within = omega arith
-
-  pub next-after : at ≤ length s → at ≤ next_at s at
-  unfolding next_at
-  next-after h = omega arith
 
   pub next-whole : at + 3 + length_at s at ≤ length s → next_at s at ≡ at + 3 + length_at s at
   unfolding next_at
@@ -54,16 +51,13 @@ module _ (row : Row) (s : List ℕ) (at : ℕ) where
   pub fitting : field_ok row s at ≡ true → Fitting row s at
   unfolding field_ok
   fitting h =
-      let r1 = and_right (leb (at + 3) (length s)) _ h in
-      let r2 = and_right (eqb (get_or s at 0) row.tag) _ r1 in
-      let r3 = and_right (leb row.least (length_at s at)) _ r2 in
-      let within = leb-true _ _ (and_right (leb (length_at s at) row.greatest) _ r3) in
+      let within : at + 3 + length_at s at ≤ length s = grind (arith, nat_tests) in
       let whole = next-whole s at within in
       record {
-        head = leb-true _ _ (and_left (leb (at + 3) (length s)) _ h);
-        tag = eqb-true _ _ (and_left (eqb (get_or s at 0) row.tag) _ r1);
-        least = leb-true _ _ (and_left (leb row.least (length_at s at)) _ r2);
-        greatest = leb-true _ _ (and_left (leb (length_at s at) row.greatest) _ r3);
+        head = omega arith;
+        tag = grind (arith, nat_tests);
+        least = grind (arith, nat_tests);
+        greatest = grind (arith, nat_tests);
         end = within;
         next = whole;
         content = omega (arith, content-length s at, whole);
@@ -73,28 +67,21 @@ module _ (row : Row) (s : List ℕ) (at : ℕ) where
   pub field-last : at + 3 ≤ length s → get_or s at 0 ≡ row.tag → row.least ≤ length_at s at → length_at s at ≤ row.greatest →
       field_ok row s at ≡ leb (at + 3 + length_at s at) (length s)
   unfolding field_ok
-  field-last h t l g = simp (le-leb _ _ h, eq-eqb _ _ t, le-leb _ _ l, le-leb _ _ g)
+  field-last h t l g = grind (arith, nat_tests)
 
 -- how many bytes a field of a fixed length takes, at the front
 pub field-length : (tag n : ℕ) (s : List ℕ) → field_ok (field_row tag n n) s 0 ≡ true → 3 + n ≤ length s
 field-length tag n s h = let f = fitting (field_row tag n n) s 0 h in omega (arith, f.least, f.end)
 
--- a number is at most what a length leaves a place exactly if it ends within the length
-pub room : (n l at : ℕ) → at ≤ l → leb n (l - at) ≡ leb (at + n) l
-room n l at h = elim (dec_lt l (at + n)) [
-  | yes g ↦ lt-leb n (l - at) (omega arith) ∙ sym (lt-leb (at + n) l g)
-  | no g ↦ le-leb n (l - at) (omega arith) ∙ sym (le-leb (at + n) l (omega arith))
-]
-
 -- no field whose head is cut off fits
 no_head_lem : (row : Row) (s : List ℕ) (at : ℕ) → length s < at + 3 → field_ok row s at ≡ false
 unfolding field_ok
-no_head_lem row s at h = rw (lt-leb (at + 3) (length s) h)
+no_head_lem row s at h = grind (arith, nat_tests)
 
 -- ---- a row of fields
 
 -- the fields of some rows end after where they start
-pub end_after : (rs : List Row) (s : List ℕ) (at n : ℕ) → end_from rs s at ≡ some n → at ≤ n
+pub end_after : (rs : List Row) (s : List ℕ) (at n : ℕ) → end_from rs s at ≡ Some n → at ≤ n
 unfolding end_from
 end_after [] s at n h = let e : at ≡ n = cc in omega arith
 end_after (r ∷ rs) s at n h =
@@ -106,7 +93,7 @@ abbrev pub most : List Row → ℕ
 most [] = 0
 most (r ∷ rs) = 3 + r.greatest + most rs
 
-pub end-most : (rs : List Row) (s : List ℕ) (at n : ℕ) → end_from rs s at ≡ some n → n ≤ at + most rs
+pub end-most : (rs : List Row) (s : List ℕ) (at n : ℕ) → end_from rs s at ≡ Some n → n ≤ at + most rs
 unfolding end_from
 end-most [] s at n h = let e : at ≡ n = cc in omega arith
 end-most (r ∷ rs) s at n h =
@@ -119,6 +106,10 @@ unfolding start_of
 start-within s zero = omega arith
 start-within s (suc k) = next-within s (start_of s k)
 
+pub start-next : (s : List ℕ) (k : ℕ) → start_of s (k + 1) ≡ next_at s (start_of s k)
+unfolding start_of
+start-next s k = rw (add-one k)
+
 -- ---- records
 
 -- where the nine fields end is where the fields of the rows from k on end
@@ -126,7 +117,7 @@ pub end-start : (s : List ℕ) → record_end s ≡ end_from (drop 0 rows) s 0
 unfolding record_end
 end-start s = refl
 
-pub record_most : (s : List ℕ) (n : ℕ) → record_end s ≡ some n → n ≤ 41126
+pub record_most : (s : List ℕ) (n : ℕ) → record_end s ≡ Some n → n ≤ 41126
 unfolding record_end rows
 record_most s n h = end-most rows s 0 n h
 
@@ -135,16 +126,16 @@ unfolding rows
 nine k h = h
 
 pub end_step : (s : List ℕ) (at k : ℕ) → k < 9 →
-    end_from (drop k rows) s at ≡ pick (field_ok (row_of k) s at) (end_from (drop (suc k) rows) s (next_at s at)) none
+    end_from (drop k rows) s at ≡ pick (field_ok (row_of k) s at) (end_from (drop (suc k) rows) s (next_at s at)) None
 unfolding row_of end_from
 end_step s at k h = ap (λ (l : List Row). end_from l s at) (drop-cons rows k (field_row 0 0 0) (nine k h))
 
-pub end-last : (s : List ℕ) (at : ℕ) → end_from (drop 9 rows) s at ≡ some at
+pub end-last : (s : List ℕ) (at : ℕ) → end_from (drop 9 rows) s at ≡ Some at
 unfolding rows end_from
 end-last s at = refl
 
-module _ (s : List ℕ) (e : ℕ) (h : record_end s ≡ some e) where
-  end-left : (k : ℕ) → k ≤ 9 → end_from (drop k rows) s (start_of s k) ≡ some e
+module _ (s : List ℕ) (e : ℕ) (h : record_end s ≡ Some e) where
+  end-left : (k : ℕ) → k ≤ 9 → end_from (drop k rows) s (start_of s k) ≡ Some e
   unfolding start_of
   end-left zero g = sym (end-start s) ∙ h
   end-left (suc k) g =
@@ -167,17 +158,25 @@ module _ (s : List ℕ) (e : ℕ) (h : record_end s ≡ some e) where
   pub end-within : e ≤ length s
   end-within = omega (arith, end_is, start-within s 9)
 
-ends_at : (o : Option ℕ) (n : ℕ) → is_some_and o (λ e. eqb e n) ≡ true → o ≡ some n
-ends_at none n h = impossible (cc)
-ends_at (some e) n h = ap some (eqb-true e n h)
+-- a record that is known to stand at the front of a list: where its fields lie, and where it ends
+module _ (s : List ℕ) (h : is_some (record_end s) ≡ true) where
+  pub known-within : (k at : ℕ) → k < 9 → at ≡ start_of s k → at + 3 + length_at s at ≤ length s
+  known-within k at g f = let e = some_of (record_end s) h in rw f (front-field s e.0 e.1 k g).end
 
-pub shaped-end : (s : List ℕ) → well_shaped s ≡ true → record_end s ≡ some (length s)
+  pub known-end : record_end s ≡ Some (start_of s 9)
+  known-end = let e = some_of (record_end s) h in e.1 ∙ ap Some (sym (end_is s e.0 e.1))
+
+ends_at : (o : Option ℕ) (n : ℕ) → is_some_and o (λ e. eqb e n) ≡ true → o ≡ Some n
+ends_at None n h = cc
+ends_at (Some e) n h = ap Some (eqb-true e n h)
+
+pub shaped-end : (s : List ℕ) → well_shaped s ≡ true → record_end s ≡ Some (length s)
 unfolding well_shaped
 shaped-end s w = ends_at (record_end s) (length s) w
 
-pub end-shaped : (s : List ℕ) → record_end s ≡ some (length s) → well_shaped s ≡ true
+pub end-shaped : (s : List ℕ) → record_end s ≡ Some (length s) → well_shaped s ≡ true
 unfolding well_shaped
-end-shaped s h = rw h (eq-eqb (length s) (length s) refl)
+end-shaped s h = grind (arith, nat_tests)
 
 module _ (s : List ℕ) (w : well_shaped s ≡ true) (k : ℕ) (h : k < 9) where
   -- field k of a record of the right shape fits its row
@@ -210,113 +209,62 @@ module _ (s : List ℕ) (w : well_shaped s ≡ true) where
 -- ---- the walk that tests a record and finds its places
 
 -- the record at the front of a slice is over where its head is cut off
-pub head_cut : (s : List ℕ) → length s < 3 → record_end s ≡ none
+pub head_cut : (s : List ℕ) → length s < 3 → record_end s ≡ None
 head_cut s h = end-start s ∙ (end_step s 0 0 (omega arith) ∙ rw (no_head_lem (row_of 0) s 0 h))
 
 module _ (row : Row) (s : List ℕ) (at : ℕ) where
-  next-by : (b : Bool) → (field_ok row s at && leb (next_at s at + 3) (length s)) ≡ b → next_if row s at ≡ pick b (next_at s at) 0
-  unfolding next_if
-  next-by b e = rw e
+  -- a field whose tag or length is not the row's does not fit
+  length-none : length_if row s at ≡ None → field_ok row s at ≡ false
+  unfolding length_if field_ok
+  length-none h = grind (arith, nat_tests)
 
-  -- the tests of the code
-  pub next_unfit : field_ok row s at ≡ false → next_if row s at ≡ 0
-  next_unfit f = next-by false (rw f)
+  -- else it fits if it lies in the list
+  length-some : (n : ℕ) → at + 3 ≤ length s → length_if row s at ≡ Some n → (n ≡ length_at s at) × (field_ok row s at ≡ leb (at + 3 + n) (length s))
+  unfolding length_if field_ok
+  length-some n g h = grind (arith, nat_tests)
 
-  pub next-short : length s < at + 3 + length_at s at + 3 → next_if row s at ≡ 0
-  next-short h = go (field_ok row s at) refl
-    where
-      go : (b : Bool) → field_ok row s at ≡ b → next_if row s at ≡ 0
-      go false e = next_unfit e
-      go true e = let n = (fitting row s at e).next in next-by false (rw e (lt-leb (next_at s at + 3) (length s) (omega arith)))
-
-  pub next_fits : field_ok row s at ≡ true → at + 3 + length_at s at + 3 ≤ length s → next_if row s at ≡ at + 3 + length_at s at
-  next_fits f h =
-      let n = (fitting row s at f).next in
-      next-by true (and_both (field_ok row s at) _ f (le-leb (next_at s at + 3) (length s) (omega arith))) ∙ n
-
-  next-found : (next_if row s at ≡ 0 → ⊥) → (field_ok row s at ≡ true) × ((next_at s at + 3 ≤ length s) × (next_if row s at ≡ next_at s at))
-  next-found d = go (field_ok row s at && leb (next_at s at + 3) (length s)) refl
-    where
-      go : (b : Bool) → (field_ok row s at && leb (next_at s at + 3) (length s)) ≡ b →
-          (field_ok row s at ≡ true) × ((next_at s at + 3 ≤ length s) × (next_if row s at ≡ next_at s at))
-      go true e = (and_left (field_ok row s at) _ e, (leb-true _ _ (and_right (field_ok row s at) _ e), next-by true e))
-      go false e = absurd (d (next-by false e))
-
-  next-refused : next_if row s at ≡ 0 → (field_ok row s at && leb (next_at s at + 3) (length s)) ≡ false
-  next-refused z = go (field_ok row s at && leb (next_at s at + 3) (length s)) refl
-    where
-      go : (b : Bool) → (field_ok row s at && leb (next_at s at + 3) (length s)) ≡ b →
-          (field_ok row s at && leb (next_at s at + 3) (length s)) ≡ false
-      go true e = absurd (omega (arith, (fitting row s at (and_left (field_ok row s at) _ e)).next, next-by true e, z))
-      go false e = e
-
--- the walk is at field k, whose head lies in the slice
-pub record Walked (s : List ℕ) (k at : ℕ) : Type 0 where
-  pub left : record_end s ≡ end_from (drop k rows) s at
-  pub start : at ≡ start_of s k
-  pub head : at + 3 ≤ length s
-
-module _ (s : List ℕ) (k at : ℕ) (w : Walked s k at) where
-  module _ (h : k < 8) where
-    walk_on : (next_if (row_of k) s at ≡ 0 → ⊥) → Walked s (suc k) (next_if (row_of k) s at)
-    unfolding start_of
-    walk_on d =
-        let f = next-found (row_of k) s at d in
-        record {
-          left = w.left ∙ (end_step s at k (omega arith) ∙ rw (f.0, f.1.1));
-          start = f.1.1 ∙ ap (next_at s) w.start;
-          head = rw f.1.1 f.1.0;
-        }
-
-    walk_off : next_if (row_of k) s at ≡ 0 → record_end s ≡ none
-    walk_off z = w.left ∙ (end_step s at k (omega arith) ∙ go (field_ok (row_of k) s at) refl)
-      where
-        go : (b : Bool) → field_ok (row_of k) s at ≡ b → pick (field_ok (row_of k) s at) (end_from (drop (suc k) rows) s (next_at s at)) none ≡ none
-        go false e = rw e
-        go true e =
-            let l : leb (next_at s at + 3) (length s) ≡ false = rw e at (next-refused (row_of k) s at z) in
-            rw e (end_step s (next_at s at) (suc k) (omega arith) ∙ rw (no_head_lem (row_of (suc k)) s (next_at s at) (leb-false _ _ l)))
-
-  module _ (e : k ≡ 8) where
-    pub walk_end : field_ok (row_of 8) s at ≡ true → record_end s ≡ some (next_at s at)
-    walk_end f = w.left ∙ rw (e, end_step s at 8 (omega arith), f) (end-last s (next_at s at))
-
-    pub walk_cut : field_ok (row_of 8) s at ≡ false → record_end s ≡ none
-    walk_cut f = w.left ∙ rw (e, end_step s at 8 (omega arith), f)
-
--- the same of a walk that says by 0 that there is no record
-unfoldable pub Walk : List ℕ → ℕ → ℕ → Type 0
-Walk s k zero = record_end s ≡ none
-Walk s k (suc n) = Walked s k (suc n)
-
-walk-to : (s : List ℕ) (k at r : ℕ) → k < 8 → Walked s k at → r ≡ next_if (row_of k) s at → Walk s (suc k) r
-unfolding Walk
-walk-to s k at zero h w e = walk_off s k at w h (sym e)
-walk-to s k at (suc m) h w e = rw e (walk_on s k at w h (λ z. omega (arith, e, z)))
-
-pub walk_first : (s : List ℕ) (r : ℕ) → 3 ≤ length s → r ≡ next_if (row_of 0) s 0 → Walk s 1 r
+pub walk_start : (s : List ℕ) → 3 ≤ length s → Walked s 0 0
 unfolding start_of
-walk_first s r h e = walk-to s 0 0 r (omega arith) (record { left = end-start s; start = refl; head = h }) e
+walk_start s h = record { left = end-start s; start = refl; head = h }
 
-pub walk-next : (s : List ℕ) (k at r : ℕ) → k < 8 → Walk s k at → r ≡ next_after (row_of k) s at → Walk s (suc k) r
-unfolding Walk next_after
-walk-next s k zero r h w e = rw e w
-walk-next s k (suc n) r h w e = walk-to s k (suc n) r h w (e ∙ rw (ne_eqb (suc n) 0 (λ z. omega (arith, z))))
+-- a field that doesn't fit ends the walk, and after one that fits it goes on
+module _ (s : List ℕ) (k at : ℕ) (left : record_end s ≡ end_from (drop k rows) s at) (h : k < 9) where
+  pub walk_off : field_ok (row_of k) s at ≡ false → record_end s ≡ None
+  walk_off f = left ∙ (end_step s at k h ∙ rw f)
 
-pub walked : (s : List ℕ) (k at : ℕ) → Walk s k at → (at ≡ 0 → ⊥) → Walked s k at
-unfolding Walk
-walked s k zero w d = absurd (d refl)
-walked s k (suc n) w d = w
+  pub walk_past : field_ok (row_of k) s at ≡ true → record_end s ≡ end_from (drop (suc k) rows) s (next_at s at)
+  walk_past f = left ∙ (end_step s at k h ∙ rw f)
 
-pub walk_none : (s : List ℕ) (k at : ℕ) → Walk s k at → at ≡ 0 → record_end s ≡ none
-unfolding Walk
-walk_none s k zero w z = w
-walk_none s k (suc n) w z = absurd (omega (arith, z))
+-- a field whose tag or length is not its row's ends it too
+pub walk_unfit : (s : List ℕ) (k at : ℕ) → Walked s k at → k < 9 → None ≡ length_if (row_of k) s at → record_end s ≡ None
+walk_unfit s k at w h e = walk_off s k at w.left h (length-none (row_of k) s at (sym e))
 
--- what was found after a field was found after one that was
-pub walk-back : (row : Row) (s : List ℕ) (at r : ℕ) → r ≡ next_after row s at → (r ≡ 0 → ⊥) → at ≡ 0 → ⊥
-unfolding next_after
-walk-back row s at r e d z = d (e ∙ rw (eq-eqb at 0 z))
+module _ (s : List ℕ) (k at n : ℕ) (w : Walked s k at) (h : k < 8) (e : Some n ≡ length_if (row_of k) s at) where
+  ok : at + 3 + n ≤ length s → field_ok (row_of k) s at ≡ true
+  ok g = (length-some (row_of k) s at n w.head (sym e)).1 ∙ le-leb _ _ g
+
+  next-is : at + 3 + n ≤ length s → next_at s at ≡ at + 3 + n
+  next-is g = omega (arith, (fitting (row_of k) s at (ok g)).next, (length-some (row_of k) s at n w.head (sym e)).0)
+
+  past : at + 3 + n ≤ length s → record_end s ≡ end_from (drop (suc k) rows) s (at + 3 + n)
+  past g = walk_past s k at w.left (omega arith) (ok g) ∙ rw (next-is g)
+
+  walk_on : at + 3 + n + 3 ≤ length s → Walked s (k + 1) (at + 3 + n)
+  unfolding start_of
+  walk_on g = record { left = rw add-one (past (omega arith)); start = rw (add-one k, ← w.start) (sym (next-is (omega arith))); head = g }
+
+  -- where no head has room after a field, there is no record
+  walk_short : length s < at + 3 + n + 3 → record_end s ≡ None
+  walk_short g = elim (dec_lt (length s) (at + 3 + n)) [
+    | yes b ↦ walk_off s k at w.left (omega arith) ((length-some (row_of k) s at n w.head (sym e)).1 ∙ lt-leb _ _ b)
+    | no b ↦ past (omega arith) ∙ (end_step s (at + 3 + n) (suc k) (omega arith) ∙ rw (no_head_lem (row_of (suc k)) s (at + 3 + n) g))
+  ]
+
+  -- by a test for the room of a head after it: the walk goes on to the next field, or there is no record
+  pub walk_step : (b : Bool) → (b ≡ true → at + 3 + n + 3 ≤ length s) → (b ≡ false → length s < at + 3 + n + 3) →
+      MatchOption (then_some b (at + 3 + n)) (record_end s ≡ None) (Walked s (k + 1))
+  walk_step true f g = walk_on (f refl)
+  walk_step false f g = walk_short (g refl)
 
 -- ---- what stands in the first e elements depends on those alone
 
@@ -354,7 +302,7 @@ module _ (e : ℕ) (s t : List ℕ) (a : Agree e s t) where
         field-last row t at (omega (arith, a.in_right)) (byte_same at (omega arith) ∙ f.tag) (omega (arith, f.least)) (omega (arith, f.greatest))
         ∙ le-leb (at + 3 + length_at t at) (length t) (omega (arith, a.in_right))
 
-  pub ends_same : (rs : List Row) (at n : ℕ) → end_from rs s at ≡ some n → n ≤ e → end_from rs t at ≡ some n
+  pub ends_same : (rs : List Row) (at n : ℕ) → end_from rs s at ≡ Some n → n ≤ e → end_from rs t at ≡ Some n
   unfolding end_from
   ends_same [] at n h g = h
   ends_same (r ∷ rs) at n h g =
@@ -363,8 +311,8 @@ module _ (e : ℕ) (s t : List ℕ) (a : Agree e s t) where
       let b : at + 3 + length_at s at ≤ e = omega (arith, f.next, end_after rs s (next_at s at) n p.1) in
       rw (field-same at b r f, next-same at b) (ends_same rs (next_at s at) n p.1 g)
 
-  module _ (n : ℕ) (h : record_end s ≡ some n) (g : n ≤ e) where
-    pub end_same : record_end t ≡ some n
+  module _ (n : ℕ) (h : record_end s ≡ Some n) (g : n ≤ e) where
+    pub end_same : record_end t ≡ Some n
     unfolding record_end
     end_same = ends_same rows 0 n h g
 
@@ -390,7 +338,7 @@ front_agrees e s h = record { same = sym (take-take e e s (omega arith)); in_lef
 pub append_agrees : (r t : List ℕ) → Agree (length r) r (r ++ t)
 append_agrees r t = record { same = take-length r ∙ sym (take-append_seam r t); in_left = omega arith; in_right = rw (length-append r t) (omega arith) }
 
-module _ (s : List ℕ) (e : ℕ) (h : record_end s ≡ some e) where
+module _ (s : List ℕ) (e : ℕ) (h : record_end s ≡ Some e) where
   -- the record at the front of a list, taken alone
   pub front-shaped : well_shaped (take e s) ≡ true
   front-shaped =
@@ -416,7 +364,7 @@ module _ (s : List ℕ) (e : ℕ) (h : record_end s ≡ some e) where
 
 module _ (r t : List ℕ) (w : well_shaped r ≡ true) where
   -- a record with anything after it
-  pub append-end : record_end (r ++ t) ≡ some (length r)
+  pub append-end : record_end (r ++ t) ≡ Some (length r)
   append-end = end_same (length r) r (r ++ t) (append_agrees r t) (length r) (shaped-end r w) (omega arith)
 
   pub append-content : (k : ℕ) → k < 9 → content_of (r ++ t) k ≡ content_of r k

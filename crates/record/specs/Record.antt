@@ -1,6 +1,5 @@
 -- Fields of a tag, a length and content (document 01, "Records the crews hand over"), and the table of a point record's nine.
-use Rattle.std.specs.Prelude.{ℕ, zero, suc, ◌+◌, ◌-◌, min, List, [], ◌∷◌, Bool, ◌&&◌, length, get_or, leb, eqb}
-use Rattle.std.proofs.Math.Option.{Option, none, some}
+use Rattle.std.specs.Prelude.{ℕ, zero, suc, ◌+◌, ◌-◌, min, List, [], ◌∷◌, Bool, ◌&&◌, length, get_or, leb, eqb, Option, None, Some}
 use Rattle.base.specs.Base.{pick, is_some_and}
 use Rattle.parts.specs.Bytes.{bytes_at, little_at}
 use Rattle.record.specs.declared.Row.{Row}
@@ -32,8 +31,8 @@ field_ok row s at =
 -- where the fields of these rows end, the first of them at a place
 unfoldable pub end_from : List Row → List ℕ → ℕ → Option ℕ
 unfolding field_ok next_at
-end_from [] s at = some at
-end_from (r ∷ rs) s at = pick (field_ok r s at) (end_from rs s (next_at s at)) none
+end_from [] s at = Some at
+end_from (r ∷ rs) s at = pick (field_ok r s at) (end_from rs s (next_at s at)) None
 
 -- where field k starts, counted from 0
 unfoldable pub start_of : List ℕ → ℕ → ℕ

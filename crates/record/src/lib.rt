@@ -1,11 +1,9 @@
 // Fields of a tag, a length and content, and the table of the nine fields of a point record.
 #![tactic(auto)]
 
-ghost use Rattle.std.specs.Prelude.{◌≡◌, true, ◌+◌, ◌<◌, ◌≤◌, length};
-ghost use Rattle.std.proofs.Math.Option.{some};
-ghost use Rattle.base.specs.Base.{is_some};
+ghost use Rattle.std.specs.Prelude.{◌≡◌, true, ◌+◌, ◌<◌, ◌≤◌, length, Some, None, is_some, MatchOption};
 ghost use Rattle.record.specs.Record.{length_at, field_ok, next_at, content_at, start_of, content_of, record_end, well_shaped};
-ghost use Rattle.record.specs.Code.{end_of, PlacesOf, next_if, next_after, ShapeOf};
+ghost use Rattle.record.specs.Code.{PlacesOf, length_if, Walked, ShapeOf};
 
 // A row of the table of fields: the tag, and the least and the greatest length of the content.
 #[derive(Clone, Copy)]
@@ -15,52 +13,27 @@ pub struct Row {
     pub greatest: usize,
 }
 
+// A row in one line.
+macro_rules! row {
+    ($tag:literal, $least:literal, $greatest:literal) => {
+        Row {
+            tag: $tag,
+            least: $least,
+            greatest: $greatest,
+        }
+    };
+}
+
 const ROWS: [Row; 9] = [
-    Row {
-        tag: 1,
-        least: 68,
-        greatest: 68,
-    },
-    Row {
-        tag: 2,
-        least: 8,
-        greatest: 8,
-    },
-    Row {
-        tag: 3,
-        least: 0,
-        greatest: 16320,
-    },
-    Row {
-        tag: 4,
-        least: 0,
-        greatest: 16320,
-    },
-    Row {
-        tag: 5,
-        least: 0,
-        greatest: 8160,
-    },
-    Row {
-        tag: 6,
-        least: 34,
-        greatest: 102,
-    },
-    Row {
-        tag: 7,
-        least: 34,
-        greatest: 102,
-    },
-    Row {
-        tag: 8,
-        least: 1,
-        greatest: 3,
-    },
-    Row {
-        tag: 9,
-        least: 16,
-        greatest: 16,
-    },
+    row!(1, 68, 68),
+    row!(2, 8, 8),
+    row!(3, 0, 16320),
+    row!(4, 0, 16320),
+    row!(5, 0, 8160),
+    row!(6, 34, 102),
+    row!(7, 34, 102),
+    row!(8, 1, 3),
+    row!(9, 16, 16),
 ];
 
 // Where the fields of a record after the first start.
@@ -76,13 +49,6 @@ pub struct Places {
     pub times: usize,
 }
 
-// Where a record at the front of a slice ends.
-#[derive(Clone, Copy)]
-pub enum End {
-    At(usize),
-    Unreadable,
-}
-
 // Where the fields of a record at the front of a slice start, and where it ends.
 #[derive(Clone, Copy)]
 pub struct Shape {
@@ -90,13 +56,8 @@ pub struct Shape {
     pub end: usize,
 }
 
-#[derive(Clone, Copy)]
-pub enum ReadShape {
-    Shape(Shape),
-    Unreadable,
-}
-
 // Where the field after the one at a place starts; a field that is cut off ends with the slice.
+#[tactic(auto, unfolding(crate::specs::Record::next_at))]
 pub fn next(s: &[u8], at: usize) -> usize
     requires { at ≤ length s.now }
     ensures { result ≡ next_at s.now at }
@@ -104,15 +65,12 @@ pub fn next(s: &[u8], at: usize) -> usize
     if s.len() - at < 3 {
         return s.len();
     }
-    let start = at + 3;
     let n = parts::u16_at(s, at + 1) as usize;
-    if s.len() - start < n {
-        return s.len();
-    }
-    start + n
+    (at + 3 + n).min(s.len())
 }
 
 // Where a field that lies whole in the slice ends: the same, with nothing left to test.
+#[tactic(auto, unfolding(crate::specs::Record::next_at))]
 fn field_end(s: &[u8], at: usize) -> usize
     requires { at + 3 + length_at s.now at ≤ length s.now }
     ensures { result ≡ next_at s.now at }
@@ -122,18 +80,31 @@ fn field_end(s: &[u8], at: usize) -> usize
 }
 
 // The content of the field at a place, as a part of the slice.
+#[tactic(auto, unfolding(crate::specs::Record::content_at))]
 pub fn content_at(s: &[u8], at: usize) -> &[u8]
     requires { at ≤ length s.now }
     ensures { result.now ≡ content_at s.now at }
 {
-    let end = next(s, at);
-    if end - at < 3 {
-        return &s[end..end];
+    s.get(at + 3..next(s, at)).unwrap_or(&[])
+}
+
+// The length in the head at a place, if the tag there is a row's and the length is within the row's limits.
+#[tactic(auto, unfolding(crate::specs::Code::length_if))]
+fn length_if_ok(s: &[u8], at: usize, row: Row) -> Option<u16>
+    requires { at + 3 ≤ length s.now }
+    ensures { result ≡ length_if row s.now at }
+{
+    if s[at] != row.tag {
+        return None;
     }
-    &s[at + 3..end]
+    let n = parts::u16_at(s, at + 1);
+    (row.least..=row.greatest)
+        .contains(&usize::from(n))
+        .then_some(n)
 }
 
 // Whether the field at a place fits a row of a table and lies in the slice.
+#[tactic(auto, unfolding(crate::specs::Record::field_ok, crate::specs::Code::length_if))]
 pub fn field_ok(s: &[u8], at: usize, row: Row) -> bool
     requires { at ≤ length s.now }
     ensures { result ≡ field_ok row s.now at }
@@ -141,74 +112,38 @@ pub fn field_ok(s: &[u8], at: usize, row: Row) -> bool
     if s.len() - at < 3 {
         return false;
     }
-    let start = at + 3;
-    if s[at] != row.tag {
-        return false;
-    }
-    let n = parts::u16_at(s, at + 1) as usize;
-    if n < row.least {
-        return false;
-    }
-    if row.greatest < n {
-        return false;
-    }
-    n <= s.len() - start
+    length_if_ok(s, at, row).is_some_and(|n| at + 3 + n as usize <= s.len())
 }
 
-// Where the field after one that fits a row starts: 0 where that one doesn't fit, or no head has room after it.
-fn next_if_ok(s: &[u8], at: usize, row: Row) -> usize
-    requires { at + 3 ≤ length s.now }
-    ensures { result ≡ next_if row s.now at }
+// Where the field after field k of a record starts, if field k fits its row and a head has room after it.
+// Without the attribute each field of `read_shape` is a call, and it takes four times as long.
+#[inline(always)]
+fn next_if_ok(s: &[u8], at: usize, k: usize) -> Option<usize>
+    requires at_value { Walked s.now k at }
+    requires k_bound { k < 8 }
+    ensures { MatchOption result (record_end s.now ≡ None) (Walked s.now (k + 1)) }
 {
-    if s[at] != row.tag {
-        return 0;
-    }
-    let n = parts::u16_at(s, at + 1) as usize;
-    if n < row.least {
-        return 0;
-    }
-    if row.greatest < n {
-        return 0;
-    }
-    let end = at + 3 + n;
-    if s.len() < end + 3 {
-        return 0;
-    }
-    end
-}
-
-// The same after a field whose end was found, if it was.
-fn next_after(s: &[u8], at: usize, row: Row) -> usize
-    requires { (at ≡ 0 → ⊥) → at + 3 ≤ length s.now }
-    ensures { result ≡ next_after row s.now at }
-{
-    if at == 0 {
-        return 0;
-    }
-    next_if_ok(s, at, row)
+    let end = at + 3 + length_if_ok(s, at, ROWS[k])? as usize;
+    (end + 3 <= s.len()).then_some(end)
 }
 
 // Where the nine fields at the front of a slice start and end, found in one walk.
-pub fn read_shape(s: &[u8]) -> ReadShape
+pub fn read_shape(s: &[u8]) -> Option<Shape>
     ensures { ShapeOf s.now result }
 {
-    let rows = ROWS;
     if s.len() < 3 {
-        return ReadShape::Unreadable;
+        return None;
     }
-    let payload = next_if_ok(s, 0, rows[0]);
-    let includes = next_after(s, payload, rows[1]);
-    let witness = next_after(s, includes, rows[2]);
-    let evidence = next_after(s, witness, rows[3]);
-    let anchor_proof = next_after(s, evidence, rows[4]);
-    let anchor_trigger = next_after(s, anchor_proof, rows[5]);
-    let role = next_after(s, anchor_trigger, rows[6]);
-    let times = next_after(s, role, rows[7]);
-    if times == 0 {
-        return ReadShape::Unreadable;
-    }
-    if !field_ok(s, times, rows[8]) {
-        return ReadShape::Unreadable;
+    let payload = next_if_ok(s, 0, 0)?;
+    let includes = next_if_ok(s, payload, 1)?;
+    let witness = next_if_ok(s, includes, 2)?;
+    let evidence = next_if_ok(s, witness, 3)?;
+    let anchor_proof = next_if_ok(s, evidence, 4)?;
+    let anchor_trigger = next_if_ok(s, anchor_proof, 5)?;
+    let role = next_if_ok(s, anchor_trigger, 6)?;
+    let times = next_if_ok(s, role, 7)?;
+    if !field_ok(s, times, ROWS[8]) {
+        return None;
     }
     let at = Places {
         payload,
@@ -220,53 +155,44 @@ pub fn read_shape(s: &[u8]) -> ReadShape
         role,
         times,
     };
-    ReadShape::Shape(Shape {
+    Some(Shape {
         at,
         end: field_end(s, times),
     })
 }
 
 // Where the nine fields at the front of a slice end.
-pub fn record_end(s: &[u8]) -> End
-    ensures { end_of result ≡ record_end s.now }
+pub fn record_end(s: &[u8]) -> Option<usize>
+    ensures { result ≡ record_end s.now }
 {
-    let rows = ROWS;
-    let mut k = 0;
     let mut at = 0;
-    while k < 9 {
-        let row = rows[k];
+    for &row in &ROWS {
         if !field_ok(s, at, row) {
-            return End::Unreadable;
+            return None;
         }
         at = field_end(s, at);
-        k += 1;
     }
-    End::At(at)
+    Some(at)
 }
 
 // The same of a record that is known to stand there: nothing of it is tested again.
 pub fn known_end(s: &[u8]) -> usize
     requires { is_some (record_end s.now) ≡ true }
-    ensures { record_end s.now ≡ some result }
+    ensures { record_end s.now ≡ Some result }
 {
-    let mut i = 0usize;
     let mut at = 0;
-    while i < 9 {
+    for _ in &ROWS {
         at = field_end(s, at);
-        i += 1;
     }
     at
 }
 
 // Whether a slice is the nine fields and nothing after them.
+#[tactic(auto, unfolding(crate::specs::Record::well_shaped))]
 pub fn is_well_shaped(rec: &[u8]) -> bool
     ensures { result ≡ well_shaped rec.now }
 {
-    let end = record_end(rec);
-    match end {
-        End::At(n) => n == rec.len(),
-        End::Unreadable => false,
-    }
+    record_end(rec) == Some(rec.len())
 }
 
 // The content of field k of a whole record, counted from 0, whose start and end are known, as a part of the record.
@@ -279,6 +205,7 @@ pub fn content_from(rec: &[u8], at: usize, end: usize, k: usize) -> &[u8]
 }
 
 // Where the fields of a whole record start, found in one walk.
+#[tactic(auto, unfolding(crate::specs::Record::start_of))]
 pub fn find_places(rec: &[u8]) -> Places
     requires { well_shaped rec.now ≡ true }
     ensures { PlacesOf rec.now result }

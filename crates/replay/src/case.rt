@@ -22,14 +22,12 @@ pub fn read_case<R: Read>(file: &mut R, head: Head, buf: &mut [u8]) -> Case {
     let mut ends = [0usize; 9];
     let mut is_whole = true;
     let mut end = 0;
-    let mut i = 0;
-    while i < head.blobs {
+    for i in 0..head.blobs {
         let blob = case_files::read_blob(file, buf, end);
         end = blob.end;
         is_whole = is_whole && blob.is_there;
-        i += 1;
-        if i < 9 {
-            ends[i as usize] = end;
+        if i < 8 {
+            ends[i as usize + 1] = end;
         }
     }
     Case { ends, is_whole }
@@ -43,10 +41,7 @@ pub fn blob(buf: &[u8], case: Case, i: usize) -> &[u8] {
     let ends = case.ends;
     let start = ends[i];
     let end = ends[i + 1];
-    if buf.len() < end {
-        return &buf[0..0];
-    }
-    if end < start {
+    if buf.len() < end || end < start {
         return &buf[0..0];
     }
     &buf[start..end]

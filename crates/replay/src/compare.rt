@@ -1,68 +1,25 @@
 // An answer beside the one that a case expects: the number, 0 for a verdict (1); the answer's bytes but the last (113);
 // 40 zeros; how many unknown peers (1), and these. With a number, map and role are 255 and so is the verdict's kind.
-ghost use Rattle.std.specs.Prelude.{◌<◌};
-
 use crate::counts::Counts;
-use crate::{counts, print};
+use crate::print;
 
 // What fills the buffers that are lent.
 pub const LENT: u8 = 0xA5;
 
-fn wide(x: u8) -> usize
-    ensures { result < 256 }
-{
-    x as usize
-}
-
 pub fn is_filled(s: &[u8], byte: u8) -> bool {
-    let mut i = 0;
-    while i < s.len() {
-        if s[i] != byte {
-            return false;
-        }
-        i += 1;
-    }
-    true
-}
-
-pub fn is_same(s: &[u8], t: &[u8]) -> bool {
-    if s.len() != t.len() {
-        return false;
-    }
-    let mut i = 0;
-    while i < s.len() {
-        if s[i] != t[i] {
-            return false;
-        }
-        i += 1;
-    }
-    true
+    s.iter().all(|&x| x == byte)
 }
 
 // After a number, that the case expects no verdict, and that nothing that was lent has changed.
 fn is_number(want: &[u8], answer: &[u8; 114], peers: &[u8]) -> bool {
-    if want.len() != 155 {
-        return false;
-    }
-    if want[1] != 255 {
-        return false;
-    }
-    if !is_filled(&want[2..71], 0) {
-        return false;
-    }
-    if want[71] != 255 {
-        return false;
-    }
-    if want[72] != 255 {
-        return false;
-    }
-    if !is_filled(&want[73..155], 0) {
-        return false;
-    }
-    if !is_filled(answer, LENT) {
-        return false;
-    }
-    is_filled(peers, LENT)
+    want.len() == 155
+        && want[1] == 255
+        && is_filled(&want[2..71], 0)
+        && want[71] == 255
+        && want[72] == 255
+        && is_filled(&want[73..155], 0)
+        && is_filled(answer, LENT)
+        && is_filled(peers, LENT)
 }
 
 // After a 0, that the verdict is the expected one, and that nothing has changed after the unknown peers.
@@ -70,35 +27,18 @@ fn is_verdict(want: &[u8], answer: &[u8; 114], peers: &[u8]) -> bool {
     if want.len() < 155 {
         return false;
     }
-    let n = 32 * wide(want[154]);
-    let end = 155 + n;
-    if want.len() != end {
-        return false;
-    }
-    if peers.len() < n {
-        return false;
-    }
-    if want[154] != answer[113] {
-        return false;
-    }
-    let bytes = &answer[..];
-    if !is_same(&want[1..114], &bytes[0..113]) {
-        return false;
-    }
-    if !is_filled(&want[114..154], 0) {
-        return false;
-    }
-    if !is_same(&want[155..end], &peers[0..n]) {
-        return false;
-    }
-    is_filled(&peers[n..], LENT)
+    let n = 32 * want[154] as usize;
+    want.len() == 155 + n
+        && n <= peers.len()
+        && want[154] == answer[113]
+        && want[1..114] == answer[..113]
+        && is_filled(&want[114..154], 0)
+        && want[155..] == peers[..n]
+        && is_filled(&peers[n..], LENT)
 }
 
 fn is_expected(want: &[u8], number: u8, answer: &[u8; 114], peers: &[u8]) -> bool {
-    if want.len() == 0 {
-        return false;
-    }
-    if want[0] != number {
+    if want.len() == 0 || want[0] != number {
         return false;
     }
     if number == 0 {
@@ -130,7 +70,7 @@ pub fn compare(
     if c.different == 0 {
         show(rt, c.place, want, number, answer, peers);
     }
-    counts::one_different(c)
+    c.one_different()
 }
 
 // The same of what needs no bytes to show.
@@ -141,7 +81,7 @@ fn count(rt: &impl Eprint, c: Counts, is_expected: bool, what: &str) -> Counts {
     if c.different == 0 {
         print::difference(rt, what, c.place);
     }
-    counts::one_different(c)
+    c.one_different()
 }
 
 // The same of an offer, told whether the book's bytes are those that the case expects.
@@ -168,12 +108,12 @@ pub fn compare_opened(
     number: u8,
     is_laid_out: bool,
 ) -> Counts {
-    let is_expected = is_laid_out && is_same(want, &[number]);
+    let is_expected = is_laid_out && want == [number].as_slice();
     count(rt, c, is_expected, "first difference: opening in case")
 }
 
 // Counts a case for which there is no room apart, and says so: no call was made, so nothing was found different.
 pub fn no_room(rt: &impl Eprint, c: Counts) -> Counts {
     print::difference(rt, "no room: case", c.place);
-    counts::one_no_room(c)
+    c.one_no_room()
 }

@@ -25,60 +25,67 @@ pub const NONE: Counts = Counts {
     book: 0,
 };
 
-fn next(n: u64) -> u64 {
-    std::num::wrapping_add_u64(n, 1)
-}
+impl Counts {
+    pub fn next_place(self) -> Counts {
+        Counts {
+            place: self.place.wrapping_add(1),
+            ..self
+        }
+    }
 
-pub fn next_place(c: Counts) -> Counts {
-    let mut c = c;
-    c.place = next(c.place);
-    c
-}
+    pub fn one_verify(self) -> Counts {
+        Counts {
+            verify: self.verify.wrapping_add(1),
+            ..self
+        }
+    }
 
-pub fn one_verify(c: Counts) -> Counts {
-    let mut c = c;
-    c.verify = next(c.verify);
-    c
-}
+    pub fn one_judge(self) -> Counts {
+        Counts {
+            judge: self.judge.wrapping_add(1),
+            ..self
+        }
+    }
 
-pub fn one_judge(c: Counts) -> Counts {
-    let mut c = c;
-    c.judge = next(c.judge);
-    c
-}
+    pub fn one_open(self) -> Counts {
+        Counts {
+            open: self.open.wrapping_add(1),
+            ..self
+        }
+    }
 
-pub fn one_open(c: Counts) -> Counts {
-    let mut c = c;
-    c.open = next(c.open);
-    c
-}
+    pub fn one_offer(self) -> Counts {
+        Counts {
+            offer: self.offer.wrapping_add(1),
+            ..self
+        }
+    }
 
-pub fn one_offer(c: Counts) -> Counts {
-    let mut c = c;
-    c.offer = next(c.offer);
-    c
-}
+    pub fn one_other(self) -> Counts {
+        Counts {
+            other: self.other.wrapping_add(1),
+            ..self
+        }
+    }
 
-pub fn one_other(c: Counts) -> Counts {
-    let mut c = c;
-    c.other = next(c.other);
-    c
-}
+    pub fn one_different(self) -> Counts {
+        Counts {
+            different: self.different.wrapping_add(1),
+            ..self
+        }
+    }
 
-pub fn one_different(c: Counts) -> Counts {
-    let mut c = c;
-    c.different = next(c.different);
-    c
-}
+    pub fn one_no_room(self) -> Counts {
+        Counts {
+            no_room: self.no_room.wrapping_add(1),
+            ..self
+        }
+    }
 
-pub fn one_no_room(c: Counts) -> Counts {
-    let mut c = c;
-    c.no_room = next(c.no_room);
-    c
-}
-
-pub fn with_book(c: Counts, length: usize) -> Counts {
-    let mut c = c;
-    c.book = length;
-    c
+    pub fn with_book(self, length: usize) -> Counts {
+        Counts {
+            book: length,
+            ..self
+        }
+    }
 }

@@ -12,7 +12,7 @@ fn run_verify<R: Read>(
     buf: &mut [u8],
     peers: &mut [u8],
 ) -> Counts {
-    let c = counts::one_verify(c);
+    let c = c.one_verify();
     let case = case::read_case(file, head, buf);
     if !case.is_whole {
         return compare::no_room(rt, c);
@@ -28,7 +28,7 @@ fn run_judge<R: Read>(
     buf: &mut [u8],
     peers: &mut [u8],
 ) -> Counts {
-    let c = counts::one_judge(c);
+    let c = c.one_judge();
     let case = case::read_case(file, head, buf);
     if !case.is_whole {
         return compare::no_room(rt, c);
@@ -44,7 +44,7 @@ fn run_open<R: Read>(
     buf: &mut [u8],
     book: &mut [u8],
 ) -> Counts {
-    let c = counts::one_open(c);
+    let c = c.one_open();
     let case = case::read_case(file, head, buf);
     if !case.is_whole {
         return compare::no_room(rt, c);
@@ -62,7 +62,7 @@ fn run_apart<R: Read>(
     spare: &mut [u8],
 ) -> Counts {
     let opened = run_open(rt, c, file, head, buf, spare);
-    counts::with_book(opened, c.book)
+    opened.with_book(c.book)
 }
 
 fn run_offer<R: Read>(
@@ -74,7 +74,7 @@ fn run_offer<R: Read>(
     peers: &mut [u8],
     book: &mut [u8],
 ) -> Counts {
-    let c = counts::one_offer(c);
+    let c = c.one_offer();
     let case = case::read_case(file, head, buf);
     let n = c.book;
     if !case.is_whole || book.len() < n {
@@ -96,19 +96,19 @@ fn run_given<R: Read>(
     let given = case_files::read_blob(file, spare, 0);
     let offered = run_offer(
         rt,
-        counts::with_book(c, given.end),
+        c.with_book(given.end),
         file,
         case::without_first(head),
         buf,
         peers,
         spare,
     );
-    counts::with_book(offered, c.book)
+    offered.with_book(c.book)
 }
 
 fn run_other<R: Read>(c: Counts, file: &mut R, head: Head, buf: &mut [u8]) -> Counts {
     case::read_case(file, head, buf);
-    counts::one_other(c)
+    c.one_other()
 }
 
 fn run_case<R: Read>(
@@ -121,9 +121,8 @@ fn run_case<R: Read>(
     book: &mut [u8],
     spare: &mut [u8],
 ) -> Counts {
-    let c = counts::next_place(c);
-    let kind = head.kind;
-    match kind {
+    let c = c.next_place();
+    match head.kind {
         1 => run_verify(rt, c, file, head, buf, peers),
         2 => run_judge(rt, c, file, head, buf, peers),
         3 => run_apart(rt, c, file, head, buf, spare),
@@ -134,7 +133,7 @@ fn run_case<R: Read>(
     }
 }
 
-// A proved loop has to end, and nothing says that a file does: so the turns are counted down.
+// A proved loop has to end, and nothing says that a file does: so its turns are numbered.
 pub fn run<R: Read>(
     rt: &impl Eprint,
     file: &mut R,
@@ -144,14 +143,12 @@ pub fn run<R: Read>(
     spare: &mut [u8],
 ) -> Counts {
     let mut c = counts::NONE;
-    let mut turns = u64::MAX;
-    while 0 < turns {
+    for turn in 0..u64::MAX {
         let head = case_files::read_head(file);
         if !head.is_there {
             return c;
         }
         c = run_case(rt, c, file, head, buf, peers, book, spare);
-        turns -= 1;
     }
     c
 }

@@ -13,7 +13,7 @@ fn call(
     presence: u8,
     peers: &mut [u8],
 ) -> Counts {
-    verify_case::fill(peers, LENT);
+    peers.fill(LENT);
     let mut answer = [LENT; 114];
     let number = wutherdish::wutherdish_judge(
         case::blob(buf, case, 0),

@@ -14,7 +14,7 @@ fn call(
     peers: &mut [u8],
     book: &mut [u8],
 ) -> Counts {
-    verify_case::fill(peers, LENT);
+    peers.fill(LENT);
     let mut answer = [LENT; 114];
     let number = wutherdish::wutherdish_offer(
         book,

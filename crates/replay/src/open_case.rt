@@ -3,25 +3,18 @@
 use crate::case::Case;
 use crate::compare::LENT;
 use crate::counts::Counts;
-use crate::{case, compare, counts, verify_case};
+use crate::{case, compare, verify_case};
 
 // An opened book is its settings and zeros; with a number nothing that was lent has changed.
 fn is_laid_out(number: u8, settings: &[u8], book: &[u8]) -> bool {
     if number != 0 {
         return compare::is_filled(book, LENT);
     }
-    let n = settings.len();
-    if book.len() < n {
-        return false;
-    }
-    if !compare::is_same(settings, &book[0..n]) {
-        return false;
-    }
-    compare::is_filled(&book[n..], 0)
+    book.starts_with(settings) && compare::is_filled(&book[settings.len()..], 0)
 }
 
 fn call(rt: &impl Eprint, c: Counts, case: Case, buf: &[u8], book: &mut [u8]) -> Counts {
-    verify_case::fill(book, LENT);
+    book.fill(LENT);
     let settings = case::blob(buf, case, 0);
     let number = wutherdish::wutherdish_open(book, settings);
     let is_laid_out = is_laid_out(number, settings, book);
@@ -33,5 +26,5 @@ pub fn replay(rt: &impl Eprint, c: Counts, case: Case, buf: &[u8], book: &mut [u
     if book.len() < n {
         return compare::no_room(rt, c);
     }
-    call(rt, counts::with_book(c, n), case, buf, &mut book[0..n])
+    call(rt, c.with_book(n), case, buf, &mut book[0..n])
 }

@@ -27,10 +27,8 @@ fn byte(rt: &impl Eprint, x: u8) {
 }
 
 fn bytes(rt: &impl Eprint, s: &[u8]) {
-    let mut i = 0;
-    while i < s.len() {
-        byte(rt, s[i]);
-        i += 1;
+    for &x in s {
+        byte(rt, x);
     }
 }
 

@@ -37,21 +37,13 @@ const ROUNDS: [u32; 64] = [
 ];
 
 fn add(x: u32, y: u32) -> u32 {
-    std::num::wrapping_add_u32(x, y)
-}
-
-fn wide(x: u8) -> u32 {
-    x as u32
-}
-
-fn after(at: usize, n: usize) -> usize {
-    std::num::wrapping_add_usize(at, n)
+    x.wrapping_add(y)
 }
 
 // A byte of a message, or what follows it: the bit 1, then zeros.
 fn byte_at(s: &[u8], at: usize) -> u32 {
     if at < s.len() {
-        return wide(s[at]);
+        return s[at] as u32;
     }
     if at == s.len() {
         return 128;
@@ -60,8 +52,8 @@ fn byte_at(s: &[u8], at: usize) -> u32 {
 }
 
 fn big_endian(s: &[u8], at: usize) -> u32 {
-    let high = byte_at(s, at) << 24 | byte_at(s, after(at, 1)) << 16;
-    high | byte_at(s, after(at, 2)) << 8 | byte_at(s, after(at, 3))
+    let high = byte_at(s, at) << 24 | byte_at(s, at.wrapping_add(1)) << 16;
+    high | byte_at(s, at.wrapping_add(2)) << 8 | byte_at(s, at.wrapping_add(3))
 }
 
 // A length in bits.
@@ -81,23 +73,23 @@ fn word_at(s: &[u8], last: usize, at: usize) -> u32 {
 }
 
 fn turned_0(x: u32) -> u32 {
-    (x >> 7 | x << 25) ^ (x >> 18 | x << 14) ^ x >> 3
+    x.rotate_right(7) ^ x.rotate_right(18) ^ x >> 3
 }
 
 fn turned_1(x: u32) -> u32 {
-    (x >> 17 | x << 15) ^ (x >> 19 | x << 13) ^ x >> 10
+    x.rotate_right(17) ^ x.rotate_right(19) ^ x >> 10
 }
 
 fn turned_a(x: u32) -> u32 {
-    (x >> 2 | x << 30) ^ (x >> 13 | x << 19) ^ (x >> 22 | x << 10)
+    x.rotate_right(2) ^ x.rotate_right(13) ^ x.rotate_right(22)
 }
 
 fn turned_e(x: u32) -> u32 {
-    (x >> 6 | x << 26) ^ (x >> 11 | x << 21) ^ (x >> 25 | x << 7)
+    x.rotate_right(6) ^ x.rotate_right(11) ^ x.rotate_right(25)
 }
 
 fn chosen(e: u32, f: u32, g: u32) -> u32 {
-    e & f ^ (e ^ u32::MAX) & g
+    e & f ^ !e & g
 }
 
 fn majority(a: u32, b: u32, c: u32) -> u32 {
@@ -109,7 +101,7 @@ fn round_word(words: &[u32; 64], s: &[u8], last: usize, at: usize, t: usize) -> 
     requires { t < 64 }
 {
     if t < 16 {
-        return word_at(s, last, after(at, 4 * t));
+        return word_at(s, last, at.wrapping_add(4 * t));
     }
     let before = add(words[t - 16], turned_0(words[t - 15]));
     add(before, add(words[t - 7], turned_1(words[t - 2])))
@@ -150,12 +142,10 @@ fn sum(s: State, r: State) -> State {
 fn add_block(start: State, s: &[u8], last: usize, at: usize) -> State {
     let mut words = [0u32; 64];
     let mut state = start;
-    let mut t = 0;
-    while t < 64 {
+    for t in 0..64usize {
         let word = round_word(&words, s, last, at, t);
         words[t] = word;
         state = round(state, ROUNDS[t], word);
-        t += 1;
     }
     sum(start, state)
 }

@@ -4,14 +4,6 @@ use crate::compare::LENT;
 use crate::counts::Counts;
 use crate::{case, compare};
 
-pub fn fill(s: &mut [u8], byte: u8) {
-    let mut i = 0;
-    while i < s.len() {
-        s[i] = byte;
-        i += 1;
-    }
-}
-
 // The little-endian number of a blob of four bytes; of any other, more than there is room for.
 pub fn length_of(s: &[u8]) -> usize {
     if s.len() != 4 {
@@ -21,7 +13,7 @@ pub fn length_of(s: &[u8]) -> usize {
 }
 
 fn call(rt: &impl Eprint, c: Counts, case: Case, buf: &[u8], peers: &mut [u8]) -> Counts {
-    fill(peers, LENT);
+    peers.fill(LENT);
     let mut answer = [LENT; 114];
     let number = wutherdish::wutherdish_verify(
         case::blob(buf, case, 0),

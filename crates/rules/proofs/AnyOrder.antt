@@ -1,11 +1,11 @@
 -- Ticket U9's statement holds.
+use Rattle.std.specs.Prelude.{Option, None, Some}
 use Prim.Native.Nat.{ℕ}
 use native.Mathlib.Omega.{arith}
 use lib.Dec.{leb, eqb}
 use mathlib.Core.Path.{◌≡◌, refl, sym, ap, ◌∙◌, subst}
 use mathlib.Core.Logic.{inr}
 use mathlib.Core.Bool.{Bool, true, false}
-use mathlib.Core.Option.{Option, none, some}
 use mathlib.Core.List.{List, [], ◌∷◌, ◌++◌, Memᴰ, Permᴰ}
 use Rattle.base.specs.Base.{pick, concat}
 use Rattle.base.proofs.Option.{none-some}
@@ -32,10 +32,10 @@ use Rattle.rules.proofs.Given.{judged-validate, given_record}
 
 list-alike : (c : Settings) (required : Bool) (presence : ℕ) (p : PointInfo) (a b : Option (List Listed)) → Arranged a b →
     Alike (over_list c required presence p a) (over_list c required presence p b)
-list-alike c required presence p none none h = refl
-list-alike c required presence p none (some m) h = absurd h
-list-alike c required presence p (some l) none h = absurd h
-list-alike c required presence p (some l) (some m) h = entries-alike c required p (directs_perm h) (indirects_perm h) presence
+list-alike c required presence p None None h = refl
+list-alike c required presence p None (Some m) h = absurd h
+list-alike c required presence p (Some l) None h = absurd h
+list-alike c required presence p (Some l) (Some m) h = entries-alike c required p (directs_perm h) (indirects_perm h) presence
 
 before-alike : (c : Settings) (presence : ℕ) (p : PointInfo) (s t : List ℕ) (b : Before) → Arranged (read_list s) (read_list t) →
     Alike (judge_from c presence p s b) (judge_from c presence p t b)
@@ -64,13 +64,13 @@ any-alike x es es' ts ts' h g d f =
 
 -- ---- of one given order
 
-no_record : (o : Option InvalidDependency) → result_with none o ≡ verdict.Valid → o ≡ none
-no_record none h = refl
-no_record (some d) h = impossible (cc)
+no_record : (o : Option InvalidDependency) → result_with None o ≡ verdict.Valid → o ≡ None
+no_record None h = refl
+no_record (Some d) h = impossible (cc)
 
-this_record : (o : Option InvalidDependency) (d : InvalidDependency) → result_with none o ≡ verdict.TransInvalid d → o ≡ some d
-this_record none d h = impossible (cc)
-this_record (some e) d h = let f : e ≡ d = cc in ap some f
+this_record : (o : Option InvalidDependency) (d : InvalidDependency) → result_with None o ≡ verdict.TransInvalid d → o ≡ Some d
+this_record None d h = impossible (cc)
+this_record (Some e) d h = let f : e ≡ d = cc in ap Some f
 
 member_middle : {A : Type 0} (a : List A) (x : A) (b : List A) → Memᴰ x (a ++ (x ∷ b))
 member_middle [] x b = Memᴰ.head refl
@@ -89,20 +89,20 @@ module _ (c : Settings) (required : Bool) (p : PointInfo) (l : List Listed) wher
         less_before =
             λ x e m b.
             (let k = w.less x m in
-            let r : rank_of (record_for c required p x) ≡ rank_of (some e) = ap rank_of (brings_record c required p x e b) in
+            let r : rank_of (record_for c required p x) ≡ rank_of (Some e) = ap rank_of (brings_record c required p x e b) in
             higher-newer e d (omega arith));
         no_greater_after =
             λ x e m b g.
             (let k = member-rank (record_for c required p) w.after x m in
             let n = w.no_more in
-            let r : rank_of (record_for c required p x) ≡ rank_of (some e) = ap rank_of (brings_record c required p x e b) in
+            let r : rank_of (record_for c required p x) ≡ rank_of (Some e) = ap rank_of (brings_record c required p x e b) in
             let u = newer-higher d e g in
             absurd (omega arith));
       }
 
-  none-valid : (o : Option InvalidDependency) → join_all (record_for c required p) none l ≡ o → NoneBrings c p l → result_with none o ≡ verdict.Valid
-  none-valid none h f = refl
-  none-valid (some d) h f =
+  none-valid : (o : Option InvalidDependency) → join_all (record_for c required p) None l ≡ o → NoneBrings c p l → result_with None o ≡ verdict.Valid
+  none-valid None h f = refl
+  none-valid (Some d) h f =
       let w = earliest (record_for c required p) d l h in
       absurd (f w.entry d (subst (Memᴰ w.entry) (sym w.place) (member_middle w.before w.entry w.after)) (record_brings c required p w.entry d w.brings))
 
@@ -119,7 +119,7 @@ any_order =
       absent =
           λ x o l h v y d m b.
           (let r = given_record x o l h in
-          let n = no_record (join_all (record_for o.settings r.0 o.point) none l) (sym r.1 ∙ v) in
+          let n = no_record (join_all (record_for o.settings r.0 o.point) None l) (sym r.1 ∙ v) in
           none-some (sym (all-absent (record_for o.settings r.0 o.point) l n y m) ∙ brings_record o.settings r.0 o.point y d b));
       absent_only =
           λ x o l h f.
@@ -128,6 +128,6 @@ any_order =
       otherwise =
           λ x o l h d v.
           (let r = given_record x o l h in
-          let e = this_record (join_all (record_for o.settings r.0 o.point) none l) d (sym r.1 ∙ v) in
+          let e = this_record (join_all (record_for o.settings r.0 o.point) None l) d (sym r.1 ∙ v) in
           earliest-brings o.settings r.0 o.point l d (earliest (record_for o.settings r.0 o.point) d l e));
     }

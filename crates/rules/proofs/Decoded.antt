@@ -1,9 +1,9 @@
 -- A verdict can be had back from its answer, where the previous seq_no that it names, if any, is not the number that stands for none.
+use Rattle.std.specs.Prelude.{Option, None, Some, Err, Ok, Result}
 use Prim.Native.Nat.{ℕ, ◌<◌}
 use native.Mathlib.Omega.{arith}
 use mathlib.Core.Path.{◌≡◌, refl, ap}
 use mathlib.Core.Bool.{Bool, true, false}
-use mathlib.Core.Option.{Option, none, some}
 use lib.Dec.{eqb}
 use borrow.Author.Tests.{ne_eqb}
 use Rattle.base.specs.Base.{pick}
@@ -29,8 +29,6 @@ use Rattle.reasons.specs.declared.ill_formed.IllFormedReason.TheVariants.{TooMan
 use Rattle.reasons.specs.declared.ill_formed.IllFormedReason.TheVariants.{UnknownPeers, UnknownPeerInAnchorLink, LackOfPeers, NotRegular, BadWaveLink}
 use Rattle.reasons.specs.declared.ill_formed.VerifyError.{VerifyError}
 use Rattle.reasons.specs.declared.ill_formed.VerifyError.TheVariants.{Fail, IllFormed}
-use Rattle.reasons.specs.declared.ill_formed.Verified.{Verified}
-use Rattle.reasons.specs.declared.ill_formed.Verified.TheVariants.{Passed, Failed}
 use Rattle.rules.specs.Answer.{verified_answer, through_number, verdict_answer}
 
 -- ---- maps, roles and flags
@@ -114,16 +112,16 @@ ill-formed-back (BadWaveLink b) = (refl, ap BadWaveLink (flag-back b))
 -- ---- invalid reasons
 
 abbrev prev_of : ℕ → Option ℕ
-prev_of n = pick (eqb n 4294967295) none (some n)
+prev_of n = pick (eqb n 4294967295) None (Some n)
 
 -- a previous seq_no is not the number that stands for none
 abbrev pub PrevFits : Option ℕ → Type 0
-PrevFits none = Unit
-PrevFits (some n) = n < 4294967295
+PrevFits None = Unit
+PrevFits (Some n) = n < 4294967295
 
 prev-back : (o : Option ℕ) → PrevFits o → prev_of (prev_seq_no o) ≡ o
-prev-back none h = refl
-prev-back (some n) h = rw (ne_eqb n 4294967295 (λ e. omega arith))
+prev-back None h = refl
+prev-back (Some n) h = rw (ne_eqb n 4294967295 (λ e. omega arith))
 
 abbrev reason_of : Answer → InvalidReason
 reason_of a =
@@ -148,24 +146,24 @@ reason_of a =
 
 -- the previous seq_no that a reason names
 abbrev pub named_prev : InvalidReason → Option ℕ
-named_prev (NoRoundInDag m) = none
-named_prev DependencyRoundDropped = none
-named_prev (NotTrigger i) = none
-named_prev (TerminalTriggerBeforeLastProof i) = none
-named_prev (TimeNotGreaterThanInPrevPoint i) = none
-named_prev (AnchorProofDoesntInheritAnchorTime i) = none
-named_prev (AnchorTimeNotInheritedFromProof i) = none
-named_prev (MustHaveReferencedPrevPoint i) = none
-named_prev (MustHaveSkippedRound i) = none
-named_prev (DependencyTimeTooFarInFuture i) = none
-named_prev (NewerAnchorInDependency g i) = none
-named_prev (AnchorLink g i) = none
-named_prev (AnchorLinkRole g i) = none
-named_prev (AnchorLinkBadPath g i) = none
+named_prev (NoRoundInDag m) = None
+named_prev DependencyRoundDropped = None
+named_prev (NotTrigger i) = None
+named_prev (TerminalTriggerBeforeLastProof i) = None
+named_prev (TimeNotGreaterThanInPrevPoint i) = None
+named_prev (AnchorProofDoesntInheritAnchorTime i) = None
+named_prev (AnchorTimeNotInheritedFromProof i) = None
+named_prev (MustHaveReferencedPrevPoint i) = None
+named_prev (MustHaveSkippedRound i) = None
+named_prev (DependencyTimeTooFarInFuture i) = None
+named_prev (NewerAnchorInDependency g i) = None
+named_prev (AnchorLink g i) = None
+named_prev (AnchorLinkRole g i) = None
+named_prev (AnchorLinkBadPath g i) = None
 named_prev (BadStickySequence i o n) = o
-named_prev (TriggerProofMismatch i b) = none
-named_prev (DepIllFormed i n) = none
-named_prev (DepNotFound i) = none
+named_prev (TriggerProofMismatch i b) = None
+named_prev (DepIllFormed i n) = None
+named_prev (DepNotFound i) = None
 
 reason-back : (r : InvalidReason) → PrevFits (named_prev r) → ((invalid_answer r).kind ≡ 2) × (reason_of (invalid_answer r) ≡ r)
 reason-back (NoRoundInDag m) h = (refl, ap NoRoundInDag (map_back m))
@@ -200,12 +198,12 @@ error_kind : (e : VerifyError) → eqb (error_answer e).kind 5 ≡ false
 error_kind (Fail u) = refl
 error_kind (IllFormed r) = rw (ill-formed-back r).0
 
-abbrev pub verified_of : Answer → Verified
-verified_of a = pick (eqb a.kind 5) Passed (Failed (error_of a))
+abbrev pub verified_of : Answer → Result Unit VerifyError
+verified_of a = pick (eqb a.kind 5) (Ok tt) (Err (error_of a))
 
-pub verified-back : (v : Verified) → verified_of (verified_answer v) ≡ v
-verified-back Passed = refl
-verified-back (Failed e) = rw (error_kind e) (ap Failed (error_back e))
+pub verified-back : (v : Result Unit VerifyError) → verified_of (verified_answer v) ≡ v
+verified-back (Ok tt) = refl
+verified-back (Err e) = rw (error_kind e) (ap Err (error_back e))
 
 abbrev pub verdict_of : Answer → verdict.Verdict
 verdict_of a =
@@ -221,11 +219,11 @@ through-back (Witness x) = refl
 
 -- the previous seq_no that a verdict names
 abbrev pub verdict_prev : verdict.Verdict → Option ℕ
-verdict_prev (verdict.Fail u) = none
-verdict_prev (verdict.IllFormed r) = none
+verdict_prev (verdict.Fail u) = None
+verdict_prev (verdict.IllFormed r) = None
 verdict_prev (verdict.Invalid r) = named_prev r
-verdict_prev (verdict.TransInvalid d) = none
-verdict_prev verdict.Valid = none
+verdict_prev (verdict.TransInvalid d) = None
+verdict_prev verdict.Valid = None
 
 pub verdict-back : (v : verdict.Verdict) → PrevFits (verdict_prev v) → verdict_of (verdict_answer v) ≡ v
 verdict-back (verdict.Fail u) h = rw (map_back u.map)

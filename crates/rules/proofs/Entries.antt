@@ -1,15 +1,14 @@
 -- The entries of a list that was read from bytes: their numbers fit the bytes that they were read from.
+use Rattle.std.specs.Prelude.{option_map, unwrap_or, Option, None, Some, is_some}
 use Prim.Native.Nat.{ℕ, zero, suc}
 use native.Mathlib.Omega.{arith}
 use mathlib.Core.Path.{◌≡◌}
 use mathlib.Core.Bool.{Bool, true, false, ◌&&◌}
-use mathlib.Core.Option
-use mathlib.Core.Option.{Option, none, some, map}
 use mathlib.Core.List.{List, [], ◌∷◌}
 use lib.ListN.{length, get_or, take, drop}
 use lib.Dec.{leb, eqb}
 use borrow.Author.Tests.{leb-true}
-use Rattle.base.specs.Base.{pick, is_some}
+use Rattle.base.specs.Base.{pick}
 use Rattle.base.proofs.Bool.{and_left, and_right}
 use Rattle.base.proofs.Option.{IfSome, pick-has, then_has, map-has, has}
 use Rattle.parts.specs.Bytes.{Bytes}
@@ -88,11 +87,11 @@ unfolding read_entry
 entry-fits s b =
     pick-has ListedFits (eqb (get_or s 0 0) 19) _ _
     (λ h. pick-has ListedFits (field_ok (field_row 19 1 1) s 0 && leb (get_or s 3 0) 1) _ _ (λ y. at-fits _ 4 (drop 4 s) (rest-bytes 4 s b)) tt)
-    (at-fits none 0 s b)
+    (at-fits None 0 s b)
 
 from-fits : (n : ℕ) (seen : Bool) (s : List ℕ) → Bytes s → IfSome (All ListedFits) (list_from n seen s)
 unfolding list_from
-from-fits zero seen s b = pick-has (All ListedFits) (eqb (length s) 0) (some []) none (λ h. tt) tt
+from-fits zero seen s b = pick-has (All ListedFits) (eqb (length s) 0) (Some []) None (λ h. tt) tt
 from-fits (suc n) seen s b =
     pick-has (All ListedFits) (eqb (length s) 0) _ _ (λ h. tt)
     (then_has (All ListedFits) (read_entry s) _ (λ x e.
@@ -122,6 +121,6 @@ indirects_fit [] h = tt
 indirects_fit (x ∷ l) h = go x.aim (indirects_fit l h.1)
   where
     go : (o : Option AnchorStageRole) → All TargetFits (indirects l) →
-        All TargetFits (Option.get_or (map (λ g. record { role = g; entry = x.entry } ∷ indirects l) o) (indirects l))
-    go none r = r
-    go (some g) r = (h.0, r)
+        All TargetFits (unwrap_or (option_map (λ g. record { role = g; entry = x.entry } ∷ indirects l) o) (indirects l))
+    go None r = r
+    go (Some g) r = (h.0, r)

@@ -1,9 +1,9 @@
 -- What verification finds in a point that was read from bytes: its answer's numbers fit their bytes.
+use Rattle.std.specs.Prelude.{Option, None, Some}
 use Prim.Native.Nat.{ℕ, zero, suc, ◌+◌, ◌-◌, ◌/◌, ◌^◌, ◌≤◌, ◌<◌}
 use native.Mathlib.Nat.{pow-succ'}
 use native.Mathlib.Omega.{arith}
 use mathlib.Core.Bool.{Bool, true, false}
-use mathlib.Core.Option.{Option, none, some}
 use lib.ListN.{length}
 use lib.Dec.{eqb}
 use Rattle.base.specs.Base.{concat}
@@ -55,8 +55,8 @@ issue_fits AnchorTime = ill-fits 7 _ _ 6 0 0 (omega arith) (omega arith)
 issue_fits NoPrevPoint = ill-fits 7 _ _ 7 0 0 (omega arith) (omega arith)
 
 structure-fits : (o : Option StructureIssue) → All ErrorFits (structure o)
-structure-fits none = tt
-structure-fits (some i) = (issue_fits i, tt)
+structure-fits None = tt
+structure-fits (Some i) = (issue_fits i, tt)
 
 module _ (c : Settings) (s : Schedule) (p : PointInfo) (f : PointFits p) (few : (round : ℕ) → length (peers_for s round) ≤ 255) where
   payload-fits : AnswerFits (ill 6 255 255 p.payload_bytes 0 0)
@@ -94,8 +94,8 @@ module _ (c : Settings) (s : Schedule) (p : PointInfo) (f : PointFits p) (few : 
 
   sticky_fits : (o : Option Sticky) → IfSome (λ (k : Sticky). k.seq_no < 256) o → All ErrorFits (sticky_fault c o)
   unfolding sticky_fault
-  sticky_fits none h = tt
-  sticky_fits (some k) h = let many = ill-fits 8 255 255 k.seq_no 0 0 (omega arith) (none-fits 4) in search (all-pick, many, all-when, plain)
+  sticky_fits None h = tt
+  sticky_fits (Some k) h = let many = ill-fits 8 255 255 k.seq_no 0 0 (omega arith) (none-fits 4) in search (all-pick, many, all-when, plain)
 
   above-fits : All (All ErrorFits) (above_rows c p)
   unfolding above_rows

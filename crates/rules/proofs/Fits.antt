@@ -1,10 +1,10 @@
 -- The numbers of a point that was read from bytes fit the bytes that they were read from.
+use Rattle.std.specs.Prelude.{Option, None, Some}
 use Prim.Native.Nat.{ℕ, zero, suc, ◌+◌, ◌-◌, ◌*◌, ◌/◌, ◌^◌, ◌≤◌, ◌<◌}
 use native.Mathlib.Omega.{arith}
 use mathlib.Core.Path.{◌≡◌, refl, ap, sym, ◌∙◌, subst}
 use mathlib.Core.Logic.{◌⊎◌, inl, inr}
 use mathlib.Core.Bool.{Bool, true, false, ◌&&◌}
-use mathlib.Core.Option.{Option, none, some}
 use mathlib.Core.List.Memᴰ
 use mathlib.Core.List.{List, Memᴰ}
 use lib.ListN.{length, get_or}
@@ -56,27 +56,27 @@ id-fits s at b h = record {
   author = big-fits 32 s (at + 36) b (omega arith);
 }
 
-through-is : (s : List ℕ) (t : Through) → read_through s ≡ some t → through_peer t ≡ id_at s 2
+through-is : (s : List ℕ) (t : Through) → read_through s ≡ Some t → through_peer t ≡ id_at s 2
 unfolding read_through
 through-is s t e = go (eqb (get_or s 1 0) 0) (eqb (get_or s 1 0) 1) e
   where
-    go : (a b : Bool) → pick a (some (Includes (id_at s 2))) (pick b (some (Witness (id_at s 2))) none) ≡ some t → through_peer t ≡ id_at s 2
+    go : (a b : Bool) → pick a (Some (Includes (id_at s 2))) (pick b (Some (Witness (id_at s 2))) None) ≡ Some t → through_peer t ≡ id_at s 2
     go true b h = let f : Includes (id_at s 2) ≡ t = cc in ap through_peer (sym f)
     go false true h = let f : Witness (id_at s 2) ≡ t = cc in ap through_peer (sym f)
     go false false h = none-some h
 
-link-through : (s : List ℕ) (l : AnchorLink) → read_link s ≡ some l → read_through s ≡ some (through l)
+link-through : (s : List ℕ) (l : AnchorLink) → read_link s ≡ Some l → read_through s ≡ Some (through l)
 unfolding read_link
 link-through s l e =
     let x = and_then_lem (read_through s) _ l e in
     x.1 ∙ go (eqb (length s) 34 && eqb (get_or s 0 0) 0) (eqb (length s) 102 && eqb (get_or s 0 0) 1) x.0 x.2
   where
-    go : (a b : Bool) (t : Through) → pick a (some (Direct t)) (pick b (some (Indirect (point_id_at s 34) t)) none) ≡ some l → some t ≡ some (through l)
-    go true b t h = let f : Direct t ≡ l = cc in ap (λ (x : AnchorLink). some (through x)) f
-    go false true t h = let f : Indirect (point_id_at s 34) t ≡ l = cc in ap (λ (x : AnchorLink). some (through x)) f
+    go : (a b : Bool) (t : Through) → pick a (Some (Direct t)) (pick b (Some (Indirect (point_id_at s 34) t)) None) ≡ Some l → Some t ≡ Some (through l)
+    go true b t h = let f : Direct t ≡ l = cc in ap (λ (x : AnchorLink). Some (through x)) f
+    go false true t h = let f : Indirect (point_id_at s 34) t ≡ l = cc in ap (λ (x : AnchorLink). Some (through x)) f
     go false false t h = none-some h
 
-link_fits : (s : List ℕ) (l : AnchorLink) → Bytes s → 34 ≤ length s → read_link s ≡ some l → through_peer (through l) < 256 ^ 32
+link_fits : (s : List ℕ) (l : AnchorLink) → Bytes s → 34 ≤ length s → read_link s ≡ Some l → through_peer (through l) < 256 ^ 32
 link_fits s l b h e = rw (through-is s (through l) (link-through s l e)) (big-fits 32 s 2 b (omega arith))
 
 role-fits : (s : List ℕ) → Bytes s → IfSome RoleFits (read_role s)
@@ -87,19 +87,19 @@ role-fits s b =
     (pick-has RoleFits (eqb (get_or s 0 0) 2) _ _ (λ x. tt) (pick-has RoleFits (eqb (get_or s 0 0) 3) _ _ (λ x. tt) tt)))
     (pick-has RoleFits (eqb (length s) 3 && (eqb (get_or s 0 0) 1 && leb (get_or s 2 0) 1)) _ _ (λ h. b 1) tt)
 
-rest_with : (s : List ℕ) (x y : Option AnchorLink) (r : Option PointRole) (p : PointInfo) → reads s x y r ≡ some p →
-    (p.payload_bytes ≡ little_at 4 (content_of s 1) 4) × (r ≡ some p.role)
-rest_with s none y r p e = none-some e
-rest_with s (some x) none r p e = none-some e
-rest_with s (some x) (some y) none p e = none-some e
-rest_with s (some x) (some y) (some r) p e = (cc, cc)
+rest_with : (s : List ℕ) (x y : Option AnchorLink) (r : Option PointRole) (p : PointInfo) → reads s x y r ≡ Some p →
+    (p.payload_bytes ≡ little_at 4 (content_of s 1) 4) × (r ≡ Some p.role)
+rest_with s None y r p e = none-some e
+rest_with s (Some x) None r p e = none-some e
+rest_with s (Some x) (Some y) None p e = none-some e
+rest_with s (Some x) (Some y) (Some r) p e = (cc, cc)
 
 -- what a point has of its record besides `PartsOf`
-rest_of : (s : List ℕ) (p : PointInfo) → read_point s ≡ some p → (p.payload_bytes ≡ little_at 4 (content_of s 1) 4) × (read_role (content_of s 7) ≡ some p.role)
+rest_of : (s : List ℕ) (p : PointInfo) → read_point s ≡ Some p → (p.payload_bytes ≡ little_at 4 (content_of s 1) 4) × (read_role (content_of s 7) ≡ Some p.role)
 unfolding read_point
 rest_of s p h = rest_with s (read_link (content_of s 5)) (read_link (content_of s 6)) (read_role (content_of s 7)) p (picked (well_shaped s && maps_ok s) _ p h).1
 
-pub point-fits : (s : List ℕ) (p : PointInfo) → Bytes s → read_point s ≡ some p → PointFits p
+pub point-fits : (s : List ℕ) (p : PointInfo) → Bytes s → read_point s ≡ Some p → PointFits p
 unfolding read_point row_of rows
 point-fits s p b h =
     let w = (readable s p h).shaped in
@@ -138,13 +138,13 @@ abbrev pub TargetFits : AnchorLink → Type 0
 TargetFits (Direct t) = Unit
 TargetFits (Indirect to t) = IdFits to
 
-target_fits : (s : List ℕ) (l : AnchorLink) → Bytes s → read_link s ≡ some l → TargetFits l
+target_fits : (s : List ℕ) (l : AnchorLink) → Bytes s → read_link s ≡ Some l → TargetFits l
 unfolding read_link
 target_fits s l b e =
     go (eqb (length s) 34 && eqb (get_or s 0 0) 0) (eqb (length s) 102 && eqb (get_or s 0 0) 1) refl (rw (link-through s l e) at e)
   where
     go : (x y : Bool) → (eqb (length s) 102 && eqb (get_or s 0 0) 1) ≡ y →
-        pick x (some (Direct (through l))) (pick y (some (Indirect (point_id_at s 34) (through l))) none) ≡ some l → TargetFits l
+        pick x (Some (Direct (through l))) (pick y (Some (Indirect (point_id_at s 34) (through l))) None) ≡ Some l → TargetFits l
     go true y h k = let f : Direct (through l) ≡ l = cc in subst TargetFits f tt
     go false true h k =
         let f : Indirect (point_id_at s 34) (through l) ≡ l = cc in
@@ -158,7 +158,7 @@ pub record DependenciesFit (p : PointInfo) : Type 0 where
   pub proof : TargetFits p.anchor_proof
   pub trigger : TargetFits p.anchor_trigger
 
-pub dependencies_fit : (s : List ℕ) (p : PointInfo) → Bytes s → read_point s ≡ some p → DependenciesFit p
+pub dependencies_fit : (s : List ℕ) (p : PointInfo) → Bytes s → read_point s ≡ Some p → DependenciesFit p
 dependencies_fit s p b h =
     let m = parts-of s p h in
     record {

@@ -1,8 +1,8 @@
 -- The loops of check_valid and of check_indirect_links taken apart: their reasons without the root cause, and the root cause without
 -- the reasons.
+use Rattle.std.specs.Prelude.{Option, None}
 use mathlib.Core.Path.{◌≡◌, refl, sym, ap, ◌∙◌}
 use mathlib.Core.Bool.{Bool, true, false, not, ◌||◌, not-not}
-use mathlib.Core.Option.{Option, none}
 use mathlib.Core.List.{List, [], ◌∷◌, ◌++◌, append-nil, append_assoc}
 use Rattle.base.specs.Base.{pick, when, last_of, is_empty}
 use Rattle.point.specs.Point.{PointInfo}
@@ -118,9 +118,9 @@ module _ (c : Settings) (p : PointInfo) (ts : List IndirectEntry) where
     pub lists_apart : over_lists c required p es ts
         ≡ result_with
         (last_of (pick (is_empty (direct_trail c required (point_view p) false es)) (indirect_trail c p ts) (direct_trail c required (point_view p) false es)))
-        (indirect_record c p (direct_record c required (point_view p) none es) ts)
+        (indirect_record c p (direct_record c required (point_view p) None es) ts)
     unfolding over_lists
     lists_apart =
         ap (λ (t : List InvalidReason). after t (check_valid c required (point_view p) nothing es).root) (direct-trail c required (point_view p) es nothing)
         ∙ ap (after (direct_trail c required (point_view p) false es)) (direct_record_lem c required (point_view p) es nothing)
-        ∙ after_apart (direct_trail c required (point_view p) false es) (direct_record c required (point_view p) none es)
+        ∙ after_apart (direct_trail c required (point_view p) false es) (direct_record c required (point_view p) None es)

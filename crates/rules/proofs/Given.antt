@@ -1,4 +1,5 @@
 -- A call that gives Valid or TransInvalid on a point above genesis: the verdict is that over its list, and its record is a row joined.
+use Rattle.std.specs.Prelude.{Option, None, Some, option_map, unwrap_or, is_some}
 use Prim.Native.Nat.{ℕ, zero, suc, ◌<◌}
 use native.Mathlib.Omega.{arith}
 use native.Mathlib.Decide.{dec_lt}
@@ -8,9 +9,8 @@ use borrow.Author.Tests.{eq-eqb, ne_eqb, leb-false}
 use mathlib.Core.Path.{◌≡◌, refl, sym, ap, ◌∙◌, subst}
 use mathlib.Core.Logic.{◌⊎◌, inl, inr}
 use mathlib.Core.Bool.{Bool, true, false, not, ◌&&◌}
-use mathlib.Core.Option.{Option, none, some, map, get_or, some-injective}
 use mathlib.Core.List.{List, [], ◌∷◌}
-use Rattle.base.specs.Base.{pick, is_empty, is_some}
+use Rattle.base.specs.Base.{pick, is_empty}
 use Rattle.base.proofs.Bool.{clash}
 use Rattle.base.proofs.Impossible.{impossible}
 use Rattle.parts.specs.Limits.{peers_room}
@@ -45,6 +45,7 @@ use Rattle.rules.proofs.Greatest.{join_all}
 use Rattle.rules.proofs.Records.{target_record}
 use Rattle.rules.proofs.Orders.{root_of, direct_row, indirect_row_lem}
 use Rattle.rules.proofs.Brought.{record_for}
+use Rattle.base.proofs.Option.{some-injective}
 
 -- ---- the verdict is that over the list
 
@@ -77,19 +78,19 @@ module _ (c : Settings) (presence : ℕ) (p : PointInfo) (v : Verdict) where
   of_error_lem (case-error.IllFormed r) = refl
 
   decides : (o : Option VerifyError) (g : Bool) (w : WaveChecked) → g ≡ false → Decides (before_with o g w)
-  decides (some e) g w h = of_error_lem e
-  decides none true w h = impossible (cc)
-  decides none false case-wave.Horizon h = tt
-  decides none false (case-wave.IllFormed r) h = refl
-  decides none false (case-wave.Sound required) h = tt
+  decides (Some e) g w h = of_error_lem e
+  decides None true w h = impossible (cc)
+  decides None false case-wave.Horizon h = tt
+  decides None false (case-wave.IllFormed r) h = refl
+  decides None false (case-wave.Sound required) h = tt
 
   -- the verdict over the list's entries
   abbrev Over : List ℕ → Type 0
-  Over list = (l : List Listed) × (read_list list ≡ some l) × (required : Bool) × (validate c required presence p (directs l) (indirects l) ≡ v)
+  Over list = (l : List Listed) × (read_list list ≡ Some l) × (required : Bool) × (validate c required presence p (directs l) (indirects l) ≡ v)
 
   from_list : (list : List ℕ) (required : Bool) (o : Option (List Listed)) → read_list list ≡ o → over_list c required presence p o ≡ Given v → Over list
-  from_list list required none e h = impossible (cc)
-  from_list list required (some l) e h = (l, e, required, from_entries required (directs l) (indirects l) h)
+  from_list list required None e h = impossible (cc)
+  from_list list required (Some l) e h = (l, e, required, from_entries required (directs l) (indirects l) h)
 
   from-before : (list : List ℕ) (b : Before) → Decides b → has_reason v ≡ false → judge_from c presence p list b ≡ Given v → Over list
   from-before list (answered (Number n)) d k h = impossible (cc)
@@ -104,11 +105,11 @@ module _ (c : Settings) (presence : ℕ) (p : PointInfo) (v : Verdict) where
 
 -- what was read is what a call goes on with
 input_of : (o : Option Settings) (q : Option Schedule) (u : Option PointInfo) (others : Bool) (size : ℕ) (i : Input) (c : Settings) (p : PointInfo) →
-    tested_with o q u others size ≡ admitted i → o ≡ some c → u ≡ some p → (i.settings ≡ c) × (i.point ≡ p)
-input_of none q u others size i c p h e f = impossible (cc)
-input_of (some c') none u others size i c p h e f = impossible (cc)
-input_of (some c') (some s) none others size i c p h e f = impossible (cc)
-input_of (some c') (some s) (some p') others size i c p h e f = go (not (in_domain p' && others)) (ltb size peers_room) h
+    tested_with o q u others size ≡ admitted i → o ≡ Some c → u ≡ Some p → (i.settings ≡ c) × (i.point ≡ p)
+input_of None q u others size i c p h e f = impossible (cc)
+input_of (Some c') None u others size i c p h e f = impossible (cc)
+input_of (Some c') (Some s) None others size i c p h e f = impossible (cc)
+input_of (Some c') (Some s) (Some p') others size i c p h e f = go (not (in_domain p' && others)) (ltb size peers_room) h
   where
     go : (a b : Bool) → pick a (refused 4) (pick b (refused 5) (admitted (record { settings = c'; schedule = s; point = p' }))) ≡ admitted i → (i.settings ≡ c) × (i.point ≡ p)
     go true b k = impossible (cc)
@@ -158,11 +159,11 @@ abbrev Ordered : List Listed → Type 0
 Ordered [] = Unit
 Ordered (x ∷ l) = (is_some x.aim ≡ true → directs l ≡ []) × Ordered l
 
-list-ordered : (n : ℕ) (a : Bool) (s : List ℕ) (l : List Listed) → list_from n a s ≡ some l → Ordered l
+list-ordered : (n : ℕ) (a : Bool) (s : List ℕ) (l : List Listed) → list_from n a s ≡ Some l → Ordered l
 list-ordered zero a s l h = subst Ordered (list_zero a s l h).1 tt
 list-ordered (suc n) a s l h = go (list_suc n a s l h) (list-ordered n)
   where
-    go : ((length s ≡ 0) × ([] ≡ l)) ⊎ Step n a s l → ((b : Bool) (t : List ℕ) (m : List Listed) → list_from n b t ≡ some m → Ordered m) → Ordered l
+    go : ((length s ≡ 0) × ([] ≡ l)) ⊎ Step n a s l → ((b : Bool) (t : List ℕ) (m : List Listed) → list_from n b t ≡ Some m → Ordered m) → Ordered l
     go (inl e) r = subst Ordered e.1 tt
     go (inr u) r =
         subst Ordered u.is (
@@ -170,7 +171,7 @@ list-ordered (suc n) a s l h = go (list_suc n a s l h) (list-ordered n)
           r _ _ u.rest u.more,
         )
 
-pub read-ordered : (s : List ℕ) (l : List Listed) → read_list s ≡ some l → Ordered l
+pub read-ordered : (s : List ℕ) (l : List Listed) → read_list s ≡ Some l → Ordered l
 unfolding read_list
 read-ordered s l h = list-ordered 65535 false s l h
 
@@ -185,31 +186,31 @@ module _ (c : Settings) (required : Bool) (p : PointInfo) where
           ((o : Option InvalidDependency) → join_all (target_record c p) (join_all (root_of c required (point_view p)) o (directs l)) (indirects l) ≡ join_all (record_for c required p) o l) →
           join_all (target_record c p)
           (join_all (root_of c required (point_view p)) old (pick (is_some x.aim) (directs l) (x.entry ∷ directs l)))
-          (get_or (map (λ g. record { role = g; entry = x.entry } ∷ indirects l) x.aim) (indirects l))
+          (unwrap_or (option_map (λ g. record { role = g; entry = x.entry } ∷ indirects l) x.aim) (indirects l))
           ≡ join_all (record_for c required p) (join old (record_for c required p x)) l
-      go none e f = rw e (f (join old (root_of c required (point_view p) x.entry)))
-      go (some g) e f =
+      go None e f = rw e (f (join old (root_of c required (point_view p) x.entry)))
+      go (Some g) e f =
           let n : directs l ≡ [] = h.0 (ap is_some e) in
           let r = f (join old (target_record c p (record { role = g; entry = x.entry }))) in
           rw (e, n) (rw n at r)
 
   recorded_row : (l : List Listed) → direct_trail c required (point_view p) false (directs l) ≡ [] → Ordered l →
-      recorded c required p l ≡ join_all (record_for c required p) none l
+      recorded c required p l ≡ join_all (record_for c required p) None l
   recorded_row l n h =
-      let root = direct_record c required (point_view p) none (directs l) in
+      let root = direct_record c required (point_view p) None (directs l) in
       recorded_apart c required p l
       ∙ ap (λ (t : List InvalidReason). pick (is_empty t) (indirect_record c p root (indirects l)) root) n
       ∙ indirect_row_lem c p (indirects l) root
-      ∙ ap (λ (q : Option InvalidDependency). join_all (target_record c p) q (indirects l)) (direct_row c required (point_view p) (directs l) none n)
-      ∙ one_row l none h
+      ∙ ap (λ (q : Option InvalidDependency). join_all (target_record c p) q (indirects l)) (direct_row c required (point_view p) (directs l) None n)
+      ∙ one_row l None h
 
 -- the verdict of a given order is that of the row's record
-pub given_record : (x : Call) (o : GivenOrder x) (l : List Listed) → read_list x.list ≡ some l →
-    (required : Bool) × (o.verdict ≡ result_with none (join_all (record_for o.settings required o.point) none l))
+pub given_record : (x : Call) (o : GivenOrder x) (l : List Listed) → read_list x.list ≡ Some l →
+    (required : Bool) × (o.verdict ≡ result_with None (join_all (record_for o.settings required o.point) None l))
 given_record x o l r = go (judged-validate x o)
   where
     go : Over o.settings x.presence o.point o.verdict x.list →
-        (required : Bool) × (o.verdict ≡ result_with none (join_all (record_for o.settings required o.point) none l))
+        (required : Bool) × (o.verdict ≡ result_with None (join_all (record_for o.settings required o.point) None l))
     go (m, u, required, w) =
         let h = ap has_reason w ∙ o.valid_or_trans_invalid in
         let e = validate-lists o.settings required o.point (directs m) (indirects m) x.presence h in
@@ -217,6 +218,6 @@ given_record x o l r = go (judged-validate x o)
           required,
           sym w
               ∙ judging_records o.settings required x.presence o.point m h
-              ∙ ap (result_with none) (recorded_row o.settings required o.point m n.0 (read-ordered x.list m u))
-              ∙ ap (λ (q : List Listed). result_with none (join_all (record_for o.settings required o.point) none q)) (some-injective _ _ (sym u ∙ r)),
+              ∙ ap (result_with None) (recorded_row o.settings required o.point m n.0 (read-ordered x.list m u))
+              ∙ ap (λ (q : List Listed). result_with None (join_all (record_for o.settings required o.point) None q)) (some-injective _ _ (sym u ∙ r)),
         )

@@ -1,10 +1,10 @@
 -- A row of records joined: its rank is the greatest, and it is the earliest of that rank.
+use Rattle.std.specs.Prelude.{Option, None, Some}
 use Prim.Native.Nat.{ℕ, ◌≤◌, ◌<◌, max}
 use native.Mathlib.Omega.{arith}
 use mathlib.Core.Path.{◌≡◌, refl, sym, ap, ◌∙◌}
 use mathlib.Core.Logic.{◌⊎◌, inl, inr}
 use mathlib.Core.Bool.{Bool, true, false}
-use mathlib.Core.Option.{Option, none, some}
 use mathlib.Core.List.Memᴰ
 use mathlib.Core.List.{List, [], ◌∷◌, ◌++◌, Memᴰ, Permᴰ}
 use Rattle.base.proofs.Option.{none-some}
@@ -46,14 +46,14 @@ bit-same true false h = absurd (omega arith)
 bit-same false true h = absurd (omega arith)
 bit-same false false h = refl
 
-pub same_rank : (a b : InvalidDependency) → rank_of (some a) ≡ rank_of (some b) → SameRank a b
+pub same_rank : (a b : InvalidDependency) → rank_of (Some a) ≡ rank_of (Some b) → SameRank a b
 unfolding rank_of rank
 same_rank a b h =
     let s = bit-small (has_dag_round a.reason) in
     let t = bit-small (has_dag_round b.reason) in
     record { round = omega arith; dag_round_lem = bit-same _ _ (omega arith) }
 
-pub rank-some : (a : InvalidDependency) → rank_of none < rank_of (some a)
+pub rank-some : (a : InvalidDependency) → rank_of None < rank_of (Some a)
 unfolding rank_of rank
 rank-some a = omega arith
 
@@ -97,13 +97,13 @@ pub record EarliestIn {A : Type 0} (f : A → Record) (l : List A) (d : InvalidD
   pub entry : A
   pub after : List A
   pub place : l ≡ before ++ (entry ∷ after)
-  pub brings : f entry ≡ some d
-  pub less : (x : A) → Memᴰ x before → rank_of (f x) < rank_of (some d)
-  pub no_more : greatest f after ≤ rank_of (some d)
+  pub brings : f entry ≡ Some d
+  pub less : (x : A) → Memᴰ x before → rank_of (f x) < rank_of (Some d)
+  pub no_more : greatest f after ≤ rank_of (Some d)
 
 module _ {A : Type 0} (f : A → Record) (d : InvalidDependency) where
   -- one more element in front, which records less
-  in_front : (x : A) (l : List A) → rank_of (f x) < rank_of (some d) → EarliestIn f l d → EarliestIn f (x ∷ l) d
+  in_front : (x : A) (l : List A) → rank_of (f x) < rank_of (Some d) → EarliestIn f l d → EarliestIn f (x ∷ l) d
   in_front x l h w =
       record {
         before = x ∷ w.before;
@@ -115,19 +115,19 @@ module _ {A : Type 0} (f : A → Record) (d : InvalidDependency) where
         no_more = w.no_more;
       }
     where
-      go : (y : A) → (y ≡ x) ⊎ Memᴰ y w.before → rank_of (f y) < rank_of (some d)
+      go : (y : A) → (y ≡ x) ⊎ Memᴰ y w.before → rank_of (f y) < rank_of (Some d)
       go y (inl e) = let k : rank_of (f y) ≡ rank_of (f x) = ap (λ (z : A). rank_of (f z)) e in omega arith
       go y (inr m) = w.less y m
 
   -- what an old record and a list give is the old one, or comes of the list
   abbrev Either : Record → List A → Type 0
-  Either old l = ((old ≡ some d) × (greatest f l ≤ rank_of (some d))) ⊎ ((rank_of old < rank_of (some d)) × EarliestIn f l d)
+  Either old l = ((old ≡ Some d) × (greatest f l ≤ rank_of (Some d))) ⊎ ((rank_of old < rank_of (Some d)) × EarliestIn f l d)
 
   stays : (old : Record) (x : A) (l : List A) → rank_of (f x) ≤ rank_of old → Either (join old (f x)) l → Either old (x ∷ l)
   unfolding greatest
   stays old x l k (inl e) =
-      let g : old ≡ some d = sym (join_first old (f x) k) ∙ e.0 in
-      let h : rank_of old ≡ rank_of (some d) = ap rank_of g in
+      let g : old ≡ Some d = sym (join_first old (f x) k) ∙ e.0 in
+      let h : rank_of old ≡ rank_of (Some d) = ap rank_of g in
       let n = e.1 in
       inl (g, omega arith)
   stays old x l k (inr e) =
@@ -137,15 +137,15 @@ module _ {A : Type 0} (f : A → Record) (d : InvalidDependency) where
 
   replaced : (old : Record) (x : A) (l : List A) → rank_of old < rank_of (f x) → Either (join old (f x)) l → Either old (x ∷ l)
   replaced old x l k (inl e) =
-      let g : f x ≡ some d = sym (join-later old (f x) k) ∙ e.0 in
-      let h : rank_of (f x) ≡ rank_of (some d) = ap rank_of g in
+      let g : f x ≡ Some d = sym (join-later old (f x) k) ∙ e.0 in
+      let h : rank_of (f x) ≡ rank_of (Some d) = ap rank_of g in
       inr (omega arith, record { before = []; entry = x; after = l; place = refl; brings = g; less = λ y m. absurd (Memᴰ.not-nil m); no_more = e.1 })
   replaced old x l k (inr e) =
       let g : rank_of (join old (f x)) ≡ rank_of (f x) = ap rank_of (join-later old (f x) k) in
       let n = e.0 in
       inr (omega arith, in_front x l (omega arith) e.1)
 
-  either : (l : List A) (old : Record) → join_all f old l ≡ some d → Either old l
+  either : (l : List A) (old : Record) → join_all f old l ≡ Some d → Either old l
   unfolding join_all greatest
   either [] old h = inl (h, omega arith)
   either (x ∷ l) old h = go (three (rank_of old) (rank_of (f x))) (either l (join old (f x)) h)
@@ -155,21 +155,21 @@ module _ {A : Type 0} (f : A → Record) (d : InvalidDependency) where
       go (equal k) w = stays old x l (omega arith) w
       go (above k) w = stays old x l (omega arith) w
 
-  pub earliest : (l : List A) → join_all f none l ≡ some d → EarliestIn f l d
-  earliest l h = go (either l none h)
+  pub earliest : (l : List A) → join_all f None l ≡ Some d → EarliestIn f l d
+  earliest l h = go (either l None h)
     where
-      go : Either none l → EarliestIn f l d
+      go : Either None l → EarliestIn f l d
       go (inl e) = none-some e.0
       go (inr e) = e.1
 
 module _ {A : Type 0} (f : A → Record) where
   -- where nothing is recorded, no element records anything, and so the other way round
-  pub all-absent : (l : List A) → join_all f none l ≡ none → (x : A) → Memᴰ x l → f x ≡ none
+  pub all-absent : (l : List A) → join_all f None l ≡ None → (x : A) → Memᴰ x l → f x ≡ None
   all-absent l h x m =
-      let r = all-rank f none l in
-      let n : rank_of (join_all f none l) ≡ rank_of none = ap rank_of h in
+      let r = all-rank f None l in
+      let n : rank_of (join_all f None l) ≡ rank_of None = ap rank_of h in
       go (f x) refl (omega (arith, member-rank f l x m))
     where
-      go : (o : Record) → f x ≡ o → rank_of (f x) ≤ rank_of none → f x ≡ none
-      go none e k = e
-      go (some d) e k = let g : rank_of (f x) ≡ rank_of (some d) = ap rank_of e in absurd (omega (arith, rank-some d))
+      go : (o : Record) → f x ≡ o → rank_of (f x) ≤ rank_of None → f x ≡ None
+      go None e k = e
+      go (Some d) e k = let g : rank_of (f x) ≡ rank_of (Some d) = ap rank_of e in absurd (omega (arith, rank-some d))

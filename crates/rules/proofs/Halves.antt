@@ -1,11 +1,11 @@
 -- What a list records in two halves: the join of what each half records.
+use Rattle.std.specs.Prelude.{Option, None, Some, option_map, unwrap_or, is_some}
 use mathlib.Core.Path.{◌≡◌, refl, sym, ap, ◌∙◌}
 use mathlib.Core.Logic.{◌⊎◌, inl, inr}
 use mathlib.Core.Bool.{Bool, true, false, not}
-use mathlib.Core.Option.{Option, none, some, map, get_or}
 use mathlib.Core.List.Memᴰ
 use mathlib.Core.List.{List, [], ◌∷◌, ◌++◌}
-use Rattle.base.specs.Base.{pick, when, is_empty, is_some}
+use Rattle.base.specs.Base.{pick, when, is_empty}
 use Rattle.base.proofs.Impossible.{impossible}
 use Rattle.point.specs.Point.{PointInfo}
 use Rattle.point.specs.declared.data.AnchorStageRole.{AnchorStageRole}
@@ -36,16 +36,16 @@ indirects-append [] m = refl
 indirects-append (x ∷ l) m = go x.aim (indirects-append l m)
   where
     go : (o : Option AnchorStageRole) → indirects (l ++ m) ≡ indirects l ++ indirects m →
-        get_or (map (λ g. record { role = g; entry = x.entry } ∷ indirects (l ++ m)) o) (indirects (l ++ m))
-        ≡ get_or (map (λ g. record { role = g; entry = x.entry } ∷ indirects l) o) (indirects l) ++ indirects m
-    go none h = h
-    go (some g) h = ap (λ (r : List IndirectEntry). record { role = g; entry = x.entry } ∷ r) h
+        unwrap_or (option_map (λ g. record { role = g; entry = x.entry } ∷ indirects (l ++ m)) o) (indirects (l ++ m))
+        ≡ unwrap_or (option_map (λ g. record { role = g; entry = x.entry } ∷ indirects l) o) (indirects l) ++ indirects m
+    go None h = h
+    go (Some g) h = ap (λ (r : List IndirectEntry). record { role = g; entry = x.entry } ∷ r) h
 
 -- ---- direct entries
 
 module _ (c : Settings) (required : Bool) (p : PointView) where
   -- a record that is there already is joined first
-  pub direct-onto : (es : List Entry) (old : Option InvalidDependency) → direct_record c required p old es ≡ join old (direct_record c required p none es)
+  pub direct-onto : (es : List Entry) (old : Option InvalidDependency) → direct_record c required p old es ≡ join old (direct_record c required p None es)
   unfolding direct_record
   direct-onto [] old = sym (none-second old)
   direct-onto (e ∷ l) old = go (is_dropped e.state) (direct-onto l)
@@ -53,12 +53,12 @@ module _ (c : Settings) (required : Bool) (p : PointView) where
       root : Option InvalidDependency
       root = (entry_findings c required p e).root
 
-      go : (b : Bool) → ((o : Option InvalidDependency) → direct_record c required p o l ≡ join o (direct_record c required p none l)) →
-          pick b old (direct_record c required p (join old root) l) ≡ join old (pick b none (direct_record c required p (join none root) l))
+      go : (b : Bool) → ((o : Option InvalidDependency) → direct_record c required p o l ≡ join o (direct_record c required p None l)) →
+          pick b old (direct_record c required p (join old root) l) ≡ join old (pick b None (direct_record c required p (join None root) l))
       go true f = sym (none-second old)
       go false f =
           f (join old root)
-          ∙ join_assoc old root (direct_record c required p none l)
+          ∙ join_assoc old root (direct_record c required p None l)
           ∙ ap (join old) (sym (f root) ∙ ap (λ (o : Option InvalidDependency). direct_record c required p o l) (sym (none_first_lem root)))
 
   -- entries that give no reason, none of them dropped, before others
@@ -85,12 +85,12 @@ module _ (c : Settings) (required : Bool) (p : PointView) where
 -- ---- indirect entries
 
 module _ (c : Settings) (p : PointInfo) where
-  pub indirect-onto : (ts : List IndirectEntry) (old : Option InvalidDependency) → indirect_record c p old ts ≡ join old (indirect_record c p none ts)
+  pub indirect-onto : (ts : List IndirectEntry) (old : Option InvalidDependency) → indirect_record c p old ts ≡ join old (indirect_record c p None ts)
   unfolding indirect_record
   indirect-onto [] old = sym (none-second old)
   indirect-onto (a ∷ l) old =
       indirect-onto l (join old (indirect_findings c p a).root)
-      ∙ join_assoc old (indirect_findings c p a).root (indirect_record c p none l)
+      ∙ join_assoc old (indirect_findings c p a).root (indirect_record c p None l)
       ∙ ap (join old)
       (sym (indirect-onto l (indirect_findings c p a).root) ∙ ap (λ (o : Option InvalidDependency). indirect_record c p o l) (sym (none_first_lem (indirect_findings c p a).root)))
 
@@ -107,7 +107,7 @@ module _ (c : Settings) (required : Bool) (p : PointInfo) where
   direct_reasons l = direct_trail c required (point_view p) false (directs l)
 
   abbrev pub direct_root : List Listed → Option InvalidDependency
-  direct_root l = direct_record c required (point_view p) none (directs l)
+  direct_root l = direct_record c required (point_view p) None (directs l)
 
   pub direct-reasons : (l : List Listed) → (direct_findings c required p l).trail ≡ direct_reasons l
   direct-reasons l = direct-trail c required (point_view p) (directs l) nothing
@@ -137,12 +137,12 @@ module _ (c : Settings) (required : Bool) (p : PointInfo) where
   -- a list after a record, which its direct entries follow
   onto : (t : Bool) (old : Option InvalidDependency) (es : List Entry) (ts : List IndirectEntry) →
       pick t (indirect_record c p (direct_record c required (point_view p) old es) ts) (direct_record c required (point_view p) old es)
-      ≡ join old (pick t (indirect_record c p (direct_record c required (point_view p) none es) ts) (direct_record c required (point_view p) none es))
+      ≡ join old (pick t (indirect_record c p (direct_record c required (point_view p) None es) ts) (direct_record c required (point_view p) None es))
   onto true old es ts =
-      let root = direct_record c required (point_view p) none es in
+      let root = direct_record c required (point_view p) None es in
       indirect-onto c p ts (direct_record c required (point_view p) old es)
-      ∙ ap (λ (o : Option InvalidDependency). join o (indirect_record c p none ts)) (direct-onto c required (point_view p) es old)
-      ∙ join_assoc old root (indirect_record c p none ts)
+      ∙ ap (λ (o : Option InvalidDependency). join o (indirect_record c p None ts)) (direct-onto c required (point_view p) es old)
+      ∙ join_assoc old root (indirect_record c p None ts)
       ∙ ap (join old) (sym (indirect-onto c p ts root))
   onto false old es ts = direct-onto c required (point_view p) es old
 
@@ -152,7 +152,7 @@ module _ (c : Settings) (required : Bool) (p : PointInfo) where
   lists-joined l m o h =
       let a = direct-after c required (point_view p) (directs l) (directs m) h in
       recorded_apart (l ++ m)
-      ∙ rw (directs-append l m, indirects-append l m, a.0, a.1 none) (go o)
+      ∙ rw (directs-append l m, indirects-append l m, a.0, a.1 None) (go o)
       ∙ sym (ap (λ (r : Option InvalidDependency). join r (recorded c required p m)) (recorded_apart l ∙ rw h) ∙ ap (join (indirect_record c p (direct_root l) (indirects l))) (recorded_apart m))
     where
       go : (indirects l ≡ []) ⊎ (directs m ≡ []) →
@@ -163,7 +163,7 @@ module _ (c : Settings) (required : Bool) (p : PointInfo) where
           (pick (is_empty (direct_reasons m)) (indirect_record c p (direct_root m) (indirects m)) (direct_root m))
       go (inl e) = rw e (rw (no_indirect (direct_root l)) (onto (is_empty (direct_reasons m)) (direct_root l) (directs m) (indirects m)))
       go (inr e) =
-          rw (e, no_direct.0, no_direct.1 (direct_root l), no_direct.1 none)
+          rw (e, no_direct.0, no_direct.1 (direct_root l), no_direct.1 None)
           (indirect-after c p (indirects l) (indirects m) (direct_root l) ∙ indirect-onto c p (indirects m) (indirect_record c p (direct_root l) (indirects l)))
 
   -- a list without a dropped entry and without one that gives a reason
@@ -174,7 +174,7 @@ module _ (c : Settings) (required : Bool) (p : PointInfo) where
     where
       go : (o : Option AnchorStageRole) → x.aim ≡ o → (is_dropped x.entry.state ≡ false) × (reasons_by c required p x.aim x.entry ≡ []) →
           direct_reasons l ≡ [] → direct_trail c required (point_view p) false (pick (is_some x.aim) (directs l) (x.entry ∷ directs l)) ≡ []
-      go none e k r =
+      go None e k r =
           let t : (entry_findings c required (point_view p) x.entry).trail ≡ [] = ap (λ (o : Option AnchorStageRole). reasons_by c required p o x.entry) (sym e) ∙ k.1 in
           rw (e, k.0, t) r
-      go (some g) e k r = rw e r
+      go (Some g) e k r = rw e r

@@ -1,9 +1,9 @@
 -- Ticket U10's statement holds.
+use Rattle.std.specs.Prelude.{Option, None, Some}
 use Prim.Native.Nat.{ℕ}
 use native.Mathlib.Omega.{arith}
 use mathlib.Core.Path.{◌≡◌, refl, sym, ap, ◌∙◌}
 use mathlib.Core.Bool.{Bool, false}
-use mathlib.Core.Option.{Option, none, some}
 use mathlib.Core.List.{List, ◌++◌}
 use Rattle.base.specs.Base.{concat, last_of}
 use Rattle.base.proofs.Impossible.{impossible}
@@ -24,13 +24,13 @@ use Rattle.rules.proofs.Pieces.{list-append}
 
 -- ---- the record of judging
 
-unreasoned : (o : Option InvalidReason) (d : Option InvalidDependency) → has_reason (result_with o d) ≡ false → result_with o d ≡ result_with none d
-unreasoned none d h = refl
-unreasoned (some r) d h = impossible (cc)
+unreasoned : (o : Option InvalidReason) (d : Option InvalidDependency) → has_reason (result_with o d) ≡ false → result_with o d ≡ result_with None d
+unreasoned None d h = refl
+unreasoned (Some r) d h = impossible (cc)
 
 pub judging_records : (c : Settings) (required : Bool) (presence : ℕ) (p : PointInfo) (l : List Listed) →
     has_reason (validate c required presence p (directs l) (indirects l)) ≡ false →
-    validate c required presence p (directs l) (indirects l) ≡ result_with none (recorded c required p l)
+    validate c required presence p (directs l) (indirects l) ≡ result_with None (recorded c required p l)
 unfolding over_lists
 judging_records c required presence p l h =
     let e = validate-lists c required p (directs l) (indirects l) presence h in
@@ -39,7 +39,7 @@ judging_records c required presence p l h =
 -- ---- two lists of bytes
 
 halves-joined : (c : Settings) (required : Bool) (p : PointInfo) (s t : List ℕ) (l m whole : List Listed) →
-    read_list s ≡ some l → read_list t ≡ some m → read_list (s ++ t) ≡ some whole → Silent c required p l →
+    read_list s ≡ Some l → read_list t ≡ Some m → read_list (s ++ t) ≡ Some whole → Silent c required p l →
     recorded c required p whole ≡ join (recorded c required p l) (recorded c required p m)
 halves-joined c required p s t l m whole h g w q =
     let a = list-append s t l m whole h g w in
@@ -48,8 +48,8 @@ halves-joined c required p s t l m whole h g w q =
 -- ---- the tie: the two records differ in their authors
 
 abbrev author_in : Option InvalidDependency → ℕ
-author_in none = 0
-author_in (some d) = d.to.author
+author_in None = 0
+author_in (Some d) = d.to.author
 
 pub joined : Joined
 unfolding concat last_of get find find_from peers digests digest_safe prev_digest conf source target top dag_round same_id proof_row trigger_proof_row time_row newer_row sticky_row reached_row target_row anchor_time_row carried_row source_row point_rows taken dependency_trail record_of is_newer join dependency entry_findings check_valid check_indirect_links over_lists anchor_rows link_ids point_view dep_view directs indirects

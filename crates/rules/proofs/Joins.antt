@@ -1,10 +1,10 @@
 -- Laws of records joined: of two the one of higher rank stays, and the first on a tie.
+use Rattle.std.specs.Prelude.{Option, None, Some}
 use Prim.Native.Nat.{ℕ, suc, ◌+◌, ◌*◌, ◌≤◌, ◌<◌}
 use native.Mathlib.Omega.{arith}
 use mathlib.Core.Path.{◌≡◌, refl, sym, ◌∙◌}
 use mathlib.Core.Logic.{◌⊎◌, inl, inr}
 use mathlib.Core.Bool.{Bool, true, false, not, ◌&&◌}
-use mathlib.Core.Option.{Option, none, some}
 use lib.Dec.{ltb, eqb}
 use borrow.Author.Tests.{lt-ltb, eq-eqb, ltb-true, eqb-true}
 use Rattle.base.specs.Base.{pick}
@@ -41,24 +41,24 @@ module _ (old new : InvalidDependency) where
   newer-test (inl k) = or_first (ltb old.to.round new.to.round) _ (lt-ltb _ _ k)
   newer-test (inr (k, u, v)) = or_second (ltb old.to.round new.to.round) _ (rw (eq-eqb _ _ k, u, v))
 
-  pub newer_replaces : Newer old new → join (some old) (some new) ≡ some new
+  pub newer_replaces : Newer old new → join (Some old) (Some new) ≡ Some new
   unfolding join
-  newer_replaces h = pick_true (is_newer old new) (some new) (some old) (newer-test h)
+  newer_replaces h = pick_true (is_newer old new) (Some new) (Some old) (newer-test h)
 
-  pub first-stays : (Newer old new → ⊥) → join (some old) (some new) ≡ some old
+  pub first-stays : (Newer old new → ⊥) → join (Some old) (Some new) ≡ Some old
   unfolding join
-  first-stays h = pick-false (is_newer old new) (some new) (some old) (never (is_newer old new) (λ t. h (test-newer t)))
+  first-stays h = pick-false (is_newer old new) (Some new) (Some old) (never (is_newer old new) (λ t. h (test-newer t)))
 
 -- ---- none
 
-pub none_first_lem : (a : Option InvalidDependency) → join none a ≡ a
+pub none_first_lem : (a : Option InvalidDependency) → join None a ≡ a
 unfolding join
 none_first_lem a = refl
 
-pub none-second : (a : Option InvalidDependency) → join a none ≡ a
+pub none-second : (a : Option InvalidDependency) → join a None ≡ a
 unfolding join
-none-second none = refl
-none-second (some a) = refl
+none-second None = refl
+none-second (Some a) = refl
 
 -- ---- the rank of a record
 
@@ -75,8 +75,8 @@ rank d = 2 * d.to.round + bit (has_dag_round d.reason)
 
 unfoldable pub rank_of : Option InvalidDependency → ℕ
 unfolding rank
-rank_of none = 0
-rank_of (some d) = suc (rank d)
+rank_of None = 0
+rank_of (Some d) = suc (rank d)
 
 module _ (a b : InvalidDependency) where
   pub newer-higher : Newer a b → rank a < rank b
@@ -100,15 +100,15 @@ module _ (a b : InvalidDependency) where
 
 pub join-later : (a b : Option InvalidDependency) → rank_of a < rank_of b → join a b ≡ b
 unfolding rank_of
-join-later none b h = none_first_lem b
-join-later (some a) none h = absurd (omega arith)
-join-later (some a) (some b) h = newer_replaces a b (higher-newer a b (omega arith))
+join-later None b h = none_first_lem b
+join-later (Some a) None h = absurd (omega arith)
+join-later (Some a) (Some b) h = newer_replaces a b (higher-newer a b (omega arith))
 
 pub join_first : (a b : Option InvalidDependency) → rank_of b ≤ rank_of a → join a b ≡ a
 unfolding rank_of
-join_first a none h = none-second a
-join_first none (some b) h = absurd (omega arith)
-join_first (some a) (some b) h = first-stays a b (λ n. (let k = newer-higher a b n in omega arith))
+join_first a None h = none-second a
+join_first None (Some b) h = absurd (omega arith)
+join_first (Some a) (Some b) h = first-stays a b (λ n. (let k = newer-higher a b n in omega arith))
 
 pub join_self : (a : Option InvalidDependency) → join a a ≡ a
 join_self a = join_first a a (omega arith)
@@ -132,22 +132,22 @@ join_assoc a b d = go (three (rank_of a) (rank_of b)) (three (rank_of b) (rank_o
 
 -- ---- one of two
 
-pub join-absent : (a b : Option InvalidDependency) → join a b ≡ none → (a ≡ none) × (b ≡ none)
+pub join-absent : (a b : Option InvalidDependency) → join a b ≡ None → (a ≡ None) × (b ≡ None)
 unfolding join
-join-absent none b h = (refl, h)
-join-absent (some a) none h = some-none h
-join-absent (some a) (some b) h = go (is_newer a b) h
+join-absent None b h = (refl, h)
+join-absent (Some a) None h = some-none h
+join-absent (Some a) (Some b) h = go (is_newer a b) h
   where
-    go : (t : Bool) → pick t (some b) (some a) ≡ none → (some a ≡ none) × (some b ≡ none)
+    go : (t : Bool) → pick t (Some b) (Some a) ≡ None → (Some a ≡ None) × (Some b ≡ None)
     go true k = some-none k
     go false k = some-none k
 
-pub join_one : (a b : Option InvalidDependency) (d : InvalidDependency) → join a b ≡ some d → (a ≡ some d) ⊎ (b ≡ some d)
+pub join_one : (a b : Option InvalidDependency) (d : InvalidDependency) → join a b ≡ Some d → (a ≡ Some d) ⊎ (b ≡ Some d)
 unfolding join
-join_one none b d h = inr h
-join_one (some a) none d h = inl h
-join_one (some a) (some b) d h = go (is_newer a b) h
+join_one None b d h = inr h
+join_one (Some a) None d h = inl h
+join_one (Some a) (Some b) d h = go (is_newer a b) h
   where
-    go : (t : Bool) → pick t (some b) (some a) ≡ some d → (some a ≡ some d) ⊎ (some b ≡ some d)
+    go : (t : Bool) → pick t (Some b) (Some a) ≡ Some d → (Some a ≡ Some d) ⊎ (Some b ≡ Some d)
     go true k = inr k
     go false k = inl k

@@ -1,10 +1,10 @@
 -- The verdict over lists of entries, for every order of them: what can't differ.
+use Rattle.std.specs.Prelude.{Option, None, Some}
 use Prim.Native.Nat.{ℕ, max}
 use native.Mathlib.Omega.{arith}
 use lib.Dec.{eqb}
 use mathlib.Core.Path.{◌≡◌, refl, sym, ap, ◌∙◌}
 use mathlib.Core.Bool.{Bool, true, false, not, ◌&&◌}
-use mathlib.Core.Option.{Option, none, some}
 use mathlib.Core.List.{List, [], ◌∷◌, ◌++◌, Permᴰ}
 use Rattle.base.specs.Base.{pick, when, last_of, is_empty}
 use Rattle.base.proofs.Impossible.{impossible}
@@ -89,11 +89,11 @@ alike_self (Given (verdict.Invalid r)) = (r, refl)
 alike_self (Given (verdict.TransInvalid d)) = (d, refl, refl, refl)
 alike_self (Given verdict.Valid) = refl
 
-record_alike : (a b : Option InvalidDependency) → rank_of a ≡ rank_of b → Alike (Given (result_with none a)) (Given (result_with none b))
-record_alike none none h = refl
-record_alike none (some b) h = absurd (omega (arith, rank-some b))
-record_alike (some a) none h = absurd (omega (arith, rank-some a))
-record_alike (some a) (some b) h = let s = same_rank b a (sym h) in (b, refl, s.round, s.dag_round_lem)
+record_alike : (a b : Option InvalidDependency) → rank_of a ≡ rank_of b → Alike (Given (result_with None a)) (Given (result_with None b))
+record_alike None None h = refl
+record_alike None (Some b) h = absurd (omega (arith, rank-some b))
+record_alike (Some a) None h = absurd (omega (arith, rank-some a))
+record_alike (Some a) (Some b) h = let s = same_rank b a (sym h) in (b, refl, s.round, s.dag_round_lem)
 
 -- a reason, whatever is recorded
 some-reason : (x : InvalidReason) (l : List InvalidReason) (d : Option InvalidDependency) →
@@ -128,18 +128,18 @@ module _ (c : Settings) (required : Bool) (p : PointInfo) where
   reasons es ts = pick (is_empty (direct_trail c required (point_view p) false es)) (indirect_trail c p ts) (direct_trail c required (point_view p) false es)
 
   abbrev pub recorded_over : List Entry → List IndirectEntry → Option InvalidDependency
-  recorded_over es ts = indirect_record c p (direct_record c required (point_view p) none es) ts
+  recorded_over es ts = indirect_record c p (direct_record c required (point_view p) None es) ts
 
   silent : (es : List Entry) (ts : List IndirectEntry) → is_empty (reasons es ts) ≡ (all (quiet c required (point_view p)) es && all (quiet_target c p) ts)
   silent es ts = both-empty (direct_trail c required (point_view p) false es) (indirect_trail c p ts) ∙ rw (direct-quiet c required (point_view p) es, indirect-quiet c p ts)
 
   lists-rank : (es : List Entry) (ts : List IndirectEntry) → is_empty (reasons es ts) ≡ true →
-      rank_of (recorded_over es ts) ≡ max (max (rank_of none) (greatest (root_of c required (point_view p)) es)) (greatest (target_record c p) ts)
+      rank_of (recorded_over es ts) ≡ max (max (rank_of None) (greatest (root_of c required (point_view p)) es)) (greatest (target_record c p) ts)
   lists-rank es ts h =
-      ap rank_of (indirect_row_lem c p ts (direct_record c required (point_view p) none es))
-      ∙ all-rank (target_record c p) (direct_record c required (point_view p) none es) ts
+      ap rank_of (indirect_row_lem c p ts (direct_record c required (point_view p) None es))
+      ∙ all-rank (target_record c p) (direct_record c required (point_view p) None es) ts
       ∙ ap (λ (n : ℕ). max n (greatest (target_record c p) ts))
-      (ap rank_of (direct_row c required (point_view p) es none (first-empty _ _ h)) ∙ all-rank (root_of c required (point_view p)) none es)
+      (ap rank_of (direct_row c required (point_view p) es None (first-empty _ _ h)) ∙ all-rank (root_of c required (point_view p)) None es)
 
   module _ {es es' : List Entry} {ts ts' : List IndirectEntry} (d : Permᴰ es es') (g : Permᴰ ts ts') where
     silent_perm : is_empty (reasons es ts) ≡ is_empty (reasons es' ts')

@@ -1,10 +1,10 @@
 -- A point that is not invalid passed every check of every entry.
+use Rattle.std.specs.Prelude.{Option, None, Some}
 use Prim.Native.Nat.{ℕ}
 use lib.Dec.{eqb}
 use mathlib.Core.Path.{◌≡◌, refl, sym, ap, ◌∙◌, subst}
 use mathlib.Core.Logic.{◌⊎◌, inl, inr}
 use mathlib.Core.Bool.{Bool, true, false, not, ◌&&◌}
-use mathlib.Core.Option.{Option, none, some}
 use mathlib.Core.List.Memᴰ
 use mathlib.Core.List.{List, [], ◌∷◌, ◌++◌, Memᴰ}
 use Rattle.base.specs.Base.{pick, when, concat, is_empty}
@@ -99,9 +99,9 @@ entry-rows-none c required p as_prev_point e h = rows_none c required true p e.s
 entry-rows-none c required p as_version e h = h
 entry-rows-none c required p aside e h = tt
 
-no_reason : (o : Option InvalidReason) (w : Option InvalidDependency) → has_reason (result_with o w) ≡ false → o ≡ none
-no_reason none w h = refl
-no_reason (some r) w h = impossible (cc)
+no_reason : (o : Option InvalidReason) (w : Option InvalidDependency) → has_reason (result_with o w) ≡ false → o ≡ None
+no_reason None w h = refl
+no_reason (Some r) w h = impossible (cc)
 
 both-none : (a b : List InvalidReason) → pick (is_empty a) b a ≡ [] → (a ≡ []) × (b ≡ [])
 both-none [] b h = (refl, h)

@@ -1,20 +1,19 @@
 -- An entry at the front of bytes is read as far as it goes: what follows it makes no difference. So lists that follow one another.
+use Rattle.std.specs.Prelude.{option_map, unwrap_or, Option, None, Some, is_some}
 use Prim.Native.Nat.{ℕ, zero, suc, ◌+◌, ◌-◌, ◌≤◌, ◌<◌}
 use native.Mathlib.Omega.{arith}
 use mathlib.Core.Path.{◌≡◌, refl, sym, ap, ◌∙◌, subst}
 use mathlib.Core.Logic.{◌⊎◌, inl, inr}
 use mathlib.Core.Bool.{Bool, true, false, ◌&&◌}
-use mathlib.Core.Option
-use mathlib.Core.Option.{Option, none, some, map, some-injective, map-eq-some_iff}
 use mathlib.Core.List.{List, [], ◌∷◌, ◌++◌}
 use lib.ListN.{length, get_or, take, drop, length-drop}
 use lib.Seq.{drop-append-le, get_or-take}
 use lib.Dec.{leb, eqb}
 use borrow.Author.Tests.{eqb-true}
-use Rattle.base.specs.Base.{pick, is_some, and_then}
+use Rattle.base.specs.Base.{pick, and_then}
 use Rattle.base.proofs.Bool.{and_left, and_right, and_both, pick_true, pick-false}
 use Rattle.base.proofs.Lists.{append-none}
-use Rattle.base.proofs.Option.{none-some, picked, and_then_lem}
+use Rattle.base.proofs.Option.{none-some, picked, and_then_lem, some-injective, map-eq-some_iff}
 use Rattle.parts.specs.Bytes.{bytes_at, little_at, big_at}
 use Rattle.record.specs.Record.{field_row, field_ok, record_end}
 use Rattle.parts.proofs.Laws.{part_front}
@@ -57,10 +56,10 @@ module _ (e : ℕ) (s t : List ℕ) (a : Agree e s t) where
 
 -- a reader takes no more bytes than there are, and gives the same of any bytes that begin with those
 abbrev Fronted : {A : Type 0} → (A → ℕ) → (List ℕ → Option A) → List ℕ → Type 0
-Fronted {A} size f s = (x : A) → f s ≡ some x → (size x ≤ length s) × ((t : List ℕ) → Agree (size x) s t → f t ≡ some x)
+Fronted {A} size f s = (x : A) → f s ≡ Some x → (size x ≤ length s) × ((t : List ℕ) → Agree (size x) s t → f t ≡ Some x)
 
-front-is : (s : List ℕ) (n : ℕ) (q : PointInfo) → record_end s ≡ some n → read_point (take n s) ≡ some q → is_listable q ≡ true →
-    record_front s ≡ some (record { point = q; size = n })
+front-is : (s : List ℕ) (n : ℕ) (q : PointInfo) → record_end s ≡ Some n → read_point (take n s) ≡ Some q → is_listable q ≡ true →
+    record_front s ≡ Some (record { point = q; size = n })
 unfolding record_front
 front-is s n q e r l = rw (e, r, l)
 
@@ -81,7 +80,7 @@ record_front_lem s x h =
           ∙ k.1,
     )
 
-record_size_lem : (state : PointInfo → DagPoint) (front : ℕ) (s : List ℕ) (x : Stated) → record_at state front s ≡ some x → front ≤ x.size
+record_size_lem : (state : PointInfo → DagPoint) (front : ℕ) (s : List ℕ) (x : Stated) → record_at state front s ≡ Some x → front ≤ x.size
 record_size_lem state front s x h =
     let y = (map-eq-some_iff _ (record_front (drop front s))).0 h in
     let e : front + y.0.size ≡ x.size = ap (λ (z : Stated). z.size) y.2 in
@@ -94,7 +93,7 @@ record_at_lem state front s g x h =
     let e : front + y.0.size ≡ x.size = ap (λ (z : Stated). z.size) y.2 in
     let l = length-drop front s in
     let b = f.0 in
-    (omega arith, λ t a. rw (f.1 (drop front t) (agree_after x.size s t a front y.0.size (omega arith))) (ap some y.2))
+    (omega arith, λ t a. rw (f.1 (drop front t) (agree_after x.size s t a front y.0.size (omega arith))) (ap Some y.2))
 
 id-at : (state : PointId → DagPoint) (s : List ℕ) → Fronted (λ x. x.size) (id_at17 state) s
 id-at state s x h =
@@ -116,7 +115,7 @@ root_alike e s t a l h =
 abbrev OfState : (List ℕ → Option Stated) → List ℕ → Type 0
 OfState f s = Fronted (λ x. x.size) f s
 
-guarded : (b : Bool) (f : List ℕ → Option Stated) (s : List ℕ) → (b ≡ true → OfState f s) → OfState (λ t. pick b (f t) none) s
+guarded : (b : Bool) (f : List ℕ → Option Stated) (s : List ℕ) → (b ≡ true → OfState f s) → OfState (λ t. pick b (f t) None) s
 guarded true f s g x h = g refl x h
 guarded false f s g x h = none-some h
 
@@ -130,7 +129,7 @@ by_state false false false false true f0 f1 f2 f3 f4 f5 s o0 o1 o2 o3 o4 o5 = o4
 by_state false false false false false f0 f1 f2 f3 f4 f5 s o0 o1 o2 o3 o4 o5 = o5
 
 rooted : (state : List ℕ → PointInfo → DagPoint) (reason : ℕ) (s : List ℕ) → ((e : ℕ) (t : List ℕ) → Agree e s t → 72 ≤ e → state t ≡ state s) →
-    OfState (λ t. pick (eqb reason 0 && is_root t) (record_at (state t) 72 t) none) s
+    OfState (λ t. pick (eqb reason 0 && is_root t) (record_at (state t) 72 t) None) s
 rooted state reason s f x h =
     let k = picked (eqb reason 0 && is_root s) _ x h in
     let r = and_right (eqb reason 0) _ k.0 in
@@ -143,30 +142,30 @@ unfolding read_state
 state-front state reason s =
     let root : List ℕ → PointInfo → DagPoint = λ t q. TransInvalid q (point_id_at t 3) (get_or t 71 0) in
     by_state (eqb state 0) (eqb state 1) (eqb state 2) (eqb state 3) (eqb state 4)
-    (λ t. pick (eqb reason 0) (record_at Valid 0 t) none)
-    (λ t. pick (eqb reason 0 && is_root t) (record_at (root t) 72 t) none)
-    (λ t. pick (is_some (dag_round reason)) (record_at (λ q. Invalid q reason) 0 t) none)
-    (λ t. pick (leb 1 reason && leb reason 16) (id_at17 (λ i. IllFormed i reason) t) none)
-    (λ t. pick (eqb reason 0) (id_at17 NotFound t) none)
-    (λ t. pick (eqb state 5 && eqb reason 0) (some (record { point = Dropped; size = 0 })) none)
+    (λ t. pick (eqb reason 0) (record_at Valid 0 t) None)
+    (λ t. pick (eqb reason 0 && is_root t) (record_at (root t) 72 t) None)
+    (λ t. pick (is_some (dag_round reason)) (record_at (λ q. Invalid q reason) 0 t) None)
+    (λ t. pick (leb 1 reason && leb reason 16) (id_at17 (λ i. IllFormed i reason) t) None)
+    (λ t. pick (eqb reason 0) (id_at17 NotFound t) None)
+    (λ t. pick (eqb state 5 && eqb reason 0) (Some (record { point = Dropped; size = 0 })) None)
     s
     (guarded (eqb reason 0) (record_at Valid 0) s (λ e. record_at_lem Valid 0 s (omega arith)))
     (rooted root reason s (λ e t a l. rw (id-alike e s t a (omega arith), byte_alike e s t a 71 (omega arith))))
     (guarded (is_some (dag_round reason)) (record_at (λ q. Invalid q reason) 0) s (λ e. record_at_lem (λ q. Invalid q reason) 0 s (omega arith)))
     (guarded (leb 1 reason && leb reason 16) (id_at17 (λ i. IllFormed i reason)) s (λ e. id-at (λ i. IllFormed i reason) s))
     (guarded (eqb reason 0) (id_at17 NotFound) s (λ e. id-at NotFound s))
-    (guarded (eqb state 5 && eqb reason 0) (λ t. some (record { point = Dropped; size = 0 })) s (λ e x h. (nothing x h, λ t a. h)))
+    (guarded (eqb state 5 && eqb reason 0) (λ t. Some (record { point = Dropped; size = 0 })) s (λ e x h. (nothing x h, λ t a. h)))
   where
-    nothing : (x : Stated) → some (record { point = Dropped; size = 0 }) ≡ some x → x.size ≤ length s
+    nothing : (x : Stated) → Some (record { point = Dropped; size = 0 }) ≡ Some x → x.size ≤ length s
     nothing x h = let e : ◌≡◌ {A = ℕ} 0 x.size = ap (λ (z : Stated). z.size) (some-injective _ _ h) in omega arith
 
 -- ---- an entry
 
 at-is : (aim : Option AnchorStageRole) (front : ℕ) (s t : List ℕ) (state k f reason : ℕ) (x : Stated) → field_ok (field_row 16 4 4) s 0 ≡ true →
     get_or s 3 0 ≡ state → get_or s 4 0 ≡ k → get_or s 5 0 ≡ f → get_or s 6 0 ≡ reason → (leb k 1 && leb f 1) ≡ true → drop 7 s ≡ t →
-    read_state state reason t ≡ some x →
+    read_state state reason t ≡ Some x →
     entry_at aim front s
-    ≡ some (record { aim = aim; entry = record { state = x.point; certified = eqb k 1; first_valid = eqb f 1 }; size = front + 7 + x.size })
+    ≡ Some (record { aim = aim; entry = record { state = x.point; certified = eqb k 1; first_valid = eqb f 1 }; size = front + 7 + x.size })
 unfolding entry_at
 at-is aim front s t state k f reason x o e3 e4 e5 e6 l d r = rw (o, e3, e4, e5, e6, l, d, r)
 
@@ -175,9 +174,9 @@ record AtFront (aim : Option AnchorStageRole) (front : ℕ) (s : List ℕ) (x : 
   aimed : x.aim ≡ aim
   least : front + 7 ≤ x.size
   within : x.size ≤ front + length s
-  alike : (n : ℕ) (t : List ℕ) → Agree n s t → x.size ≤ front + n → entry_at aim front t ≡ some x
+  alike : (n : ℕ) (t : List ℕ) → Agree n s t → x.size ≤ front + n → entry_at aim front t ≡ Some x
 
-at_front : (aim : Option AnchorStageRole) (front : ℕ) (s : List ℕ) (x : Listed) → entry_at aim front s ≡ some x → AtFront aim front s x
+at_front : (aim : Option AnchorStageRole) (front : ℕ) (s : List ℕ) (x : Listed) → entry_at aim front s ≡ Some x → AtFront aim front s x
 unfolding entry_at
 at_front aim front s x h =
     let k = picked (field_ok (field_row 16 4 4) s 0 && (leb (get_or s 4 0) 1 && leb (get_or s 5 0) 1)) _ x h in
@@ -203,36 +202,36 @@ at_front aim front s x h =
           (and_right (field_ok (field_row 16 4 4) s 0) _ k.0)
           refl
           (f.1 (drop 7 t) (agree_after n s t a 7 y.0.size (omega arith)))
-          ∙ ap some y.2;
+          ∙ ap Some y.2;
     }
 
-direct_is : (s : List ℕ) → eqb (get_or s 0 0) 19 ≡ false → read_entry s ≡ entry_at none 0 s
+direct_is : (s : List ℕ) → eqb (get_or s 0 0) 19 ≡ false → read_entry s ≡ entry_at None 0 s
 unfolding read_entry
 direct_is s t = pick-false (eqb (get_or s 0 0) 19) _ _ t
 
 indirect-is : (s : List ℕ) → eqb (get_or s 0 0) 19 ≡ true → (field_ok (field_row 19 1 1) s 0 && leb (get_or s 3 0) 1) ≡ true →
-    read_entry s ≡ entry_at (some (role_of (get_or s 3 0))) 4 (drop 4 s)
+    read_entry s ≡ entry_at (Some (role_of (get_or s 3 0))) 4 (drop 4 s)
 unfolding read_entry
-indirect-is s t o = pick_true (eqb (get_or s 0 0) 19) _ _ t ∙ pick_true (field_ok (field_row 19 1 1) s 0 && leb (get_or s 3 0) 1) _ none o
+indirect-is s t o = pick_true (eqb (get_or s 0 0) 19) _ _ t ∙ pick_true (field_ok (field_row 19 1 1) s 0 && leb (get_or s 3 0) 1) _ None o
 
 -- it takes a byte at least, and no more than there are
 pub record Front (s : List ℕ) (x : Listed) : Type 0 where
   pub least : 1 ≤ x.size
   pub within : x.size ≤ length s
-  pub alike : (t : List ℕ) → Agree x.size s t → read_entry t ≡ some x
+  pub alike : (t : List ℕ) → Agree x.size s t → read_entry t ≡ Some x
 
-pub entry-front : (s : List ℕ) (x : Listed) → read_entry s ≡ some x → Front s x
+pub entry-front : (s : List ℕ) (x : Listed) → read_entry s ≡ Some x → Front s x
 unfolding read_entry
 entry-front s x h = go (eqb (get_or s 0 0) 19) refl h
   where
     go : (b : Bool) → eqb (get_or s 0 0) 19 ≡ b →
-        pick b (pick (field_ok (field_row 19 1 1) s 0 && leb (get_or s 3 0) 1) (entry_at (some (role_of (get_or s 3 0))) 4 (drop 4 s)) none) (entry_at none 0 s) ≡ some x →
+        pick b (pick (field_ok (field_row 19 1 1) s 0 && leb (get_or s 3 0) 1) (entry_at (Some (role_of (get_or s 3 0))) 4 (drop 4 s)) None) (entry_at None 0 s) ≡ Some x →
         Front s x
     go true t k =
         let w = picked (field_ok (field_row 19 1 1) s 0 && leb (get_or s 3 0) 1) _ x k in
         let o = and_left (field_ok (field_row 19 1 1) s 0) _ w.0 in
         let l = field-length 19 1 s o in
-        let f = at_front (some (role_of (get_or s 3 0))) 4 (drop 4 s) x w.1 in
+        let f = at_front (Some (role_of (get_or s 3 0))) 4 (drop 4 s) x w.1 in
         let b = f.within in
         let m = f.least in
         let d = length-drop 4 s in
@@ -244,11 +243,11 @@ entry-front s x h = go (eqb (get_or s 0 0) 19) refl h
               (let g = byte_alike x.size s u a 3 (omega arith) in
               indirect-is u (ap (λ (y : ℕ). eqb y 19) (byte_alike x.size s u a 0 (omega arith)) ∙ t)
               (and_both _ _ (field_alike x.size s u a 19 1 o (omega arith)) (ap (λ (y : ℕ). leb y 1) g ∙ and_right (field_ok (field_row 19 1 1) s 0) _ w.0))
-              ∙ ap (λ (y : ℕ). entry_at (some (role_of y)) 4 (drop 4 u)) g
+              ∙ ap (λ (y : ℕ). entry_at (Some (role_of y)) 4 (drop 4 u)) g
               ∙ f.alike (x.size - 4) (drop 4 u) (agree_after x.size s u a 4 (x.size - 4) (omega arith)) (omega arith));
         }
     go false t k =
-        let f = at_front none 0 s x k in
+        let f = at_front None 0 s x k in
         let b = f.within in
         let m = f.least in
         record {
@@ -257,16 +256,16 @@ entry-front s x h = go (eqb (get_or s 0 0) 19) refl h
           alike = λ u a. direct_is u (ap (λ (y : ℕ). eqb y 19) (byte_alike x.size s u a 0 (omega arith)) ∙ t) ∙ f.alike x.size u a (omega arith);
         }
 
-module _ (s : List ℕ) (x : Listed) (h : read_entry s ≡ some x) where
+module _ (s : List ℕ) (x : Listed) (h : read_entry s ≡ Some x) where
   pub some_bytes : 1 ≤ length s
   some_bytes = let f = entry-front s x h in omega (arith, f.least, f.within)
 
   -- whatever follows, and without what follows
-  pub entry-append : (rest : List ℕ) → read_entry (s ++ rest) ≡ some x
+  pub entry-append : (rest : List ℕ) → read_entry (s ++ rest) ≡ Some x
   entry-append rest =
       (entry-front s x h).alike (s ++ rest) (shorter (length s) s (s ++ rest) (append_agrees s rest) x.size (entry-front s x h).within)
 
-  pub entry_alone : read_entry (take x.size s) ≡ some x
+  pub entry_alone : read_entry (take x.size s) ≡ Some x
   entry_alone = (entry-front s x h).alike (take x.size s) (front_agrees x.size s (entry-front s x h).within)
 
 -- ---- lists one after the other
@@ -275,22 +274,22 @@ module _ (s : List ℕ) (x : Listed) (h : read_entry s ≡ some x) where
 pub record Step (n : ℕ) (indirect_seen : Bool) (s : List ℕ) (l : List Listed) : Type 0 where
   pub first : Listed
   pub rest : List Listed
-  pub reads : read_entry s ≡ some first
+  pub reads : read_entry s ≡ Some first
   pub ordered : is_in_order indirect_seen first.aim ≡ true
-  pub more : list_from n (is_some first.aim) (drop first.size s) ≡ some rest
+  pub more : list_from n (is_some first.aim) (drop first.size s) ≡ Some rest
   pub is : first ∷ rest ≡ l
 
-pub list_zero : (a : Bool) (s : List ℕ) (l : List Listed) → list_from zero a s ≡ some l → (length s ≡ 0) × ([] ≡ l)
+pub list_zero : (a : Bool) (s : List ℕ) (l : List Listed) → list_from zero a s ≡ Some l → (length s ≡ 0) × ([] ≡ l)
 unfolding list_from
-list_zero a s l h = let k = picked (eqb (length s) 0) (some []) l h in (eqb-true _ _ k.0, some-injective _ _ k.1)
+list_zero a s l h = let k = picked (eqb (length s) 0) (Some []) l h in (eqb-true _ _ k.0, some-injective _ _ k.1)
 
-pub list_suc : (n : ℕ) (a : Bool) (s : List ℕ) (l : List Listed) → list_from (suc n) a s ≡ some l → ((length s ≡ 0) × ([] ≡ l)) ⊎ Step n a s l
+pub list_suc : (n : ℕ) (a : Bool) (s : List ℕ) (l : List Listed) → list_from (suc n) a s ≡ Some l → ((length s ≡ 0) × ([] ≡ l)) ⊎ Step n a s l
 unfolding list_from
 list_suc n a s l h = go (eqb (length s) 0) refl h
   where
     go : (b : Bool) → eqb (length s) 0 ≡ b →
-        pick b (some []) (and_then (read_entry s) (λ x.
-        pick (is_in_order a x.aim) (map (λ r. x ∷ r) (list_from n (is_some x.aim) (drop x.size s))) none)) ≡ some l →
+        pick b (Some []) (and_then (read_entry s) (λ x.
+        pick (is_in_order a x.aim) (option_map (λ r. x ∷ r) (list_from n (is_some x.aim) (drop x.size s))) None)) ≡ Some l →
         ((length s ≡ 0) × ([] ≡ l)) ⊎ Step n a s l
     go true e k = inl (eqb-true _ _ e, some-injective _ _ k)
     go false e k =
@@ -300,7 +299,7 @@ list_suc n a s l h = go (eqb (length s) 0) refl h
         inr (record { first = x.0; rest = r.0; reads = x.1; ordered = o.0; more = r.1; is = r.2 })
 
 -- an empty slice has no entry at its front
-no_entry : {A : Type 0} (s : List ℕ) (x : Listed) → length s ≡ 0 → read_entry s ≡ some x → A
+no_entry : {A : Type 0} (s : List ℕ) (x : Listed) → length s ≡ 0 → read_entry s ≡ Some x → A
 no_entry s x e h = let f = some_bytes s x h in absurd (omega arith)
 
 pub empty-is : (s : List ℕ) → length s ≡ 0 → s ≡ []
@@ -308,7 +307,7 @@ empty-is [] h = refl
 empty-is (x ∷ s) h = absurd (omega arith)
 
 -- a list reads as the same entries, however many there may be and whatever stood before it
-same-list : (n k : ℕ) (a b : Bool) (s : List ℕ) (l m : List Listed) → list_from n a s ≡ some l → list_from k b s ≡ some m → l ≡ m
+same-list : (n k : ℕ) (a b : Bool) (s : List ℕ) (l m : List Listed) → list_from n a s ≡ Some l → list_from k b s ≡ Some m → l ≡ m
 same-list zero zero a b s l m h g = sym (list_zero a s l h).1 ∙ (list_zero b s m g).1
 same-list zero (suc k) a b s l m h g = go (list_suc k b s m g)
   where
@@ -323,7 +322,7 @@ same-list (suc n) zero a b s l m h g = go (list_suc n a s l h)
 same-list (suc n) (suc k) a b s l m h g = go (list_suc n a s l h) (list_suc k b s m g) (same-list n k)
   where
     go : ((length s ≡ 0) × ([] ≡ l)) ⊎ Step n a s l → ((length s ≡ 0) × ([] ≡ m)) ⊎ Step k b s m →
-        ((c d : Bool) (t : List ℕ) (x y : List Listed) → list_from n c t ≡ some x → list_from k d t ≡ some y → x ≡ y) → l ≡ m
+        ((c d : Bool) (t : List ℕ) (x y : List Listed) → list_from n c t ≡ Some x → list_from k d t ≡ Some y → x ≡ y) → l ≡ m
     go (inl e) (inl f) r = sym e.1 ∙ f.1
     go (inl e) (inr v) r = no_entry s v.first e.0 v.reads
     go (inr u) (inl f) r = no_entry s u.first f.0 u.reads
@@ -334,12 +333,12 @@ same-list (suc n) (suc k) a b s l m h g = go (list_suc n a s l h) (list_suc k b 
         sym u.is ∙ ap (λ (x : Listed). x ∷ u.rest) e ∙ ap (λ (x : List Listed). v.first ∷ x) z ∙ v.is
 
 -- after an indirect entry no direct one stands
-pub after-indirect : (n : ℕ) (s : List ℕ) (l : List Listed) → list_from n true s ≡ some l → directs l ≡ []
+pub after-indirect : (n : ℕ) (s : List ℕ) (l : List Listed) → list_from n true s ≡ Some l → directs l ≡ []
 unfolding directs
 after-indirect zero s l h = rw (← (list_zero true s l h).1)
 after-indirect (suc n) s l h = go (list_suc n true s l h) (after-indirect n)
   where
-    go : ((length s ≡ 0) × ([] ≡ l)) ⊎ Step n true s l → ((t : List ℕ) (m : List Listed) → list_from n true t ≡ some m → directs m ≡ []) → directs l ≡ []
+    go : ((length s ≡ 0) × ([] ≡ l)) ⊎ Step n true s l → ((t : List ℕ) (m : List Listed) → list_from n true t ≡ Some m → directs m ≡ []) → directs l ≡ []
     go (inl e) r = rw (← e.1)
     go (inr u) r =
         let o : is_some u.first.aim ≡ true = u.ordered in
@@ -355,19 +354,19 @@ unfolding indirects
 step-first x l m o f = go x.aim refl o
   where
     go : (a : Option AnchorStageRole) → x.aim ≡ a → DirectFirst l m →
-        (Option.get_or (map (λ g. record { role = g; entry = x.entry } ∷ indirects l) a) (indirects l) ≡ []) ⊎ (directs m ≡ [])
-    go none e (inl k) = inl k
-    go none e (inr k) = inr k
-    go (some g) e k = inr (f (ap is_some e))
+        (unwrap_or (option_map (λ g. record { role = g; entry = x.entry } ∷ indirects l) a) (indirects l) ≡ []) ⊎ (directs m ≡ [])
+    go None e (inl k) = inl k
+    go None e (inr k) = inr k
+    go (Some g) e k = inr (f (ap is_some e))
 
 -- the first entry of a list, before another list
-append-step : (j : ℕ) (a : Bool) (s t : List ℕ) (x : Listed) (whole : List Listed) → read_entry s ≡ some x → list_from j a (s ++ t) ≡ some whole →
-    (i : ℕ) × (rest : List Listed) × (list_from i (is_some x.aim) (drop x.size s ++ t) ≡ some rest) × (x ∷ rest ≡ whole)
+append-step : (j : ℕ) (a : Bool) (s t : List ℕ) (x : Listed) (whole : List Listed) → read_entry s ≡ Some x → list_from j a (s ++ t) ≡ Some whole →
+    (i : ℕ) × (rest : List Listed) × (list_from i (is_some x.aim) (drop x.size s ++ t) ≡ Some rest) × (x ∷ rest ≡ whole)
 append-step zero a s t x whole h w = no_entry (s ++ t) x (list_zero a (s ++ t) whole w).0 (entry-append s x h t)
 append-step (suc j) a s t x whole h w = go (list_suc j a (s ++ t) whole w)
   where
     go : ((length (s ++ t) ≡ 0) × ([] ≡ whole)) ⊎ Step j a (s ++ t) whole →
-        (i : ℕ) × (rest : List Listed) × (list_from i (is_some x.aim) (drop x.size s ++ t) ≡ some rest) × (x ∷ rest ≡ whole)
+        (i : ℕ) × (rest : List Listed) × (list_from i (is_some x.aim) (drop x.size s ++ t) ≡ Some rest) × (x ∷ rest ≡ whole)
     go (inl e) = no_entry (s ++ t) x e.0 (entry-append s x h t)
     go (inr u) =
         let e : x ≡ u.first = some-injective _ _ (sym (entry-append s x h t) ∙ u.reads) in (
@@ -380,8 +379,8 @@ append-step (suc j) a s t x whole h w = go (list_suc j a (s ++ t) whole w)
         )
 
 -- so lists of bytes that stand one after the other
-from-append : (n k j : ℕ) (a b : Bool) (s t : List ℕ) (l m whole : List Listed) → list_from n a s ≡ some l → list_from k b t ≡ some m →
-    list_from j a (s ++ t) ≡ some whole → (whole ≡ l ++ m) × DirectFirst l m
+from-append : (n k j : ℕ) (a b : Bool) (s t : List ℕ) (l m whole : List Listed) → list_from n a s ≡ Some l → list_from k b t ≡ Some m →
+    list_from j a (s ++ t) ≡ Some whole → (whole ≡ l ++ m) × DirectFirst l m
 unfolding indirects
 from-append zero k j a b s t l m whole h g w =
     let e = list_zero a s l h in
@@ -392,7 +391,7 @@ from-append zero k j a b s t l m whole h g w =
 from-append (suc n) k j a b s t l m whole h g w = go (list_suc n a s l h) (from-append n k)
   where
     go : ((length s ≡ 0) × ([] ≡ l)) ⊎ Step n a s l →
-        ((i : ℕ) (c d : Bool) (u v : List ℕ) (x y z : List Listed) → list_from n c u ≡ some x → list_from k d v ≡ some y → list_from i c (u ++ v) ≡ some z → (z ≡ x ++ y) × DirectFirst x y) →
+        ((i : ℕ) (c d : Bool) (u v : List ℕ) (x y z : List Listed) → list_from n c u ≡ Some x → list_from k d v ≡ Some y → list_from i c (u ++ v) ≡ Some z → (z ≡ x ++ y) × DirectFirst x y) →
         (whole ≡ l ++ m) × DirectFirst l m
     go (inl e) r =
         let f : s ≡ [] = empty-is s e.0 in (
@@ -409,7 +408,7 @@ from-append (suc n) k j a b s t l m whole h g w = go (list_suc n a s l h) (from-
               ).1)),
         )
 
-pub list-append : (s t : List ℕ) (l m whole : List Listed) → read_list s ≡ some l → read_list t ≡ some m → read_list (s ++ t) ≡ some whole →
+pub list-append : (s t : List ℕ) (l m whole : List Listed) → read_list s ≡ Some l → read_list t ≡ Some m → read_list (s ++ t) ≡ Some whole →
     (whole ≡ l ++ m) × DirectFirst l m
 unfolding read_list
 list-append s t l m whole h g w = from-append 65535 65535 65535 false false s t l m whole h g w

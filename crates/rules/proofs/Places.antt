@@ -1,8 +1,8 @@
 -- Numbers 8 and 9 are the same for every order of a list's entries.
+use Rattle.std.specs.Prelude.{Option}
 use Prim.Native.Nat.{ℕ, zero, suc, ◌+◌, ◌-◌}
 use mathlib.Core.Path.{◌≡◌, refl, sym, ap, ◌∙◌}
 use mathlib.Core.Bool.{Bool, true, false, not, ◌&&◌, ◌||◌}
-use mathlib.Core.Option.{Option}
 use mathlib.Core.List.{List, [], ◌∷◌, map, Permᴰ}
 use lib.Dec.{eqb}
 use Rattle.base.specs.Base.{pick}

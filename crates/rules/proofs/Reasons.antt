@@ -1,8 +1,8 @@
 -- What judging finds over entries that were read from bytes: its answer's numbers fit their bytes.
+use Rattle.std.specs.Prelude.{Option, None, Some}
 use Prim.Native.Nat.{ℕ, ◌^◌, ◌<◌}
 use native.Mathlib.Omega.{arith}
 use mathlib.Core.Bool.{Bool, true, false, not, ◌&&◌, ◌||◌}
-use mathlib.Core.Option.{Option, none, some}
 use mathlib.Core.List.{List, [], ◌∷◌, ◌++◌}
 use lib.Dec.{leb, eqb}
 use Rattle.base.specs.Base.{pick, when, concat, last_of, is_empty}
@@ -44,8 +44,8 @@ first-only (x ∷ l) h = (h.0, tt)
 
 -- the previous seq_no
 prev-fits : (o : Option Sticky) → IfSome (λ (k : Sticky). k.seq_no < 256) o → (prev_seq_no (seq_no o) < 256 ^ 4) × PrevFits (seq_no o)
-prev-fits none h = (omega arith, tt)
-prev-fits (some k) h = (omega arith, omega arith)
+prev-fits None h = (omega arith, tt)
+prev-fits (Some k) h = (omega arith, omega arith)
 
 module _ (c : Settings) (required : Bool) (p : PointView) (own : RoleFits p.role) (q : DepView) (i : IdFits q.id) (role : RoleFits q.role) where
   proof-fits : All ReasonFits (proof_row required p q)
@@ -78,8 +78,8 @@ module _ (c : Settings) (required : Bool) (p : PointView) (own : RoleFits p.role
 
   sticky_fits : (o : Option Sticky) → IfSome (λ (k : Sticky). k.seq_no < 256) o → All ReasonFits (sticky_row c q o)
   unfolding sticky_row
-  sticky_fits none h = tt
-  sticky_fits (some k) h =
+  sticky_fits None h = tt
+  sticky_fits (Some k) h =
       let w = prev-fits (sticky_anchors q.role) role in
       let bad : AnswerFits (named 16 q.id 255 255 k.seq_no (prev_seq_no (seq_no (sticky_anchors q.role)))) × PrevFits (seq_no (sticky_anchors q.role)) =
       (named-fits 16 q.id 255 255 k.seq_no _ i (omega arith) w.0, w.1) in
@@ -193,11 +193,11 @@ state-rooted Dropped h = tt
 
 join-fits : (a b : Option InvalidDependency) → IfSome RootFits a → IfSome RootFits b → IfSome RootFits (join a b)
 unfolding join
-join-fits none b f g = g
-join-fits (some x) none f g = f
-join-fits (some x) (some y) f g = go (is_newer x y)
+join-fits None b f g = g
+join-fits (Some x) None f g = f
+join-fits (Some x) (Some y) f g = go (is_newer x y)
   where
-    go : (b : Bool) → IfSome RootFits (pick b (some y) (some x))
+    go : (b : Bool) → IfSome RootFits (pick b (Some y) (Some x))
     go true = g
     go false = f
 
@@ -281,9 +281,9 @@ pub valid-fits : VerdictFits verdict.Valid
 valid-fits = (record { id = no_point-fits; first = none-fits 4; second = none-fits 4; peer = none-fits 32 }, tt)
 
 result_fits : (o : Option InvalidReason) (d : Option InvalidDependency) → IfSome ReasonFits o → IfSome RootFits d → VerdictFits (result_with o d)
-result_fits (some r) d f g = f
-result_fits none (some d) f g = (record { id = g.root; first = none-fits 4; second = none-fits 4; peer = g.through }, tt)
-result_fits none none f g = valid-fits
+result_fits (Some r) d f g = f
+result_fits None (Some d) f g = (record { id = g.root; first = none-fits 4; second = none-fits 4; peer = g.through }, tt)
+result_fits None None f g = valid-fits
 
 module _ (c : Settings) (required : Bool) (p : PointInfo) (f : PointFits p) (es : List Entry) (ts : List IndirectEntry) (g : All EntryFits es) (h : All TargetFits ts) where
   lists_fit : VerdictFits (over_lists c required p es ts)
@@ -291,12 +291,12 @@ module _ (c : Settings) (required : Bool) (p : PointInfo) (f : PointFits p) (es 
   lists_fit =
       let direct = direct_trail c required (point_view p) false es in
       let trail = pick (is_empty direct) (indirect_trail c p ts) direct in
-      let old = direct_record c required (point_view p) none es in
+      let old = direct_record c required (point_view p) None es in
       rw (lists_apart c p ts required es)
       (result_fits (last_of trail) (indirect_record c p old ts)
       (last-of-all ReasonFits trail
       (all-pick ReasonFits (is_empty direct) (indirect_trail c p ts) direct (indirect-trail-fits c p f ts h) (direct-trail-fits c required (point_view p) f.role false es g)))
-      (indirect_record_fits c p f old ts (direct_record_fits c required (point_view p) f.role none es tt g) h))
+      (indirect_record_fits c p f old ts (direct_record_fits c required (point_view p) f.role None es tt g) h))
 
   pub validate-fits : (presence : ℕ) → VerdictFits (validate c required presence p es ts)
   unfolding validate

@@ -1,10 +1,10 @@
 -- Laws on recorded root causes: a point's record is that of one of its entries, and where it has none no entry has one.
+use Rattle.std.specs.Prelude.{Option, None, Some}
 use Prim.Native.Nat.{ℕ}
 use lib.Dec.{eqb}
 use mathlib.Core.Path.{◌≡◌, refl, ap, sym, ◌∙◌, subst}
 use mathlib.Core.Logic.{◌⊎◌, inl, inr}
 use mathlib.Core.Bool.{Bool, true, false, not, ◌&&◌}
-use mathlib.Core.Option.{Option, none, some}
 use mathlib.Core.List.Memᴰ
 use mathlib.Core.List.{List, [], ◌∷◌, Memᴰ}
 use Rattle.base.specs.Base.{pick, last_of, is_empty}
@@ -27,23 +27,23 @@ use Rattle.rules.proofs.Passed.{validate-all}
 
 -- what all elements lack, and what one has, by what each records
 abbrev pub NoneIn : {A : Type 0} → (A → Option InvalidDependency) → List A → Type 0
-NoneIn {A} f l = (x : A) → Memᴰ x l → f x ≡ none
+NoneIn {A} f l = (x : A) → Memᴰ x l → f x ≡ None
 
 abbrev OneIn : {A : Type 0} → (A → Option InvalidDependency) → List A → InvalidDependency → Type 0
-OneIn {A} f l d = (x : A) × Memᴰ x l × (f x ≡ some d)
+OneIn {A} f l d = (x : A) × Memᴰ x l × (f x ≡ Some d)
 
 module _ {A : Type 0} (f : A → Option InvalidDependency) (x : A) (l : List A) where
-  none_more : f x ≡ none → NoneIn f l → NoneIn f (x ∷ l)
+  none_more : f x ≡ None → NoneIn f l → NoneIn f (x ∷ l)
   none_more h g y m = go (Memᴰ.cases_cons m)
     where
-      go : (y ≡ x) ⊎ Memᴰ y l → f y ≡ none
+      go : (y ≡ x) ⊎ Memᴰ y l → f y ≡ None
       go (inl e) = ap f e ∙ h
       go (inr n) = g y n
 
-  one_more : (old : Option InvalidDependency) (d : InvalidDependency) → (join old (f x) ≡ some d) ⊎ OneIn f l d → (old ≡ some d) ⊎ OneIn f (x ∷ l) d
+  one_more : (old : Option InvalidDependency) (d : InvalidDependency) → (join old (f x) ≡ Some d) ⊎ OneIn f l d → (old ≡ Some d) ⊎ OneIn f (x ∷ l) d
   one_more old d (inl h) = go (join_one old (f x) d h)
     where
-      go : (old ≡ some d) ⊎ (f x ≡ some d) → (old ≡ some d) ⊎ OneIn f (x ∷ l) d
+      go : (old ≡ Some d) ⊎ (f x ≡ Some d) → (old ≡ Some d) ⊎ OneIn f (x ∷ l) d
       go (inl e) = inl e
       go (inr e) = inr (x, Memᴰ.head refl, e)
   one_more old d (inr w) = inr (w.0, Memᴰ.tail w.1, w.2)
@@ -63,7 +63,7 @@ abbrev pub taken_record : Settings → ℕ → Entry → Option InvalidDependenc
 taken_record c round e = record_of c round e.certified (direct_through round (entry_id e.state)) e.state
 
 abbrev TakenIn : Settings → PointInfo → List Entry → InvalidDependency → Type 0
-TakenIn c p es d = (e : Entry) × Memᴰ e es × IsTaken (point_view p) (entry_id e.state) × (taken_record c p.id.round e ≡ some d)
+TakenIn c p es d = (e : Entry) × Memᴰ e es × IsTaken (point_view p) (entry_id e.state) × (taken_record c p.id.round e ≡ Some d)
 
 -- what an indirect entry records
 abbrev pub target_record : Settings → PointInfo → IndirectEntry → Option InvalidDependency
@@ -83,11 +83,11 @@ module _ (c : Settings) (required : Bool) (p : PointView) (e : Entry) where
       go false = refl
 
   -- others record nothing
-  pub record_taken : (d : InvalidDependency) → (entry_findings c required p e).root ≡ some d → IsTaken p (entry_id e.state)
+  pub record_taken : (d : InvalidDependency) → (entry_findings c required p e).root ≡ Some d → IsTaken p (entry_id e.state)
   unfolding entry_findings dependency
   record_taken d h = go (taken p (entry_id e.state)) refl h
     where
-      go : (t : Taken) → taken p (entry_id e.state) ≡ t → (findings_as c required p t e).root ≡ some d → IsTaken p (entry_id e.state)
+      go : (t : Taken) → taken p (entry_id e.state) ≡ t → (findings_as c required p t e).root ≡ Some d → IsTaken p (entry_id e.state)
       go as_dependency f k = (false, f)
       go as_prev_point f k = (true, f)
       go as_version f k = none-some k
@@ -101,7 +101,7 @@ module _ (c : Settings) (required : Bool) (p : PointView) where
   root_of e = (entry_findings c required p e).root
 
   direct-none : (old : Option InvalidDependency) (es : List Entry) → ((e : Entry) → Memᴰ e es → is_dropped e.state ≡ false) →
-      direct_record c required p old es ≡ none → (old ≡ none) × NoneIn root_of es
+      direct_record c required p old es ≡ None → (old ≡ None) × NoneIn root_of es
   unfolding direct_record
   direct-none old [] u h = (h, λ e m. absurd (Memᴰ.not-nil m))
   direct-none old (x ∷ l) u h =
@@ -109,19 +109,19 @@ module _ (c : Settings) (required : Bool) (p : PointView) where
       let j = join-absent old (root_of x) r.0 in
       (j.0, none_more root_of x l j.1 r.1)
 
-  direct-some : (old : Option InvalidDependency) (es : List Entry) (d : InvalidDependency) → direct_record c required p old es ≡ some d →
-      (old ≡ some d) ⊎ OneIn root_of es d
+  direct-some : (old : Option InvalidDependency) (es : List Entry) (d : InvalidDependency) → direct_record c required p old es ≡ Some d →
+      (old ≡ Some d) ⊎ OneIn root_of es d
   unfolding direct_record
   direct-some old [] d h = inl h
   direct-some old (x ∷ l) d h = go (is_dropped x.state) (direct-some (join old (root_of x)) l d) h
     where
-      go : (t : Bool) → (direct_record c required p (join old (root_of x)) l ≡ some d → (join old (root_of x) ≡ some d) ⊎ OneIn root_of l d) →
-          pick t old (direct_record c required p (join old (root_of x)) l) ≡ some d → (old ≡ some d) ⊎ OneIn root_of (x ∷ l) d
+      go : (t : Bool) → (direct_record c required p (join old (root_of x)) l ≡ Some d → (join old (root_of x) ≡ Some d) ⊎ OneIn root_of l d) →
+          pick t old (direct_record c required p (join old (root_of x)) l) ≡ Some d → (old ≡ Some d) ⊎ OneIn root_of (x ∷ l) d
       go true f k = inl k
       go false f k = one_more root_of x l old d (f k)
 
 module _ (c : Settings) (p : PointInfo) where
-  indirect-none : (old : Option InvalidDependency) (ts : List IndirectEntry) → indirect_record c p old ts ≡ none → (old ≡ none) × NoneIn (target_record c p) ts
+  indirect-none : (old : Option InvalidDependency) (ts : List IndirectEntry) → indirect_record c p old ts ≡ None → (old ≡ None) × NoneIn (target_record c p) ts
   unfolding indirect_record indirect_findings dependency
   indirect-none old [] h = (h, λ a m. absurd (Memᴰ.not-nil m))
   indirect-none old (x ∷ l) h =
@@ -129,8 +129,8 @@ module _ (c : Settings) (p : PointInfo) where
       let j = join-absent old (target_record c p x) r.0 in
       (j.0, none_more (target_record c p) x l j.1 r.1)
 
-  indirect-some : (old : Option InvalidDependency) (ts : List IndirectEntry) (d : InvalidDependency) → indirect_record c p old ts ≡ some d →
-      (old ≡ some d) ⊎ OneIn (target_record c p) ts d
+  indirect-some : (old : Option InvalidDependency) (ts : List IndirectEntry) (d : InvalidDependency) → indirect_record c p old ts ≡ Some d →
+      (old ≡ Some d) ⊎ OneIn (target_record c p) ts d
   unfolding indirect_record indirect_findings dependency
   indirect-some old [] d h = inl h
   indirect-some old (x ∷ l) d h = one_more (target_record c p) x l old d (indirect-some (join old (target_record c p x)) l d h)
@@ -140,18 +140,18 @@ module _ (c : Settings) (p : PointInfo) where
 module _ (c : Settings) (required : Bool) (presence : ℕ) (p : PointInfo) (es : List Entry) (ts : List IndirectEntry) where
   -- what both lists record
   abbrev root : Option InvalidDependency
-  root = indirect_record c p (direct_record c required (point_view p) none es) ts
+  root = indirect_record c p (direct_record c required (point_view p) None es) ts
 
   -- what is so of every reason, and of Valid and TransInvalid by what the lists record, is so of the verdict
-  root-cases : (P : Verdict → Type 0) → ((r : InvalidReason) → P (verdict.Invalid r)) → ((d : InvalidDependency) → root ≡ some d → P (verdict.TransInvalid d)) →
-      (root ≡ none → P verdict.Valid) → P (validate c required presence p es ts)
+  root-cases : (P : Verdict → Type 0) → ((r : InvalidReason) → P (verdict.Invalid r)) → ((d : InvalidDependency) → root ≡ Some d → P (verdict.TransInvalid d)) →
+      (root ≡ None → P verdict.Valid) → P (validate c required presence p es ts)
   unfolding validate
   root-cases P invalid trans valid = go (eqb presence 0) (eqb presence 1) (eqb presence 2 && not (is_empty p.witness))
     where
       lists : (o : Option InvalidReason) (d : Option InvalidDependency) → root ≡ d → P (result_with o d)
-      lists (some r) d h = invalid r
-      lists none (some d) h = trans d h
-      lists none none h = valid h
+      lists (Some r) d h = invalid r
+      lists None (Some d) h = trans d h
+      lists None None h = valid h
 
       go : (x y z : Bool) →
           P
@@ -166,25 +166,25 @@ module _ (c : Settings) (required : Bool) (presence : ℕ) (p : PointInfo) (es :
 
   -- a Valid point has no entry that records
   pub valid-entries : validate c required presence p es ts ≡ verdict.Valid →
-      ((e : Entry) → Memᴰ e es → IsTaken (point_view p) (entry_id e.state) → taken_record c p.id.round e ≡ none) × NoneIn (target_record c p) ts
+      ((e : Entry) → Memᴰ e es → IsTaken (point_view p) (entry_id e.state) → taken_record c p.id.round e ≡ None) × NoneIn (target_record c p) ts
   unfolding point_view
   valid-entries h =
-      let r = root-cases (λ v. v ≡ verdict.Valid → root ≡ none) (λ x k. impossible (cc)) (λ d f k. impossible (cc)) (λ f k. f) h in
-      let i = indirect-none c p (direct_record c required (point_view p) none es) ts r in
+      let r = root-cases (λ v. v ≡ verdict.Valid → root ≡ None) (λ x k. impossible (cc)) (λ d f k. impossible (cc)) (λ f k. f) h in
+      let i = indirect-none c p (direct_record c required (point_view p) None es) ts r in
       let passed = validate-all c required p es ts presence (ap has_reason h) in
-      let d = direct-none c required (point_view p) none es (λ e m. (passed.entries e m).0) i.0 in
+      let d = direct-none c required (point_view p) None es (λ e m. (passed.entries e m).0) i.0 in
       (λ e m w. sym (taken_record_lem c required (point_view p) e w) ∙ d.1 e m, i.1)
 
-  root-entry : (d : InvalidDependency) → root ≡ some d → IsRoot c p es ts d
+  root-entry : (d : InvalidDependency) → root ≡ Some d → IsRoot c p es ts d
   unfolding point_view
-  root-entry d h = go (indirect-some c p (direct_record c required (point_view p) none es) ts d h)
+  root-entry d h = go (indirect-some c p (direct_record c required (point_view p) None es) ts d h)
     where
-      of : (none ≡ some d) ⊎ OneIn (root_of c required (point_view p)) es d → IsRoot c p es ts d
+      of : (None ≡ Some d) ⊎ OneIn (root_of c required (point_view p)) es d → IsRoot c p es ts d
       of (inl f) = none-some f
       of (inr (e, m, f)) = let w = record_taken c required (point_view p) e d f in inl (e, m, w, sym (taken_record_lem c required (point_view p) e w) ∙ f)
 
-      go : (direct_record c required (point_view p) none es ≡ some d) ⊎ OneIn (target_record c p) ts d → IsRoot c p es ts d
-      go (inl f) = of (direct-some c required (point_view p) none es d f)
+      go : (direct_record c required (point_view p) None es ≡ Some d) ⊎ OneIn (target_record c p) ts d → IsRoot c p es ts d
+      go (inl f) = of (direct-some c required (point_view p) None es d f)
       go (inr w) = inr w
 
   -- the root cause of a TransInvalid point is what one of its entries records

@@ -1,8 +1,8 @@
 -- The root cause that an entry records: what holds of the causes that entries have holds of it, and the peer that it came through fits
 -- its bytes.
+use Rattle.std.specs.Prelude.{None, Some}
 use Prim.Native.Nat.{ℕ, ◌+◌, ◌-◌, ◌^◌, ◌<◌}
 use mathlib.Core.Bool.{Bool, true, false, ◌||◌}
-use mathlib.Core.Option.{none, some}
 use lib.Dec.{leb, eqb}
 use Rattle.base.specs.Base.{pick}
 use Rattle.base.proofs.Option.{IfSome}
@@ -30,7 +30,7 @@ Rooted R (NotFound i) = Unit
 Rooted R Dropped = Unit
 
 module _ (R : PointId → ℕ → Type 0) (c : Settings) (round : ℕ) (certified : Bool) where
-  unless-recorded : (t : Bool) (d : InvalidDependency) → Recorded R d → IfSome (Recorded R) (pick t none (some d))
+  unless-recorded : (t : Bool) (d : InvalidDependency) → Recorded R d → IfSome (Recorded R) (pick t None (Some d))
   unless-recorded true d h = tt
   unless-recorded false d h = h
 

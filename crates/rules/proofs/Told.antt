@@ -1,13 +1,13 @@
 -- Numbers, and the bytes of verdicts, tell the answer of a call.
+use Rattle.std.specs.Prelude.{Option, None, Some, is_some, Result, Ok, Err}
 use Prim.Native.Nat.{ℕ, ◌≤◌}
 use native.Mathlib.Omega.{arith}
 use mathlib.Core.Path.{◌≡◌, refl, ap, sym, ◌∙◌, subst}
 use mathlib.Core.Bool.{Bool, true, false, not, ◌&&◌}
-use mathlib.Core.Option.{Option, none, some}
 use mathlib.Core.List.{List, []}
 use lib.ListN.{length}
 use lib.Dec.{ltb, leb, eqb}
-use Rattle.base.specs.Base.{pick, is_some}
+use Rattle.base.specs.Base.{pick}
 use Rattle.base.proofs.Option.{IfSome, has}
 use Rattle.parts.specs.Bytes.{bytes_at, put_at}
 use Rattle.parts.specs.Limits.{peers_room}
@@ -23,9 +23,6 @@ use Rattle.reasons.specs.Verdict as verdict
 use Rattle.reasons.specs.declared.ill_formed.IllFormedReason.TheVariants.{NotRegular, BadWaveLink}
 use Rattle.reasons.specs.declared.ill_formed.VerifyError.{VerifyError}
 use Rattle.reasons.specs.declared.ill_formed.VerifyError.TheVariants as case-error
-use Rattle.reasons.specs.declared.ill_formed.Verified.{Verified}
-use Rattle.reasons.specs.declared.ill_formed.VerifyAnswer.{VerifyAnswer}
-use Rattle.reasons.specs.declared.ill_formed.VerifyAnswer.TheVariants as case-verify
 use Rattle.reasons.specs.declared.ill_formed.WaveChecked.{WaveChecked}
 use Rattle.reasons.specs.declared.ill_formed.WaveChecked.TheVariants as case-wave
 use Rattle.rules.specs.Verify.{verify}
@@ -34,7 +31,7 @@ use Rattle.rules.specs.DagPoint.{Entry, IndirectEntry}
 use Rattle.rules.specs.List.{Listed, read_list, directs, indirects}
 use Rattle.rules.specs.Mismatch.{mismatch, uncovered}
 use Rattle.rules.specs.Validate.{validate}
-use Rattle.rules.specs.Judge.{Input, Tested, refused, admitted, tested_with, tested, verified_from, verify_with, JudgeAnswer, Number, Given, of_error, Before, answered, needed, before_with, before, over_entries, over_list, judge_from, flags_ok, judge_with}
+use Rattle.rules.specs.Judge.{VerifyAnswer, Input, Tested, refused, admitted, tested_with, tested, verified_from, verify_with, JudgeAnswer, Number, Given, of_error, Before, answered, needed, before_with, before, over_entries, over_list, judge_from, flags_ok, judge_with}
 use Rattle.rules.specs.Answer.{verified_answer, verdict_answer, answer_bytes, verify_number, verify_answer, judge_number, judge_answer}
 use Rattle.rules.specs.Told.{Call, OfBytes, verified, judged, Told}
 use Rattle.rules.proofs.Fits.{point-fits}
@@ -49,8 +46,8 @@ use Rattle.rules.proofs.Entries.{ListedFits, list-fits, directs_fit, indirects_f
 
 -- what was read, where a call goes on
 record Read (s r : List ℕ) (i : Input) : Type 0 where
-  schedule : read_schedule s ≡ some i.schedule
-  point : read_point r ≡ some i.point
+  schedule : read_schedule s ≡ Some i.schedule
+  point : read_point r ≡ Some i.point
 
 module _ (P : Tested → Type 0) (settings schedule point : List ℕ) (refuse : (n : ℕ) → 1 ≤ n → n ≤ 5 → P (refused n))
     (admit : (i : Input) → Read schedule point i → P (admitted i)) where
@@ -58,25 +55,25 @@ module _ (P : Tested → Type 0) (settings schedule point : List ℕ) (refuse : 
   unfolding tested
   tested-cases others size = go (read_settings settings) (read_schedule schedule) (read_point point) refl refl
     where
-      past : (c : Settings) (s : Schedule) (p : PointInfo) → read_schedule schedule ≡ some s → read_point point ≡ some p → (x y : Bool) →
+      past : (c : Settings) (s : Schedule) (p : PointInfo) → read_schedule schedule ≡ Some s → read_point point ≡ Some p → (x y : Bool) →
           P (pick x (refused 4) (pick y (refused 5) (admitted (record { settings = c; schedule = s; point = p }))))
       past c s p e f true y = refuse 4 (omega arith) (omega arith)
       past c s p e f false true = refuse 5 (omega arith) (omega arith)
       past c s p e f false false = admit (record { settings = c; schedule = s; point = p }) (record { schedule = e; point = f })
 
       go : (c : Option Settings) (s : Option Schedule) (p : Option PointInfo) → read_schedule schedule ≡ s → read_point point ≡ p → P (tested_with c s p others size)
-      go none s p e f = refuse 1 (omega arith) (omega arith)
-      go (some c) none p e f = refuse 2 (omega arith) (omega arith)
-      go (some c) (some s) none e f = refuse 3 (omega arith) (omega arith)
-      go (some c) (some s) (some p) e f = past c s p e f (not (in_domain p && others)) (ltb size peers_room)
+      go None s p e f = refuse 1 (omega arith) (omega arith)
+      go (Some c) None p e f = refuse 2 (omega arith) (omega arith)
+      go (Some c) (Some s) None e f = refuse 3 (omega arith) (omega arith)
+      go (Some c) (Some s) (Some p) e f = past c s p e f (not (in_domain p && others)) (ltb size peers_room)
 
 -- ---- what the calls give
 
 module _ (x : Call) where
   -- of a call's answer: a number is in its range, and of bytes a verdict fits
   abbrev VerifyOk : VerifyAnswer → Type 0
-  VerifyOk (case-verify.Number n) = (1 ≤ n) × (n ≤ 5)
-  VerifyOk (case-verify.Verdict v) = OfBytes x → AnswerFits (verified_answer v)
+  VerifyOk (Err n) = (1 ≤ n) × (n ≤ 5)
+  VerifyOk (Ok v) = OfBytes x → AnswerFits (verified_answer v)
 
   abbrev JudgeOk : JudgeAnswer → Type 0
   JudgeOk (Number n) = (1 ≤ n) × (n ≤ 9)
@@ -89,9 +86,9 @@ module _ (x : Call) where
         verify-fits i.settings i.schedule i.point (point-fits x.point i.point b.0 r.point)
         (λ round. (peers-few x.schedule i.schedule round r.schedule).few) w.evidence.few w.includes.few
 
-    passed_ok : (o : Option VerifyError) → (OfBytes x → IfSome ErrorFits o) → VerifyOk (case-verify.Verdict (verified_from o))
-    passed_ok none f b = record { id = no_point-fits; first = none-fits 4; second = none-fits 4; peer = none-fits 32 }
-    passed_ok (some e) f b = f b
+    passed_ok : (o : Option VerifyError) → (OfBytes x → IfSome ErrorFits o) → VerifyOk (Ok (verified_from o))
+    passed_ok None f b = record { id = no_point-fits; first = none-fits 4; second = none-fits 4; peer = none-fits 32 }
+    passed_ok (Some e) f b = f b
 
     -- 6, or the wave's faults
 
@@ -113,9 +110,9 @@ module _ (x : Call) where
         link false = ill-fits 16 255 255 _ 0 0 (flag-fits leader) (none-fits 4)
 
         go : (o : Option Bool) → WaveFits (wave_checked_with o leader i.point)
-        go none = tt
-        go (some true) = regular (is_regular i.point.role)
-        go (some false) =
+        go None = tt
+        go (Some true) = regular (is_regular i.point.role)
+        go (Some false) =
             link (is_wave_link_ok leader (is_some (prev_digest i.point)) i.point.id.round i.point.anchor_proof i.point.role)
 
     error_ok : (e : VerifyError) → ErrorFits e → VerdictFits (of_error e)
@@ -133,11 +130,11 @@ module _ (x : Call) where
         (wave_checked i.schedule leader i.point) found-fits (wave_fits leader)
       where
         go : (o : Option VerifyError) (genesis : Bool) (w : WaveChecked) → (OfBytes x → IfSome ErrorFits o) → WaveFits w → BeforeOk (before_with o genesis w)
-        go (some e) genesis w f g = λ b. error_ok e (f b)
-        go none true w f g = λ b. valid-fits
-        go none false case-wave.Horizon f g = (omega arith, omega arith)
-        go none false (case-wave.IllFormed q) f g = λ b. (g, tt)
-        go none false (case-wave.Sound required) f g = tt
+        go (Some e) genesis w f g = λ b. error_ok e (f b)
+        go None true w f g = λ b. valid-fits
+        go None false case-wave.Horizon f g = (omega arith, omega arith)
+        go None false (case-wave.IllFormed q) f g = λ b. (g, tt)
+        go None false (case-wave.Sound required) f g = tt
 
     -- the list
 
@@ -146,7 +143,7 @@ module _ (x : Call) where
     over_ok required presence es ts f g b =
         validate-fits i.settings required i.point (point-fits x.point i.point b.0 r.point) es ts (f b) (g b) presence
 
-    entries_ok : (required : Bool) (presence : ℕ) (l : List Listed) → read_list x.list ≡ some l →
+    entries_ok : (required : Bool) (presence : ℕ) (l : List Listed) → read_list x.list ≡ Some l →
         JudgeOk (over_entries i.settings required presence i.point (directs l) (indirects l))
     entries_ok required presence l e =
         go (mismatch presence i.point (directs l) (indirects l)) (uncovered (prev_id i.point) (directs l) (indirects l))
@@ -163,8 +160,8 @@ module _ (x : Call) where
     list_ok required presence = go (read_list x.list) refl
       where
         go : (o : Option (List Listed)) → read_list x.list ≡ o → JudgeOk (over_list i.settings required presence i.point o)
-        go none e = (omega arith, omega arith)
-        go (some l) e = entries_ok required presence l e
+        go None e = (omega arith, omega arith)
+        go (Some l) e = entries_ok required presence l e
 
     from_ok : (presence : ℕ) (z : Before) → BeforeOk z → JudgeOk (judge_from i.settings presence i.point x.list z)
     from_ok presence (answered a) h = h
@@ -189,7 +186,7 @@ module _ (x : Call) where
 
 -- ---- so
 
-verified-same : (v w : Verified) → AnswerFits (verified_answer v) → AnswerFits (verified_answer w) → answer_bytes (verified_answer v) ≡ answer_bytes (verified_answer w) → v ≡ w
+verified-same : (v w : Result Unit VerifyError) → AnswerFits (verified_answer v) → AnswerFits (verified_answer w) → answer_bytes (verified_answer v) ≡ answer_bytes (verified_answer w) → v ≡ w
 verified-same v w f g h = sym (verified-back v) ∙ ap verified_of (answer-same (verified_answer v) (verified_answer w) f g h) ∙ verified-back w
 
 verdict-same : (v w : verdict.Verdict) → VerdictFits v → VerdictFits w → answer_bytes (verdict_answer v) ≡ answer_bytes (verdict_answer w) → v ≡ w
@@ -206,11 +203,11 @@ verify-told : (x y : Call) (s t : List ℕ) → OfBytes x → OfBytes y → veri
 verify-told x y s t b d = go (verified x) (verified y) (verified_ok x) (verified_ok y)
   where
     go : (p q : VerifyAnswer) → VerifyOk x p → VerifyOk y q → verify_number p ≡ verify_number q → verify_answer p s ≡ verify_answer q t → p ≡ q
-    go (case-verify.Number n) (case-verify.Number m) f g e h = ap case-verify.Number e
-    go (case-verify.Number n) (case-verify.Verdict w) f g e h = absurd (omega (arith, f.0))
-    go (case-verify.Verdict v) (case-verify.Number m) f g e h = absurd (omega (arith, g.0))
-    go (case-verify.Verdict v) (case-verify.Verdict w) f g e h =
-        ap case-verify.Verdict
+    go (Err n) (Err m) f g e h = ap Err e
+    go (Err n) (Ok w) f g e h = absurd (omega (arith, f.0))
+    go (Ok v) (Err m) f g e h = absurd (omega (arith, g.0))
+    go (Ok v) (Ok w) f g e h =
+        ap Ok
         (verified-same v w (f b) (g d) (put_same s t _ _ (answer-length (verified_answer v)) (answer-length (verified_answer w)) h))
 
 judge_told_lem : (x y : Call) (s t : List ℕ) → OfBytes x → OfBytes y → judge_number (judged x) ≡ judge_number (judged y) →
@@ -224,12 +221,12 @@ judge_told_lem x y s t b d = go (judged x) (judged y) (judged_ok x) (judged_ok y
     go (Given v) (Given w) f g e h =
         ap Given (verdict-same v w (f b) (g d) (put_same s t _ _ (answer-length (verdict_answer v)) (answer-length (verdict_answer w)) h))
 
-verify_zero_lem : (x : Call) → verify_number (verified x) ≡ 0 → (v : Verified) × (verified x ≡ case-verify.Verdict v)
+verify_zero_lem : (x : Call) → verify_number (verified x) ≡ 0 → (v : Result Unit VerifyError) × (verified x ≡ Ok v)
 verify_zero_lem x = go (verified x) (verified_ok x)
   where
-    go : (p : VerifyAnswer) → VerifyOk x p → verify_number p ≡ 0 → (v : Verified) × (p ≡ case-verify.Verdict v)
-    go (case-verify.Number n) f e = absurd (omega (arith, f.0))
-    go (case-verify.Verdict v) f e = (v, refl)
+    go : (p : VerifyAnswer) → VerifyOk x p → verify_number p ≡ 0 → (v : Result Unit VerifyError) × (p ≡ Ok v)
+    go (Err n) f e = absurd (omega (arith, f.0))
+    go (Ok v) f e = (v, refl)
 
 judge_zero_lem : (x : Call) → judge_number (judged x) ≡ 0 → (v : verdict.Verdict) × (judged x ≡ Given v)
 judge_zero_lem x = go (judged x) (judged_ok x)

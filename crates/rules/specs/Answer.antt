@@ -1,5 +1,5 @@
 -- Document 01's answer to a verdict, and the 114 bytes in which a caller gets it.
-use Rattle.std.specs.Prelude.{ℕ, List, [], ◌∷◌, ◌++◌}
+use Rattle.std.specs.Prelude.{ℕ, List, [], ◌∷◌, ◌++◌, Err, Ok, Result}
 use Rattle.parts.specs.Bytes.{big_bytes, little_bytes, put_at}
 use Rattle.point.specs.Point.{Through, Includes, Witness, through_peer, no_point}
 use Rattle.point.specs.declared.data.PointMap.TheVariants as map
@@ -7,17 +7,14 @@ use Rattle.reasons.specs.Answer.{Answer, answer, map_number}
 use Rattle.reasons.specs.IllFormed.{ill_formed_answer, error_answer}
 use Rattle.reasons.specs.Invalid.{invalid_answer}
 use Rattle.reasons.specs.Verdict as verdict
+use Rattle.reasons.specs.declared.ill_formed.VerifyError.{VerifyError}
 use Rattle.reasons.specs.declared.ill_formed.VerifyError.TheVariants.{Fail}
-use Rattle.reasons.specs.declared.ill_formed.Verified.{Verified}
-use Rattle.reasons.specs.declared.ill_formed.Verified.TheVariants.{Passed, Failed}
-use Rattle.reasons.specs.declared.ill_formed.VerifyAnswer.{VerifyAnswer}
-use Rattle.reasons.specs.declared.ill_formed.VerifyAnswer.TheVariants.{Number, Verdict}
 use Rattle.rules.specs.Judge as judged
 
 -- 3 is ill-formed, 4 fail, 5 that verification passed
-abbrev pub verified_answer : Verified → Answer
-verified_answer Passed = answer 5 0 no_point 255 255 0 0 0 0 0
-verified_answer (Failed e) = error_answer e
+abbrev pub verified_answer : Result Unit VerifyError → Answer
+verified_answer (Ok tt) = answer 5 0 no_point 255 255 0 0 0 0 0
+verified_answer (Err e) = error_answer e
 
 abbrev pub through_number : Through → ℕ
 through_number (Includes x) = map_number map.Includes
@@ -55,13 +52,13 @@ answer_bytes a = head_bytes a ++ number_bytes a ++ root_bytes a
 
 -- ---- what the C calls return and leave in the answer: document 01's number, or 0 for a verdict; with a number no byte changes
 
-abbrev pub verify_number : VerifyAnswer → ℕ
-verify_number (Number n) = n
-verify_number (Verdict v) = 0
+abbrev pub verify_number : judged.VerifyAnswer → ℕ
+verify_number (Err n) = n
+verify_number (Ok v) = 0
 
-abbrev pub verify_answer : VerifyAnswer → List ℕ → List ℕ
-verify_answer (Number n) answer = answer
-verify_answer (Verdict v) answer = put_at answer 0 (answer_bytes (verified_answer v))
+abbrev pub verify_answer : judged.VerifyAnswer → List ℕ → List ℕ
+verify_answer (Err n) answer = answer
+verify_answer (Ok v) answer = put_at answer 0 (answer_bytes (verified_answer v))
 
 abbrev pub judge_number : judged.JudgeAnswer → ℕ
 judge_number (judged.Number n) = n

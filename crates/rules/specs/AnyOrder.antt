@@ -1,9 +1,8 @@
 -- Ticket U9 of document 02, "The network's order does not choose the verdict": what two nodes can't differ in that judge one point, where
 -- only the order differs in which its dependencies arrived. It is said of `judged`, the call `judge` on bytes.
-use Rattle.std.specs.Prelude.{ℕ, ◌+◌, ◌-◌, ◌<◌, ◌≡◌, ◌⊎◌, Bool, true, false, length}
-use Rattle.std.proofs.Math.Option.{Option, none, some}
+use Rattle.std.specs.Prelude.{ℕ, ◌+◌, ◌-◌, ◌<◌, ◌≡◌, ◌⊎◌, Bool, true, false, length, Option, None, Some, is_some}
 use mathlib.Core.List.{List, [], ◌∷◌, ◌++◌, Memᴰ, Permᴰ}
-use Rattle.base.specs.Base.{concat, is_some}
+use Rattle.base.specs.Base.{concat}
 use Rattle.point.specs.Point.{PointId, Through, PointInfo, prev_id, anchor_link, through}
 use Rattle.point.specs.Reading.{read_point}
 use Rattle.point.specs.declared.data.AnchorStageRole.{AnchorStageRole}
@@ -24,8 +23,8 @@ use Rattle.rules.specs.Joined.{Newer}
 -- read or lies outside the domain
 abbrev pub IsEntry : Bool → List ℕ → Type 0
 IsEntry is_indirect e =
-    ((x : Listed) × (read_entry e ≡ some x) × (x.size ≡ length e) × (is_some x.aim ≡ is_indirect))
-    ⊎ ((rest : List ℕ) → read_entry (e ++ rest) ≡ none)
+    ((x : Listed) × (read_entry e ≡ Some x) × (x.size ≡ length e) × (is_some x.aim ≡ is_indirect))
+    ⊎ ((rest : List ℕ) → read_entry (e ++ rest) ≡ None)
 
 abbrev pub AllEntries : Bool → List (List ℕ) → Type 0
 AllEntries is_indirect es = (e : List ℕ) → Memᴰ e es → IsEntry is_indirect e
@@ -60,8 +59,8 @@ pub record GivenOrder (x : Call) : Type 0 where
   pub settings : Settings
   pub point : PointInfo
   pub verdict : verdict.Verdict
-  pub settings_read : read_settings x.settings ≡ some settings
-  pub point_read : read_point x.point ≡ some point
+  pub settings_read : read_settings x.settings ≡ Some settings
+  pub point_read : read_point x.point ≡ Some point
   pub above_genesis : settings.genesis_round < point.id.round
   pub given : judged x ≡ Given verdict
   pub valid_or_trans_invalid : has_reason verdict ≡ false
@@ -73,13 +72,13 @@ IsOwn p i = (i.round ≡ p.id.round - 1) × (i.author ≡ p.id.author)
 -- "given to `dependency`, direct or indirect": every indirect entry; a direct one unless it is the author's own point of r−1 and not
 -- the previous point
 abbrev pub IsGiven : PointInfo → Option AnchorStageRole → PointId → Type 0
-IsGiven p none i = (IsOwn p i → ⊥) ⊎ (prev_id p ≡ some i)
-IsGiven p (some g) i = Unit
+IsGiven p None i = (IsOwn p i → ⊥) ⊎ (prev_id p ≡ Some i)
+IsGiven p (Some g) i = Unit
 
 -- the map and the peer that an entry came through
 abbrev pub came_through : PointInfo → Option AnchorStageRole → PointId → Through
-came_through p none i = direct_through p.id.round i
-came_through p (some g) i = through (anchor_link g p)
+came_through p None i = direct_through p.id.round i
+came_through p (Some g) i = through (anchor_link g p)
 
 -- "an .. invalid one or an .. trans-invalid one inside the window", which is while r−1 is less than the root's round plus
 -- commit_history_rounds; with its root cause: the invalid one itself, or what the trans-invalid one has
@@ -119,19 +118,19 @@ pub record Earliest (c : Settings) (p : PointInfo) (l : List Listed) (d : Invali
 
 pub record AnyOrder : Type 0 where
   -- every list that can be read is one of such entries; and one outside the domain is such a one: dropped, with a certified flag of 2
-  pub entries : (s : List ℕ) (l : List Listed) → read_list s ≡ some l →
+  pub entries : (s : List ℕ) (l : List Listed) → read_list s ≡ Some l →
       (es : List (List ℕ)) × (ts : List (List ℕ)) × AllEntries false es × AllEntries true ts × (s ≡ concat es ++ concat ts)
   pub outside : IsEntry false (16 ∷ 4 ∷ 0 ∷ 5 ∷ 2 ∷ 0 ∷ 0 ∷ [])
   -- "the kind of verdict, or the number, is the same": 7, 8 and 9 included
   pub alike : (x : Call) (es es' ts ts' : List (List ℕ)) → AllEntries false es → AllEntries true ts → Permᴰ es es' → Permᴰ ts ts' →
       Alike (judged (with_entries x es ts)) (judged (with_entries x es' ts'))
   -- such a call has read its list
-  pub listed : (x : Call) → GivenOrder x → (l : List Listed) × (read_list x.list ≡ some l)
+  pub listed : (x : Call) → GivenOrder x → (l : List Listed) × (read_list x.list ≡ Some l)
   -- "the record is absent exactly if no entry given to `dependency` .. was" such a one; a verdict without a record is Valid
-  pub absent : (x : Call) (o : GivenOrder x) (l : List Listed) → read_list x.list ≡ some l → o.verdict ≡ verdict.Valid →
+  pub absent : (x : Call) (o : GivenOrder x) (l : List Listed) → read_list x.list ≡ Some l → o.verdict ≡ verdict.Valid →
       NoneBrings o.settings o.point l
-  pub absent_only : (x : Call) (o : GivenOrder x) (l : List Listed) → read_list x.list ≡ some l → NoneBrings o.settings o.point l →
+  pub absent_only : (x : Call) (o : GivenOrder x) (l : List Listed) → read_list x.list ≡ Some l → NoneBrings o.settings o.point l →
       o.verdict ≡ verdict.Valid
   -- "and otherwise is the earliest of the greatest"
-  pub otherwise : (x : Call) (o : GivenOrder x) (l : List Listed) → read_list x.list ≡ some l → (d : InvalidDependency) →
+  pub otherwise : (x : Call) (o : GivenOrder x) (l : List Listed) → read_list x.list ≡ Some l → (d : InvalidDependency) →
       o.verdict ≡ verdict.TransInvalid d → Earliest o.settings o.point l d

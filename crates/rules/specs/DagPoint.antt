@@ -1,7 +1,6 @@
 -- What is known of a point's dependencies (dag_point.rs; document 01, "A dependency entry"), and what judging asks of the
 -- point and of a dependency.
-use Rattle.std.specs.Prelude.{ℕ, Bool, true, false, ◌&&◌, eqb}
-use Rattle.std.proofs.Math.Option.{Option}
+use Rattle.std.specs.Prelude.{ℕ, Bool, true, false, ◌&&◌, eqb, Option}
 use Rattle.point.specs.Point.{PointId, PointInfo, prev_digest, source, target, top, no_point}
 use Rattle.point.specs.declared.data.AnchorStageRole.{AnchorStageRole}
 use Rattle.point.specs.declared.data.AnchorStageRole.TheVariants.{Proof, Trigger}

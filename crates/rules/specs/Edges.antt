@@ -1,6 +1,5 @@
 -- Document 01, "Edges, proved as one tabulated fact": P1 to P10.
-use Rattle.std.specs.Prelude.{ℕ, ◌≡◌, true, false, List, [], ◌∷◌}
-use Rattle.std.proofs.Math.Option.{none, some}
+use Rattle.std.specs.Prelude.{ℕ, ◌≡◌, true, false, List, [], ◌∷◌, None, Some}
 use Rattle.base.specs.Base.{concat, first_of}
 use Rattle.map.specs.Rows.{Pair}
 use Rattle.point.specs.Point.{PointId, Includes, Direct, Indirect, PointInfo, is_wave_far_enough, is_anchor_proof, is_anchor_trigger, sticky_anchors}
@@ -119,18 +118,18 @@ pub record Edges : Type 0 where
   pub later_proof : is_anchor_proof (AnchorProof 1 true) ≡ true
   pub later_trigger : is_anchor_trigger (AnchorProof 1 true) ≡ true
   -- P3 A regular point, evidence empty with the author included: author in includes; both reversed: the same
-  pub included : first_of (concat (structure_rows (point_at 12 own [] Regular 9 1))) ≡ some (AuthorInMap map.Includes)
-  pub reversed : first_of (concat (structure_rows (point_at 12 [] (2 ∷ []) Regular 9 1))) ≡ some (AuthorInMap map.Includes)
+  pub included : first_of (concat (structure_rows (point_at 12 own [] Regular 9 1))) ≡ Some (AuthorInMap map.Includes)
+  pub reversed : first_of (concat (structure_rows (point_at 12 [] (2 ∷ []) Regular 9 1))) ≡ Some (AuthorInMap map.Includes)
   -- P4 Time equal to anchor_time: bad above genesis, needed at genesis
-  pub equal_above : first_of (concat (structure_rows (point_at 12 own (2 ∷ []) Regular 9 9))) ≡ some AnchorTime
-  pub later_above : first_of (concat (structure_rows (point_at 12 own (2 ∷ []) Regular 9 8))) ≡ none
-  pub equal_genesis : first_of (concat (genesis_structure_rows (point_at 10 own [] Genesis 9 9))) ≡ none
-  pub later_genesis : first_of (concat (genesis_structure_rows (point_at 10 own [] Genesis 9 8))) ≡ some AnchorTime
+  pub equal_above : first_of (concat (structure_rows (point_at 12 own (2 ∷ []) Regular 9 9))) ≡ Some AnchorTime
+  pub later_above : first_of (concat (structure_rows (point_at 12 own (2 ∷ []) Regular 9 8))) ≡ None
+  pub equal_genesis : first_of (concat (genesis_structure_rows (point_at 10 own [] Genesis 9 9))) ≡ None
+  pub later_genesis : first_of (concat (genesis_structure_rows (point_at 10 own [] Genesis 9 8))) ≡ Some AnchorTime
   -- P5 sticky_anchors 3: seq_no 4 too many; 3 not last, or 2 last: bad flag
-  pub too_many : first_of (sticky_fault conf (sticky_anchors (AnchorProof 4 true))) ≡ some (IllFormed (TooManyStickyAnchors 4))
-  pub not_last : first_of (sticky_fault conf (sticky_anchors (AnchorProof 3 false))) ≡ some (IllFormed BadLastStickyFlag)
-  pub last_too_soon : first_of (sticky_fault conf (sticky_anchors (AnchorProof 2 true))) ≡ some (IllFormed BadLastStickyFlag)
-  pub last_in_time : first_of (sticky_fault conf (sticky_anchors (AnchorProof 3 true))) ≡ none
+  pub too_many : first_of (sticky_fault conf (sticky_anchors (AnchorProof 4 true))) ≡ Some (IllFormed (TooManyStickyAnchors 4))
+  pub not_last : first_of (sticky_fault conf (sticky_anchors (AnchorProof 3 false))) ≡ Some (IllFormed BadLastStickyFlag)
+  pub last_too_soon : first_of (sticky_fault conf (sticky_anchors (AnchorProof 2 true))) ≡ Some (IllFormed BadLastStickyFlag)
+  pub last_in_time : first_of (sticky_fault conf (sticky_anchors (AnchorProof 3 true))) ≡ None
   -- P6 Root 90, history 21: recorded at r−1 = 110, not at 111
   pub in_window : over 111 (rooted 2 110 6 ∷ []) ≡ verdict.TransInvalid (root_of 2 6)
   pub past_window : over 112 (rooted 2 111 6 ∷ []) ≡ verdict.Valid

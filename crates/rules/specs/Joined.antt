@@ -1,7 +1,6 @@
 -- Ticket U10 of document 02, "Records joined": what joining two records does, and what that is to a list that is judged in two halves.
 -- Joining is `join` of Validate.antt, by which the loops of check_valid and of check_indirect_links record.
-use Rattle.std.specs.Prelude.{ℕ, ◌<◌, ◌≡◌, ◌⊎◌, Bool, true, false}
-use Rattle.std.proofs.Math.Option.{Option, none, some}
+use Rattle.std.specs.Prelude.{ℕ, ◌<◌, ◌≡◌, ◌⊎◌, Bool, true, false, Option, None, Some}
 use mathlib.Core.List.{List, [], ◌∷◌, ◌++◌, Memᴰ}
 use Rattle.base.specs.Base.{pick, is_empty}
 use Rattle.point.specs.Point.{Includes, PointInfo}
@@ -39,8 +38,8 @@ recorded c required p l = (list_findings c required p l).root
 
 -- the reasons that an entry gives, for a link of a role or not
 abbrev pub reasons_by : Settings → Bool → PointInfo → Option AnchorStageRole → Entry → List InvalidReason
-reasons_by c required p none e = (entry_findings c required (point_view p) e).trail
-reasons_by c required p (some g) e = (indirect_findings c p (record { role = g; entry = e })).trail
+reasons_by c required p None e = (entry_findings c required (point_view p) e).trail
+reasons_by c required p (Some g) e = (indirect_findings c p (record { role = g; entry = e })).trail
 
 -- a list without "a dropped entry or an entry that gives a reason"
 abbrev pub Silent : Settings → Bool → PointInfo → List Listed → Type 0
@@ -58,18 +57,18 @@ bad_root author = record { to = record { round = 110; digest = 7; author = autho
 
 abbrev pub list_of : List Entry → List Listed
 list_of [] = []
-list_of (e ∷ l) = record { aim = none; entry = e; size = 0 } ∷ list_of l
+list_of (e ∷ l) = record { aim = None; entry = e; size = 0 } ∷ list_of l
 
 abbrev pub recorded_of : List Entry → Option InvalidDependency
 recorded_of es = recorded conf false (judged_at 111) (list_of es)
 
 pub record Joined : Type 0 where
   -- "the first stays unless the second is newer by the rule of `dependency`"
-  pub newer : (old new : InvalidDependency) → Newer old new → join (some old) (some new) ≡ some new
-  pub stays : (old new : InvalidDependency) → (Newer old new → ⊥) → join (some old) (some new) ≡ some old
+  pub newer : (old new : InvalidDependency) → Newer old new → join (Some old) (Some new) ≡ Some new
+  pub stays : (old new : InvalidDependency) → (Newer old new → ⊥) → join (Some old) (Some new) ≡ Some old
   -- "'None' joined on either side changes nothing"
-  pub none_first : (a : Option InvalidDependency) → join none a ≡ a
-  pub none_second : (a : Option InvalidDependency) → join a none ≡ a
+  pub none_first : (a : Option InvalidDependency) → join None a ≡ a
+  pub none_second : (a : Option InvalidDependency) → join a None ≡ a
   -- "Joining is associative"
   pub associative : (a b d : Option InvalidDependency) → join (join a b) d ≡ join a (join b d)
   -- "joining a record with itself gives it back"
@@ -78,7 +77,7 @@ pub record Joined : Type 0 where
   -- Valid without one
   pub judging : (c : Settings) (required : Bool) (presence : ℕ) (p : PointInfo) (l : List Listed) →
       has_reason (validate c required presence p (directs l) (indirects l)) ≡ false →
-      validate c required presence p (directs l) (indirects l) ≡ result_with none (recorded c required p l)
+      validate c required presence p (directs l) (indirects l) ≡ result_with None (recorded c required p l)
   -- "Recording over a list followed by another equals the join of the two records", with as little as it needs: no direct entry
   -- follows an indirect one, as in every list that can be read, and the direct entries of the first list give no reason, a dropped
   -- one included. Of the second list nothing is asked
@@ -87,15 +86,15 @@ pub record Joined : Type 0 where
       recorded c required p (l ++ m) ≡ join (recorded c required p l) (recorded c required p m)
   -- the same in the ticket's words, of lists of bytes: "provided neither list has a dropped entry or an entry that gives a reason"
   pub halves : (c : Settings) (required : Bool) (p : PointInfo) (s t : List ℕ) (l m whole : List Listed) →
-      read_list s ≡ some l → read_list t ≡ some m → read_list (s ++ t) ≡ some whole → Silent c required p l → Silent c required p m →
+      read_list s ≡ Some l → read_list t ≡ Some m → read_list (s ++ t) ≡ Some whole → Silent c required p l → Silent c required p m →
       recorded c required p whole ≡ join (recorded c required p l) (recorded c required p m)
   -- a dropped entry breaks the equation: what follows it is not recorded
-  pub dropped_whole : recorded_of (dropped ∷ bad_entry 2 ∷ []) ≡ none
-  pub dropped_halves : join (recorded_of (dropped ∷ [])) (recorded_of (bad_entry 2 ∷ [])) ≡ some (bad_root 2)
+  pub dropped_whole : recorded_of (dropped ∷ bad_entry 2 ∷ []) ≡ None
+  pub dropped_halves : join (recorded_of (dropped ∷ [])) (recorded_of (bad_entry 2 ∷ [])) ≡ Some (bad_root 2)
   -- "It is not commutative": a tie, two records of one round of which neither is newer
-  pub tie_first : join (some (bad_root 2)) (some (bad_root 3)) ≡ some (bad_root 2)
-  pub tie_second : join (some (bad_root 3)) (some (bad_root 2)) ≡ some (bad_root 3)
-  pub tie : join (some (bad_root 2)) (some (bad_root 3)) ≡ join (some (bad_root 3)) (some (bad_root 2)) → ⊥
+  pub tie_first : join (Some (bad_root 2)) (Some (bad_root 3)) ≡ Some (bad_root 2)
+  pub tie_second : join (Some (bad_root 3)) (Some (bad_root 2)) ≡ Some (bad_root 3)
+  pub tie : join (Some (bad_root 2)) (Some (bad_root 3)) ≡ join (Some (bad_root 3)) (Some (bad_root 2)) → ⊥
   -- and so the verdicts over the two entries in the two orders
   pub tie_judged : over 111 (bad_entry 2 ∷ bad_entry 3 ∷ []) ≡ verdict.TransInvalid (bad_root 2)
   pub tie_reversed : over 111 (bad_entry 3 ∷ bad_entry 2 ∷ []) ≡ verdict.TransInvalid (bad_root 3)

@@ -1,7 +1,6 @@
 -- The public calls: document 01's numbers 1 to 5, then verification's verdict, or the whole of Verifier::validate, verifier.rs 176-291, with
 -- the numbers in its way: genesis, 6, check_ill_formed, presence, 7, 8, 9, and the verdict.
-use Rattle.std.specs.Prelude.{ℕ, Bool, not, ◌&&◌, true, false, List, [], ltb, leb, eqb}
-use Rattle.std.proofs.Math.Option.{Option, none, some}
+use Rattle.std.specs.Prelude.{ℕ, Bool, not, ◌&&◌, true, false, List, [], ltb, leb, eqb, Option, None, Some, Err, Ok, Result}
 use Rattle.base.specs.Base.{pick}
 use Rattle.parts.specs.Limits.{peers_room}
 use Rattle.point.specs.Point.{PointInfo, in_domain, prev_id}
@@ -9,11 +8,7 @@ use Rattle.point.specs.Reading.{read_point}
 use Rattle.schedule.specs.Settings.{Settings, read_settings}
 use Rattle.schedule.specs.Schedule.{Schedule, read_schedule}
 use Rattle.reasons.specs.declared.ill_formed.VerifyError.{VerifyError}
-use Rattle.reasons.specs.declared.ill_formed.Verified.{Verified}
-use Rattle.reasons.specs.declared.ill_formed.Verified.TheVariants.{Passed, Failed}
 use Rattle.rules.specs.Verify.{scheduled, verify, buffer_with}
-use Rattle.reasons.specs.declared.ill_formed.VerifyAnswer.{VerifyAnswer}
-use Rattle.reasons.specs.declared.ill_formed.VerifyAnswer.TheVariants as case-verify
 use Rattle.reasons.specs.Verdict.{Verdict, Fail, IllFormed, Valid}
 use Rattle.rules.specs.DagPoint.{Entry, IndirectEntry}
 use Rattle.rules.specs.Validate.{validate}
@@ -39,10 +34,10 @@ pub data Tested : Type 0 where
 
 -- `others` says that the call's own tests of 4 passed
 abbrev pub tested_with : Option Settings → Option Schedule → Option PointInfo → Bool → ℕ → Tested
-tested_with none s p others size = refused 1
-tested_with (some c) none p others size = refused 2
-tested_with (some c) (some s) none others size = refused 3
-tested_with (some c) (some s) (some p) others size =
+tested_with None s p others size = refused 1
+tested_with (Some c) None p others size = refused 2
+tested_with (Some c) (Some s) None others size = refused 3
+tested_with (Some c) (Some s) (Some p) others size =
     pick (not (in_domain p && others)) (refused 4)
     (pick (ltb size peers_room) (refused 5)
     (admitted (record { settings = c; schedule = s; point = p })))
@@ -54,13 +49,17 @@ tested settings schedule rec others size = tested_with (read_settings settings) 
 
 -- ---- the call `verify`
 
-abbrev pub verified_from : Option VerifyError → Verified
-verified_from none = Passed
-verified_from (some e) = Failed e
+abbrev pub verified_from : Option VerifyError → Result Unit VerifyError
+verified_from None = Ok tt
+verified_from (Some e) = Err e
+
+-- what verification found, or a number of document 01 in its place
+abbrev pub VerifyAnswer : Type 0
+VerifyAnswer = Result (Result Unit VerifyError) ℕ
 
 abbrev pub verify_with : Tested → VerifyAnswer
-verify_with (refused n) = case-verify.Number n
-verify_with (admitted i) = case-verify.Verdict (verified_from (verify i.settings i.schedule i.point))
+verify_with (refused n) = Err n
+verify_with (admitted i) = Ok (verified_from (verify i.settings i.schedule i.point))
 
 -- what the peer buffer holds after verifying, and after judging too
 abbrev pub verify_buffer : Tested → List ℕ → List ℕ
@@ -87,11 +86,11 @@ pub data Before : Type 0 where
 
 -- "A verification that didn't pass ends the judgement there. Genesis is then Valid. Else `check_ill_formed`": validate, verifier.rs 192-197
 abbrev pub before_with : Option VerifyError → Bool → WaveChecked → Before
-before_with (some e) genesis wave = answered (Given (of_error e))
-before_with none true wave = answered (Given Valid)
-before_with none false case-wave.Horizon = answered (Number 6)
-before_with none false (case-wave.IllFormed r) = answered (Given (IllFormed r))
-before_with none false (case-wave.Sound required) = needed required
+before_with (Some e) genesis wave = answered (Given (of_error e))
+before_with None true wave = answered (Given Valid)
+before_with None false case-wave.Horizon = answered (Number 6)
+before_with None false (case-wave.IllFormed r) = answered (Given (IllFormed r))
+before_with None false (case-wave.Sound required) = needed required
 
 unfoldable pub before : Settings → Schedule → Bool → PointInfo → Before
 unfolding verify wave_checked
@@ -107,8 +106,8 @@ over_entries c required presence p es ts =
     (Given (validate c required presence p es ts)))
 
 abbrev pub over_list : Settings → Bool → ℕ → PointInfo → Option (List Listed) → JudgeAnswer
-over_list c required presence p none = Number 7
-over_list c required presence p (some l) = over_entries c required presence p (directs l) (indirects l)
+over_list c required presence p None = Number 7
+over_list c required presence p (Some l) = over_entries c required presence p (directs l) (indirects l)
 
 -- "Presence 0 and 1 .., the list unread"
 abbrev pub judge_from : Settings → ℕ → PointInfo → List ℕ → Before → JudgeAnswer

@@ -1,9 +1,7 @@
 -- The list of a point's dependencies (document 01, "A dependency entry"): what its bytes mean, and its domain. A list that has no
 -- meaning here is number 7, "unreadable or outside the domain".
-use Rattle.std.specs.Prelude.{ℕ, zero, suc, ◌+◌, Bool, true, false, not, ◌&&◌, ◌||◌, List, [], ◌∷◌, length, get_or, take, drop, leb, eqb}
-use Rattle.std.proofs.Math.Option
-use Rattle.std.proofs.Math.Option.{Option, none, some, map}
-use Rattle.base.specs.Base.{pick, is_some, and_then}
+use Rattle.std.specs.Prelude.{ℕ, zero, suc, ◌+◌, Bool, true, false, not, ◌&&◌, ◌||◌, List, [], ◌∷◌, length, get_or, take, drop, leb, eqb, option_map, unwrap_or, Option, None, Some, is_some}
+use Rattle.base.specs.Base.{pick, and_then}
 use Rattle.parts.specs.Bytes.{little_at}
 use Rattle.parts.specs.Limits.{first_round, last_round}
 use Rattle.record.specs.Record.{field_row, field_ok, record_end}
@@ -40,15 +38,15 @@ pub record RecordFront : Type 0 where
 unfoldable pub record_front : List ℕ → Option RecordFront
 unfolding record_end read_point is_listable
 record_front s =
-    and_then (record_end s) (λ n. and_then (read_point (take n s)) (λ q. pick (is_listable q) (some (record { point = q; size = n })) none))
+    and_then (record_end s) (λ n. and_then (read_point (take n s)) (λ q. pick (is_listable q) (Some (record { point = q; size = n })) None))
 
 -- a point record, `front` bytes after tag 16
 abbrev pub record_at : (PointInfo → DagPoint) → ℕ → List ℕ → Option Stated
-record_at state front s = map (λ x. record { point = state x.point; size = front + x.size }) (record_front (drop front s))
+record_at state front s = option_map (λ x. record { point = state x.point; size = front + x.size }) (record_front (drop front s))
 
 -- tag 17: the id
 abbrev pub id_at17 : (PointId → DagPoint) → List ℕ → Option Stated
-id_at17 state s = pick (field_ok (field_row 17 68 68) s 0) (some (record { point = state (point_id_at s 3); size = 71 })) none
+id_at17 state s = pick (field_ok (field_row 17 68 68) s 0) (Some (record { point = state (point_id_at s 3); size = 71 })) None
 
 -- tag 18: "root cause id then its reason number (69 bytes)"; "root-cause rounds 4 to 2,147,483,647"
 unfoldable pub is_root : List ℕ → Bool
@@ -64,13 +62,13 @@ is_root s =
 unfoldable pub read_state : ℕ → ℕ → List ℕ → Option Stated
 unfolding record_front field_ok is_root point_id_at dag_round
 read_state state reason s =
-    pick (eqb state 0) (pick (eqb reason 0) (record_at Valid 0 s) none)
+    pick (eqb state 0) (pick (eqb reason 0) (record_at Valid 0 s) None)
     (pick (eqb state 1)
-    (pick (eqb reason 0 && is_root s) (record_at (λ q. TransInvalid q (point_id_at s 3) (get_or s 71 0)) 72 s) none)
-    (pick (eqb state 2) (pick (is_some (dag_round reason)) (record_at (λ q. Invalid q reason) 0 s) none)
-    (pick (eqb state 3) (pick (leb 1 reason && leb reason 16) (id_at17 (λ i. IllFormed i reason) s) none)
-    (pick (eqb state 4) (pick (eqb reason 0) (id_at17 NotFound s) none)
-    (pick (eqb state 5 && eqb reason 0) (some (record { point = Dropped; size = 0 })) none)))))
+    (pick (eqb reason 0 && is_root s) (record_at (λ q. TransInvalid q (point_id_at s 3) (get_or s 71 0)) 72 s) None)
+    (pick (eqb state 2) (pick (is_some (dag_round reason)) (record_at (λ q. Invalid q reason) 0 s) None)
+    (pick (eqb state 3) (pick (leb 1 reason && leb reason 16) (id_at17 (λ i. IllFormed i reason) s) None)
+    (pick (eqb state 4) (pick (eqb reason 0) (id_at17 NotFound s) None)
+    (pick (eqb state 5 && eqb reason 0) (Some (record { point = Dropped; size = 0 })) None)))))
 
 -- an entry, what link it is for if its target's, and how many bytes it takes
 pub record Listed : Type 0 where
@@ -83,12 +81,12 @@ unfoldable pub entry_at : Option AnchorStageRole → ℕ → List ℕ → Option
 unfolding field_ok read_state
 entry_at aim front s =
     pick (field_ok (field_row 16 4 4) s 0 && (leb (get_or s 4 0) 1 && leb (get_or s 5 0) 1))
-    (map (λ x. record {
+    (option_map (λ x. record {
       aim = aim;
       entry = record { state = x.point; certified = eqb (get_or s 4 0) 1; first_valid = eqb (get_or s 5 0) 1 };
       size = front + 7 + x.size;
     }) (read_state (get_or s 3 0) (get_or s 6 0) (drop 7 s)))
-    none
+    None
 
 abbrev pub role_of : ℕ → AnchorStageRole
 role_of zero = Proof
@@ -99,8 +97,8 @@ unfoldable pub read_entry : List ℕ → Option Listed
 unfolding field_ok entry_at
 read_entry s =
     pick (eqb (get_or s 0 0) 19)
-    (pick (field_ok (field_row 19 1 1) s 0 && leb (get_or s 3 0) 1) (entry_at (some (role_of (get_or s 3 0))) 4 (drop 4 s)) none)
-    (entry_at none 0 s)
+    (pick (field_ok (field_row 19 1 1) s 0 && leb (get_or s 3 0) 1) (entry_at (Some (role_of (get_or s 3 0))) 4 (drop 4 s)) None)
+    (entry_at None 0 s)
 
 -- ---- the list
 
@@ -111,10 +109,10 @@ is_in_order indirect_seen aim = not indirect_seen || is_some aim
 -- at most n entries
 unfoldable pub list_from : ℕ → Bool → List ℕ → Option (List Listed)
 unfolding read_entry
-list_from zero indirect_seen s = pick (eqb (length s) 0) (some []) none
+list_from zero indirect_seen s = pick (eqb (length s) 0) (Some []) None
 list_from (suc n) indirect_seen s =
-    pick (eqb (length s) 0) (some []) (and_then (read_entry s) (λ x.
-    pick (is_in_order indirect_seen x.aim) (map (λ l. x ∷ l) (list_from n (is_some x.aim) (drop x.size s))) none))
+    pick (eqb (length s) 0) (Some []) (and_then (read_entry s) (λ x.
+    pick (is_in_order indirect_seen x.aim) (option_map (λ l. x ∷ l) (list_from n (is_some x.aim) (drop x.size s))) None))
 
 -- "A list holds at most 65,535 entries"
 unfoldable pub read_list : List ℕ → Option (List Listed)
@@ -127,4 +125,4 @@ directs (x ∷ l) = pick (is_some x.aim) (directs l) (x.entry ∷ directs l)
 
 unfoldable pub indirects : List Listed → List IndirectEntry
 indirects [] = []
-indirects (x ∷ l) = Option.get_or (map (λ g. record { role = g; entry = x.entry } ∷ indirects l) x.aim) (indirects l)
+indirects (x ∷ l) = unwrap_or (option_map (λ g. record { role = g; entry = x.entry } ∷ indirects l) x.aim) (indirects l)

@@ -1,9 +1,8 @@
 -- Number 8: "an entry is neither a dependency nor, without previous digest, a version of the author at r−1; or an id twice among the
 -- direct entries; or more dependencies lacking than dropped entries; or an indirect entry that no indirect link names, or a role
 -- twice". And number 9.
-use Rattle.std.specs.Prelude.{ℕ, zero, suc, ◌+◌, ◌-◌, Bool, true, false, not, ◌&&◌, ◌||◌, List, [], ◌∷◌, ltb, eqb}
-use Rattle.std.proofs.Math.Option.{Option, none, some}
-use Rattle.base.specs.Base.{pick, is_some, is_empty}
+use Rattle.std.specs.Prelude.{ℕ, zero, suc, ◌+◌, ◌-◌, Bool, true, false, not, ◌&&◌, ◌||◌, List, [], ◌∷◌, ltb, eqb, Option, None, Some, is_some}
+use Rattle.base.specs.Base.{pick, is_empty}
 use Rattle.map.specs.Rows.{Pair}
 use Rattle.point.specs.Point.{PointId, AnchorLink, Direct, Indirect, PointInfo, prev_digest, anchor_link, same_id}
 use Rattle.point.specs.declared.data.AnchorStageRole.{AnchorStageRole}
@@ -111,8 +110,8 @@ mismatch presence p es ts =
 -- ---- number 9: "the previous point's entry, read anywhere in the list, is not certified": check_valid, verifier.rs 424-429
 
 abbrev pub is_id : Option PointId → PointId → Bool
-is_id none i = false
-is_id (some j) i = same_id j i
+is_id None i = false
+is_id (Some j) i = same_id j i
 
 -- an entry leaves the previous point uncovered; a dropped one has no id
 unfoldable pub uncovers : Option PointId → Entry → Bool

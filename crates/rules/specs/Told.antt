@@ -1,11 +1,10 @@
 -- What a caller of `verify` and `judge` is told by the number returned and the answer's 114 bytes: the whole answer.
-use Rattle.std.specs.Prelude.{ℕ, ◌≤◌, ◌≡◌, true, List}
+use Rattle.std.specs.Prelude.{ℕ, ◌≤◌, ◌≡◌, true, List, Result, Ok, Err}
 use Rattle.parts.specs.Bytes.{Bytes}
 use Rattle.reasons.specs.Verdict as verdict
-use Rattle.reasons.specs.declared.ill_formed.Verified.{Verified}
-use Rattle.reasons.specs.declared.ill_formed.VerifyAnswer.{VerifyAnswer}
-use Rattle.reasons.specs.declared.ill_formed.VerifyAnswer.TheVariants as case-verify
-use Rattle.rules.specs.Judge.{JudgeAnswer, Number, Given, tested, flags_ok, verify_with, judge_with}
+use Rattle.reasons.specs.declared.ill_formed.VerifyError.{VerifyError}
+use Rattle.reasons.specs.declared.ill_formed.VerifyError.{VerifyError}
+use Rattle.rules.specs.Judge.{VerifyAnswer, JudgeAnswer, Number, Given, tested, flags_ok, verify_with, judge_with}
 use Rattle.rules.specs.Answer.{verified_answer, verdict_answer, answer_bytes, verify_number, verify_answer, judge_number, judge_answer}
 
 -- what a call is handed, the peer buffer by its length; `verify` takes no flags and no list
@@ -32,14 +31,14 @@ judged x =
 
 pub record Told : Type 0 where
   -- a number is one of 1 to 5
-  pub verify_numbers : (x : Call) (n : ℕ) → verified x ≡ case-verify.Number n → (1 ≤ n) × (n ≤ 5)
+  pub verify_numbers : (x : Call) (n : ℕ) → verified x ≡ Err n → (1 ≤ n) × (n ≤ 5)
   -- a number is one of 1 to 9
   pub judge_numbers : (x : Call) (n : ℕ) → judged x ≡ Number n → (1 ≤ n) × (n ≤ 9)
   -- so where 0 is returned there is a verdict; with a verdict it is, by definition
-  pub verify_zero : (x : Call) → verify_number (verified x) ≡ 0 → (v : Verified) × (verified x ≡ case-verify.Verdict v)
+  pub verify_zero : (x : Call) → verify_number (verified x) ≡ 0 → (v : Result Unit VerifyError) × (verified x ≡ Ok v)
   pub judge_zero : (x : Call) → judge_number (judged x) ≡ 0 → (v : verdict.Verdict) × (judged x ≡ Given v)
   -- equal bytes mean equal verdicts
-  pub verify_bytes : (x y : Call) (v w : Verified) → OfBytes x → OfBytes y → verified x ≡ case-verify.Verdict v → verified y ≡ case-verify.Verdict w →
+  pub verify_bytes : (x y : Call) (v w : Result Unit VerifyError) → OfBytes x → OfBytes y → verified x ≡ Ok v → verified y ≡ Ok w →
       answer_bytes (verified_answer v) ≡ answer_bytes (verified_answer w) → v ≡ w
   pub judge_bytes : (x y : Call) (v w : verdict.Verdict) → OfBytes x → OfBytes y → judged x ≡ Given v → judged y ≡ Given w →
       answer_bytes (verdict_answer v) ≡ answer_bytes (verdict_answer w) → v ≡ w

@@ -1,6 +1,6 @@
 -- Peers of a map that are not scheduled, and the bytes that they have in the peer buffer.
-use Rattle.std.specs.Prelude.{ℕ, List, [], ◌∷◌, ◌++◌}
-use Rattle.base.specs.Base.{pick, is_some}
+use Rattle.std.specs.Prelude.{ℕ, List, [], ◌∷◌, ◌++◌, is_some}
+use Rattle.base.specs.Base.{pick}
 use Rattle.parts.specs.Bytes.{big_bytes}
 use Rattle.map.specs.Rows.{find}
 

@@ -1,8 +1,7 @@
 -- Judging: check_valid, check_indirect_links, dependency, is_proof_ok and check_trigger_proof of verifier.rs. What an entry says
 -- against a point is the list of reasons that it sets, in the order of the source: the trail. A later reason replaces an
 -- earlier one, so the verdict's reason is the trail's last.
-use Rattle.std.specs.Prelude.{ℕ, ◌+◌, ◌-◌, Bool, true, false, not, ◌&&◌, ◌||◌, List, [], ◌∷◌, ◌++◌, leb, ltb, eqb}
-use Rattle.std.proofs.Math.Option.{Option, none, some}
+use Rattle.std.specs.Prelude.{ℕ, ◌+◌, ◌-◌, Bool, true, false, not, ◌&&◌, ◌||◌, List, [], ◌∷◌, ◌++◌, leb, ltb, eqb, Option, None, Some}
 use Rattle.base.specs.Base.{pick, when, concat, last_of, is_empty}
 use Rattle.point.specs.Point.{PointId, Through, Includes, Witness, PointInfo, is_anchor_proof, is_anchor_trigger, is_anchor_stage, Sticky, sticky_anchors, through}
 use Rattle.point.specs.Point.{anchor_link, same_id}
@@ -24,8 +23,8 @@ use Rattle.reasons.specs.Verdict as verdict
 
 -- "Some((_, false)) = proven.sticky_anchors()": a proof that is not its sequence's last
 abbrev pub is_open : Option Sticky → Bool
-is_open none = false
-is_open (some k) = not k.is_last
+is_open None = false
+is_open (Some k) = not k.is_last
 
 -- is_proof_ok returns at its first reason
 abbrev pub first_only : List InvalidReason → List InvalidReason
@@ -69,19 +68,19 @@ unfoldable pub newer_row : AnchorStageRole → PointView → DepView → List In
 newer_row g p q = when (ltb (links_in g p).target.round (top_in g q).round) (NewerAnchorInDependency g q.id)
 
 abbrev pub seq_no : Option Sticky → Option ℕ
-seq_no none = none
-seq_no (some k) = some k.seq_no
+seq_no None = None
+seq_no (Some k) = Some k.seq_no
 
 -- "seq_no.checked_add(1)" is n: of 255 that is None, and here it is 256, which no seq_no n is
 abbrev pub follows : Option ℕ → ℕ → Bool
-follows none n = false
-follows (some m) n = eqb (m + 1) n
+follows None n = false
+follows (Some m) n = eqb (m + 1) n
 
 -- is_sticky_sequence_ok, of a proof with a sequence number above 0: it is within the limit and follows the target's:
 -- check_valid, verifier.rs 498-514
 unfoldable pub sticky_row : Settings → DepView → Option Sticky → List InvalidReason
-sticky_row c q none = []
-sticky_row c q (some k) =
+sticky_row c q None = []
+sticky_row c q (Some k) =
     when (ltb 0 k.seq_no && not (leb k.seq_no c.sticky_anchors && follows (seq_no (sticky_anchors q.role)) k.seq_no))
     (BadStickySequence q.id (seq_no (sticky_anchors q.role)) k.seq_no)
 
@@ -160,15 +159,15 @@ dependency_trail rows Dropped = []
 -- what an entry records, reached through t from a point of a round. The window is of trans-invalid entries alone:
 -- "while r−1 is less than the root's round plus commit_history_rounds".
 unfoldable pub record_of : Settings → ℕ → Bool → Through → DagPoint → Option InvalidDependency
-record_of c round certified t (Valid q) = none
+record_of c round certified t (Valid q) = None
 record_of c round certified t (TransInvalid q root n) =
     pick (certified || leb (root.round + c.commit_history_rounds) (round - 1))
-    none
-    (some (record { to = root; reason = n; through = t }))
-record_of c round certified t (Invalid q n) = pick certified none (some (record { to = q.id; reason = n; through = t }))
-record_of c round certified t (IllFormed i n) = none
-record_of c round certified t (NotFound i) = none
-record_of c round certified t Dropped = none
+    None
+    (Some (record { to = root; reason = n; through = t }))
+record_of c round certified t (Invalid q n) = pick certified None (Some (record { to = q.id; reason = n; through = t }))
+record_of c round certified t (IllFormed i n) = None
+record_of c round certified t (NotFound i) = None
+record_of c round certified t Dropped = None
 
 -- "A new one replaces the old if its round is greater, or equal and only the new reason has a DAG round"
 unfoldable pub is_newer : InvalidDependency → InvalidDependency → Bool
@@ -178,12 +177,12 @@ is_newer old new =
 
 unfoldable pub join : Option InvalidDependency → Option InvalidDependency → Option InvalidDependency
 unfolding is_newer
-join none new = new
-join (some old) none = some old
-join (some old) (some new) = pick (is_newer old new) (some new) (some old)
+join None new = new
+join (Some old) None = Some old
+join (Some old) (Some new) = pick (is_newer old new) (Some new) (Some old)
 
 abbrev pub nothing : Findings
-nothing = record { trail = []; root = none }
+nothing = record { trail = []; root = None }
 
 -- what entries gave, and then one more
 abbrev pub joined : Findings → Findings → Findings
@@ -205,8 +204,8 @@ pub data Taken : Type 0 where
   aside : Taken
 
 abbrev pub taken_own : PointId → Option ℕ → Taken
-taken_own i none = as_version
-taken_own i (some d) = pick (eqb d i.digest) as_prev_point aside
+taken_own i None = as_version
+taken_own i (Some d) = pick (eqb d i.digest) as_prev_point aside
 
 unfoldable pub taken : PointView → PointId → Taken
 taken p i = pick (is_by (p.id.round - 1) p.id.author i) (taken_own i p.prev_digest) as_dependency
@@ -228,7 +227,7 @@ version_trail e Dropped = []
 abbrev pub findings_as : Settings → Bool → PointView → Taken → Entry → Findings
 findings_as c required p as_dependency e = dependency c p.id.round (direct_through p.id.round (entry_id e.state)) (point_rows c required false p) e
 findings_as c required p as_prev_point e = dependency c p.id.round (direct_through p.id.round (entry_id e.state)) (point_rows c required true p) e
-findings_as c required p as_version e = record { trail = version_trail e e.state; root = none }
+findings_as c required p as_version e = record { trail = version_trail e e.state; root = None }
 findings_as c required p aside e = nothing
 
 unfoldable pub entry_findings : Settings → Bool → PointView → Entry → Findings
@@ -275,9 +274,9 @@ check_indirect_links c p old (a ∷ l) = check_indirect_links c p (joined old (i
 -- ---- validate, verifier.rs 176-291
 
 abbrev pub result_with : Option InvalidReason → Option InvalidDependency → verdict.Verdict
-result_with (some reason) d = verdict.Invalid reason
-result_with none (some d) = verdict.TransInvalid d
-result_with none none = verdict.Valid
+result_with (Some reason) d = verdict.Invalid reason
+result_with None (Some d) = verdict.TransInvalid d
+result_with None None = verdict.Valid
 
 -- "Indirect entries are judged only if the direct ones gave no reason"; "Invalid wins over a record": validate, verifier.rs 264-280, 282-288
 unfoldable pub over_lists : Settings → Bool → PointInfo → List Entry → List IndirectEntry → verdict.Verdict

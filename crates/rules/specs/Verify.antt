@@ -1,8 +1,7 @@
 -- Verification: BasicVerifier (verifier.rs) as the table of its tests in the order in which they are made. The answer is the
 -- first fault; no fault is a pass.
-use Rattle.std.specs.Prelude.{ℕ, ◌-◌, Bool, true, false, not, ◌&&◌, ◌||◌, List, [], ◌∷◌, length, leb, ltb, eqb}
-use Rattle.std.proofs.Math.Option.{Option, none, some}
-use Rattle.base.specs.Base.{pick, when, concat, first_of, is_some, is_empty}
+use Rattle.std.specs.Prelude.{ℕ, ◌-◌, Bool, true, false, not, ◌&&◌, ◌||◌, List, [], ◌∷◌, length, leb, ltb, eqb, Option, None, Some, is_some}
+use Rattle.base.specs.Base.{pick, when, concat, first_of, is_empty}
 use Rattle.parts.specs.Parts.{one_f, majority, majority_of_others}
 use Rattle.map.specs.Rows.{find, peers}
 use Rattle.point.specs.Point.{Through, Includes, Witness, AnchorLink, Direct, Indirect, PointInfo, is_anchor_trigger, requires_prev_point, through_round, digest_safe}
@@ -75,8 +74,8 @@ is_genesis AnchorTrigger = false
 is_genesis Genesis = true
 
 abbrev pub is_zero : Option ℕ → Bool
-is_zero none = false
-is_zero (some d) = eqb d 0
+is_zero None = false
+is_zero (Some d) = eqb d 0
 
 -- PointInfo::check_structure(true), info.rs 168-190
 unfoldable pub genesis_structure_rows : PointInfo → List (List StructureIssue)
@@ -138,8 +137,8 @@ structure_rows p =
 
 -- a structure issue as a fault
 abbrev pub structure : Option StructureIssue → List VerifyError
-structure none = []
-structure (some i) = IllFormed (Structure i) ∷ []
+structure None = []
+structure (Some i) = IllFormed (Structure i) ∷ []
 
 -- at genesis: check_well_formed, verifier.rs 894-896, 897-899, 901-902
 unfoldable pub genesis_rows : Settings → PointInfo → List (List VerifyError)
@@ -153,8 +152,8 @@ genesis_rows c p =
 -- the sequence number is over the settings' limit, or else the last flag is not that of the limit:
 -- check_well_formed, verifier.rs 911-913, 914-916
 unfoldable pub sticky_fault : Settings → Option Sticky → List VerifyError
-sticky_fault c none = []
-sticky_fault c (some k) =
+sticky_fault c None = []
+sticky_fault c (Some k) =
     pick (ltb c.sticky_anchors k.seq_no)
     (IllFormed (TooManyStickyAnchors k.seq_no) ∷ [])
     (when (not (equal k.is_last (eqb k.seq_no c.sticky_anchors))) (IllFormed BadLastStickyFlag))
@@ -255,6 +254,6 @@ unknown_by k p n =
 
 -- "All unknown peers go, rising, into a lent buffer ..; the rest of it keeps its bytes": UnknownPeers is number 12
 abbrev pub buffer_with : Scheduled → PointInfo → Option VerifyError → List ℕ → List ℕ
-buffer_with k p none buffer = buffer
-buffer_with k p (some e) buffer =
+buffer_with k p None buffer = buffer
+buffer_with k p (Some e) buffer =
     pick (eqb (error_answer e).reason 12) (put_at buffer 0 (peer_bytes (unknown_by k p (error_answer e).map))) buffer

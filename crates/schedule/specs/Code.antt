@@ -1,11 +1,8 @@
 -- What the code's values stand for, and what its functions promise each other.
-use Rattle.std.proofs.Math.Option.{Option, none, some, map}
 use Rattle.parts.specs.Code.{number}
 use Rattle.schedule.specs.Settings.{Settings}
 use Rattle.schedule.specs.declared.settings.Settings as code-settings
-use Rattle.schedule.specs.declared.settings.ReadSettings as code_read
-use Rattle.schedule.specs.declared.settings.ReadSettings.TheVariants as case-read
-use Rattle.std.specs.Prelude.{ℕ, zero, suc, ◌+◌, ◌-◌, ◌*◌, ◌/◌, ◌≤◌, ◌≡◌, Bool, true, false, List, [], ◌∷◌, length, get_or, take, replicate}
+use Rattle.std.specs.Prelude.{ℕ, zero, suc, ◌+◌, ◌-◌, ◌*◌, ◌/◌, ◌≤◌, ◌≡◌, List, [], ◌∷◌, length, get_or, take, replicate, Option, None, Some, option_map}
 use Rattle.base.specs.Base.{pick}
 use Rattle.parts.specs.Bytes.{bytes_at, little_at}
 use Rattle.map.specs.Rows.{peers_of}
@@ -14,11 +11,6 @@ use Rattle.schedule.specs.Schedule.{Span, Schedule, span_ok, last_at, add_span, 
 use Rattle.schedule.specs.declared.schedule.Span as code-span
 use Rattle.schedule.specs.declared.schedule.Schedule as code-schedule
 use Rattle.schedule.specs.declared.schedule.ReadSpans as code-spans
-use Rattle.schedule.specs.declared.schedule.ReadSchedule as code-read-schedule
-use Rattle.schedule.specs.declared.schedule.SpanIndex as code-index
-use Rattle.schedule.specs.declared.schedule.SpanIndex.TheVariants as case-index
-use Rattle.schedule.specs.declared.schedule.RequireRegularPoints as code-require
-use Rattle.schedule.specs.declared.schedule.RequireRegularPoints.TheVariants as case-require
 
 abbrev pub settings_of : code-settings.Settings → Settings
 settings_of c =
@@ -31,16 +23,12 @@ settings_of c =
       commit_history_rounds = c.commit_history_rounds;
     }
 
-abbrev pub read_settings_of : code_read.ReadSettings → Option Settings
-read_settings_of (case-read.Settings c) = some (settings_of c)
-read_settings_of case-read.Unusable = none
-
 -- ---- what the code's values stand for
 
 -- spans, and then what stands after them
 abbrev pub spans_then : List Span → Option Schedule → Option Schedule
 spans_then [] o = o
-spans_then (x ∷ l) o = map (add_span x) (spans_then l o)
+spans_then (x ∷ l) o = option_map (add_span x) (spans_then l o)
 
 abbrev pub span_of : List ℕ → code-span.Span → Span
 span_of s x = record { first = x.first; peers = peers_of 32 (bytes_at (32 * x.peers) s x.place) }
@@ -79,34 +67,17 @@ pub record SpansRead (s : List ℕ) (r : code-spans.ReadSpans) : Type 0 where
 abbrev pub schedule_of : List ℕ → code-schedule.Schedule → Schedule
 schedule_of s c = record { spans = spans_of s (take c.count c.spans); last_known = c.last_known }
 
-abbrev pub read_schedule_of : List ℕ → code-read-schedule.ReadSchedule → Option Schedule
-read_schedule_of s r = pick r.readable (some (schedule_of s r.schedule)) none
-
--- what is handed out for bytes that hold no schedule
-abbrev pub unreadable : code-read-schedule.ReadSchedule
-unreadable = record { readable = false; schedule = record { spans = replicate 4 no_span; count = 0; last_known = 0 } }
-
--- what read_schedule_of leaves open: with it each field of what is handed out is that of the bytes
-pub record Handed (s : List ℕ) (r : code-read-schedule.ReadSchedule) : Type 0 where
-  pub few : r.schedule.count ≤ 4
-  pub entries : r.readable ≡ true → r.schedule.spans ≡ code_spans_from 4 s 0
-  pub nothing : r.readable ≡ false → r ≡ unreadable
+-- what schedule_of leaves open: with it each field of a schedule is that of the bytes
+pub record Handed (s : List ℕ) (c : code-schedule.Schedule) : Type 0 where
+  pub few : c.count ≤ 4
+  pub entries : c.spans ≡ code_spans_from 4 s 0
 
 -- the part of a schedule's bytes that a span names, or none of them
 abbrev pub bytes_in : List ℕ → List code-span.Span → Option ℕ → List ℕ
-bytes_in s l none = []
-bytes_in s l (some i) = bytes_at (32 * (get_or l i no_span).peers) s (get_or l i no_span).place
+bytes_in s l None = []
+bytes_in s l (Some i) = bytes_at (32 * (get_or l i no_span).peers) s (get_or l i no_span).place
 
 -- the bytes of the peers of a round
 unfoldable pub peer_bytes : List ℕ → code-schedule.Schedule → ℕ → List ℕ
 unfolding span_for
 peer_bytes s c round = bytes_in s c.spans (span_for (schedule_of s c) round)
-
-abbrev pub index_of : code-index.SpanIndex → Option ℕ
-index_of (case-index.At i) = some i
-index_of case-index.Outside = none
-
-abbrev pub require_of : code-require.RequireRegularPoints → Option Bool
-require_of case-require.Required = some true
-require_of case-require.NotRequired = some false
-require_of case-require.Unknown = none

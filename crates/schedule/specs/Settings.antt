@@ -1,6 +1,5 @@
 -- Settings (document 01, tag 32): what mempool_config.rs holds of a network.
-use Rattle.std.specs.Prelude.{ℕ, Bool, ◌&&◌, List, length, get_or, leb, eqb}
-use Rattle.std.proofs.Math.Option.{Option, none, some}
+use Rattle.std.specs.Prelude.{ℕ, Bool, ◌&&◌, List, length, get_or, leb, eqb, Option, None, Some}
 use Rattle.base.specs.Base.{pick}
 use Rattle.parts.specs.Bytes.{id_at, little_at}
 use Rattle.parts.specs.Limits.{first_round, last_round, settings_length}
@@ -41,5 +40,5 @@ unfoldable pub read_settings : List ℕ → Option Settings
 unfolding field_ok in_limits
 read_settings s =
     pick (eqb (length s) settings_length && (field_ok (field_row 32 44 44) s 0 && in_limits (settings_in s)))
-    (some (settings_in s))
-    none
+    (Some (settings_in s))
+    None

@@ -5,7 +5,6 @@ mod schedule;
 mod settings;
 
 pub use schedule::{
-    ReadSchedule, RequireRegularPoints, Schedule, Span, SpanIndex, peers_for, read_schedule,
-    require_regular_points, span_for,
+    LAST_KNOWN, SPAN, Schedule, Span, peers_for, read_schedule, require_regular_points, span_for,
 };
-pub use settings::{ReadSettings, Settings, read_settings};
+pub use settings::{Settings, read_settings};

@@ -1,9 +1,10 @@
 // Schedules of peers: the port of stateless.rs, held by value.
-ghost use Rattle.std.specs.Prelude.{◌≡◌, true, List, ℕ, ◌≤◌, min, length, take};
-ghost use Rattle.parts.specs.Bytes.{bytes_at};
+ghost use Rattle.std.specs.Prelude.{◌≡◌, List, ℕ, ◌+◌, ◌≤◌, length, Some, None, option_map, IfSome};
+ghost use Rattle.base.specs.Base.{pick};
+ghost use Rattle.parts.specs.Bytes.{bytes_at, little_at};
 ghost use Rattle.map.specs.Rows.{peers_of, rising};
 ghost use Rattle.schedule.specs.Schedule.{span_ok, last_ok, read_schedule, span_for, peers_for, require_regular_points};
-ghost use Rattle.schedule.specs.Code.{firsts_of, code_span_at, SpansRead, schedule_of, read_schedule_of, unreadable, Handed, peer_bytes, index_of, require_of};
+ghost use Rattle.schedule.specs.Code.{firsts_of, code_span_at, SpansRead, schedule_of, Handed, peer_bytes};
 
 use record::Row;
 
@@ -22,13 +23,6 @@ pub struct Schedule {
     pub last_known: u32,
 }
 
-// A schedule, where it is readable. (An enum can't hold the array.)
-#[derive(Clone, Copy)]
-pub struct ReadSchedule {
-    pub readable: bool,
-    pub schedule: Schedule,
-}
-
 // The spans at the front of a schedule's bytes, and where they end.
 #[derive(Clone, Copy)]
 struct ReadSpans {
@@ -37,28 +31,14 @@ struct ReadSpans {
     end: usize,
 }
 
-// The span that a round belongs to.
-#[derive(Clone, Copy)]
-pub enum SpanIndex {
-    At(usize),
-    Outside,
-}
-
-// Whether only regular points may stand at a round; unknown where the round or the one four later is in no span.
-#[derive(Clone, Copy)]
-pub enum RequireRegularPoints {
-    Required,
-    NotRequired,
-    Unknown,
-}
-
-const SPAN: Row = Row {
+// The field of a span, and that of the last known round.
+pub const SPAN: Row = Row {
     tag: 34,
     least: 4,
     greatest: 8164,
 };
 
-const LAST_KNOWN: Row = Row {
+pub const LAST_KNOWN: Row = Row {
     tag: 35,
     least: 4,
     greatest: 4,
@@ -70,46 +50,34 @@ const NO_SPAN: Span = Span {
     peers: 0,
 };
 
-fn at_most(n: usize, most: usize) -> usize
-    ensures { result ≡ min n most }
-{
-    if n < most { n } else { most }
-}
-
-// Whether a span stands at a place.
-fn is_span(s: &[u8], at: usize) -> bool
+// The span at a place, if one stands there.
+#[tactic(auto, unfolding(crate::specs::Schedule::span_ok))]
+fn span_at(s: &[u8], at: usize) -> Option<Span>
     requires { at ≤ length s.now }
-    ensures { result ≡ span_ok s.now at }
+    ensures { result ≡ pick (span_ok s.now at) (Some (code_span_at s.now at)) None }
 {
     if !record::field_ok(s, at, SPAN) {
-        return false;
+        return None;
     }
     let content = record::content_at(s, at);
-    map::is_well_rowed(&content[4..], 32)
-}
-
-// Whether the last known round stands at a place, and nothing after it.
-fn is_last_known(s: &[u8], at: usize) -> bool
-    requires { at ≤ length s.now }
-    ensures { result ≡ last_ok s.now at }
-{
-    if !record::field_ok(s, at, LAST_KNOWN) {
-        return false;
-    }
-    record::next(s, at) == s.len()
-}
-
-// The span at a place.
-fn span_at(s: &[u8], at: usize) -> Span
-    requires { (at ≤ length s.now) × (span_ok s.now at ≡ true) }
-    ensures { result ≡ code_span_at s.now at }
-{
-    let content = record::content_at(s, at);
-    Span {
+    let span = Span {
         first: parts::u32_at(content, 0),
         place: at + 7,
         peers: ((content.len() - 4) / 32) as u8,
+    };
+    map::is_well_rowed(&content[4..], 32).then_some(span)
+}
+
+// The last known round, if it stands at a place and nothing after it.
+#[tactic(auto, unfolding(crate::specs::Schedule::last_ok))]
+fn last_known_at(s: &[u8], at: usize) -> Option<u32>
+    requires { at ≤ length s.now }
+    ensures { result ≡ pick (last_ok s.now at) (Some (little_at 4 s.now (at + 3))) None }
+{
+    if !record::field_ok(s, at, LAST_KNOWN) || record::next(s, at) != s.len() {
+        return None;
     }
+    Some(parts::u32_at(s, at + 3))
 }
 
 // At most four spans from the front on.
@@ -117,115 +85,63 @@ fn read_spans(s: &[u8]) -> ReadSpans
     ensures { SpansRead s.now result }
 {
     let mut spans = [NO_SPAN; 4];
-    let mut count = 0;
-    let mut at = 0;
-    while count < 4 {
-        if !is_span(s, at) {
-            return ReadSpans {
-                spans,
-                count,
-                end: at,
-            };
-        }
-        spans[count] = span_at(s, at);
-        at = record::next(s, at);
-        count += 1;
+    let mut end = 0;
+    for count in 0..4 {
+        let Some(span) = span_at(s, end) else {
+            return ReadSpans { spans, count, end };
+        };
+        spans[count] = span;
+        end = record::next(s, end);
     }
     ReadSpans {
         spans,
-        count,
-        end: at,
+        count: 4,
+        end,
     }
 }
 
-// Whether the first rounds of the first n spans rise strictly.
-fn are_firsts_rising(spans: [Span; 4], count: usize) -> bool
-    requires { count ≤ 4 }
-    ensures { result ≡ rising (firsts_of (take count spans)) }
+// Whether the first rounds of spans rise strictly.
+fn are_firsts_rising(spans: &[Span]) -> bool
+    ensures { result ≡ rising (firsts_of spans.now) }
 {
-    let mut i = 1;
-    while i < count {
-        let a = spans[i - 1];
-        let b = spans[i];
-        if b.first <= a.first {
-            return false;
-        }
-        i += 1;
-    }
-    true
-}
-
-// What is handed out where there is no schedule.
-fn unreadable() -> ReadSchedule
-    ensures { result ≡ unreadable }
-{
-    let spans = [NO_SPAN; 4];
-    let schedule = Schedule {
-        spans,
-        count: 0,
-        last_known: 0,
-    };
-    ReadSchedule {
-        readable: false,
-        schedule,
-    }
+    spans.is_sorted_by(|a, b| a.first < b.first)
 }
 
 // The schedule of a slice that holds one and nothing after it.
-pub fn read_schedule(s: &[u8]) -> ReadSchedule
-    ensures same { read_schedule_of s.now result ≡ read_schedule s.now }
-    ensures handed { Handed s.now result }
+pub fn read_schedule(s: &[u8]) -> Option<Schedule>
+    ensures same { option_map (schedule_of s.now) result ≡ read_schedule s.now }
+    ensures handed { IfSome result (Handed s.now) }
 {
-    let read = read_spans(s);
-    let spans = read.spans;
-    let count = read.count;
-    let end = read.end;
-    if count == 0 {
-        return unreadable();
+    let ReadSpans { spans, count, end } = read_spans(s);
+    if count == 0 || !are_firsts_rising(&spans[..count]) {
+        return None;
     }
-    if !are_firsts_rising(spans, count) {
-        return unreadable();
-    }
-    if !is_last_known(s, end) {
-        return unreadable();
-    }
-    let schedule = Schedule {
+    let last_known = last_known_at(s, end)?;
+    Some(Schedule {
         spans,
         count,
-        last_known: parts::u32_at(s, end + 3),
-    };
-    ReadSchedule {
-        readable: true,
-        schedule,
-    }
+        last_known,
+    })
 }
 
 // The span that a round belongs to: the last that starts at or before it.
-pub fn span_for(c: Schedule, round: u32) -> SpanIndex
-    ensures { (s : List ℕ) → index_of result ≡ span_for (schedule_of s c) round }
+pub fn span_for(c: Schedule, round: u32) -> Option<usize>
+    ensures { (s : List ℕ) → result ≡ span_for (schedule_of s c) round }
 {
     if c.last_known < round {
-        return SpanIndex::Outside;
+        return None;
     }
-    let spans = c.spans;
-    let mut k = at_most(c.count, 4);
-    while 0 < k {
-        let span = spans[k - 1];
-        if span.first <= round {
-            return SpanIndex::At(k - 1);
-        }
-        k -= 1;
-    }
-    SpanIndex::Outside
+    c.spans[..c.count.min(c.spans.len())]
+        .iter()
+        .rposition(|span| span.first <= round)
 }
 
 // A part of a slice, as much of it as there is.
 fn part(s: &[u8], at: usize, n: usize) -> &[u8]
     ensures { result.now ≡ bytes_at n s.now at }
 {
-    let start = at_most(at, s.len());
-    let end = start + at_most(n, s.len() - start);
-    &s[start..end]
+    let rest = s.get(at..).unwrap_or(&[]);
+    &rest[..n.min(rest.len())]
 }
 
 // The peers of a round, as a part of the schedule's bytes.
@@ -233,32 +149,20 @@ pub fn peers_for(s: &[u8], c: Schedule, round: u32) -> &[u8]
     ensures same { peers_of 32 result.now ≡ peers_for (schedule_of s.now c) round }
     ensures bytes { result.now ≡ peer_bytes s.now c round }
 {
-    let index = span_for(c, round);
-    match index {
-        SpanIndex::At(i) => {
-            let spans = c.spans;
-            let span = spans[i];
+    match span_for(c, round) {
+        Some(i) => {
+            let span = c.spans[i];
             part(s, span.place, 32 * span.peers as usize)
         }
-        SpanIndex::Outside => &s[0..0],
+        None => &[],
     }
 }
 
 // Whether only regular points may stand at a round: where it and the round four later are in different spans.
-pub fn require_regular_points(c: Schedule, round: u32) -> RequireRegularPoints
-    ensures { (s : List ℕ) → require_of result ≡ require_regular_points (schedule_of s c) round }
+pub fn require_regular_points(c: Schedule, round: u32) -> Option<bool>
+    ensures { (s : List ℕ) → result ≡ require_regular_points (schedule_of s c) round }
 {
-    let SpanIndex::At(i) = span_for(c, round) else {
-        return RequireRegularPoints::Unknown;
-    };
-    if u32::MAX - parts::WAVE_ROUNDS < round {
-        return RequireRegularPoints::Unknown;
-    }
-    let SpanIndex::At(j) = span_for(c, round + parts::WAVE_ROUNDS) else {
-        return RequireRegularPoints::Unknown;
-    };
-    if i == j {
-        return RequireRegularPoints::NotRequired;
-    }
-    RequireRegularPoints::Required
+    let i = span_for(c, round)?;
+    let j = span_for(c, round.checked_add(parts::WAVE_ROUNDS)?)?;
+    Some(i != j)
 }

@@ -1,7 +1,7 @@
 // Settings of a network: what mempool_config.rs holds that judging asks for.
-ghost use Rattle.std.specs.Prelude.{◌≡◌};
+ghost use Rattle.std.specs.Prelude.{◌≡◌, option_map};
 ghost use Rattle.schedule.specs.Settings.{in_limits, read_settings};
-ghost use Rattle.schedule.specs.Code.{settings_of, read_settings_of};
+ghost use Rattle.schedule.specs.Code.{settings_of};
 
 use parts::Id;
 use record::Row;
@@ -16,12 +16,6 @@ pub struct Settings {
     pub commit_history_rounds: u8,
 }
 
-#[derive(Clone, Copy)]
-pub enum ReadSettings {
-    Settings(Settings),
-    Unusable,
-}
-
 const SETTINGS: Row = Row {
     tag: 32,
     least: 44,
@@ -29,33 +23,23 @@ const SETTINGS: Row = Row {
 };
 
 // Whether every number lies within its limits.
+#[tactic(auto, unfolding(crate::specs::Settings::in_limits))]
 fn are_in_limits(c: Settings) -> bool
     ensures { result ≡ in_limits (settings_of c) }
 {
-    if c.genesis_round < parts::FIRST_ROUND {
-        return false;
-    }
-    if parts::LAST_ROUND < c.genesis_round {
-        return false;
-    }
-    if c.payload_batch_bytes < 1 {
-        return false;
-    }
-    if c.clock_skew_millis < 1 {
-        return false;
-    }
-    1 <= c.commit_history_rounds
+    (parts::FIRST_ROUND..=parts::LAST_ROUND).contains(&c.genesis_round)
+        && 1 <= c.payload_batch_bytes
+        && 1 <= c.clock_skew_millis
+        && 1 <= c.commit_history_rounds
 }
 
 // The settings of a slice that holds them and nothing after them.
-pub fn read_settings(s: &[u8]) -> ReadSettings
-    ensures { read_settings_of result ≡ read_settings s.now }
+#[tactic(auto, unfolding(crate::specs::Settings::read_settings))]
+pub fn read_settings(s: &[u8]) -> Option<Settings>
+    ensures { option_map settings_of result ≡ read_settings s.now }
 {
-    if s.len() != parts::SETTINGS_LENGTH {
-        return ReadSettings::Unusable;
-    }
-    if !record::field_ok(s, 0, SETTINGS) {
-        return ReadSettings::Unusable;
+    if s.len() != parts::SETTINGS_LENGTH || !record::field_ok(s, 0, SETTINGS) {
+        return None;
     }
     let settings = Settings {
         genesis_round: parts::u32_at(s, 3),
@@ -65,8 +49,5 @@ pub fn read_settings(s: &[u8]) -> ReadSettings
         clock_skew_millis: parts::u16_at(s, 44),
         commit_history_rounds: s[46],
     };
-    if !are_in_limits(settings) {
-        return ReadSettings::Unusable;
-    }
-    ReadSettings::Settings(settings)
+    are_in_limits(settings).then_some(settings)
 }

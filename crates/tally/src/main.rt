@@ -11,7 +11,6 @@ ghost use Rattle.tally.specs.Code.{Stands};
 
 use points::{State, Turn};
 use std::io::Read;
-use tally_feed::Front;
 use window::Window;
 
 const BOOK: usize = 65536;
@@ -89,10 +88,9 @@ fn print_lines<R: Read>(
         return false;
     }
     let end = w.end;
-    let front = tally_feed::begin(book, &buf[0..end]);
-    match front {
-        Front::Number(n) => print::line(rt, tally_feed::refused(0, 0, n)),
-        Front::Points(start) => print_after(rt, input, book, schedule, peers, buf, w, start),
+    match tally_feed::begin(book, &buf[..end]) {
+        Err(refusal) => print::line(rt, tally_feed::refused(0, 0, refusal)),
+        Ok(start) => print_after(rt, input, book, schedule, peers, buf, w, start),
     }
 }
 

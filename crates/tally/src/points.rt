@@ -46,11 +46,7 @@ pub fn begin_points(schedule: &mut [u8], buf: &[u8], w: Window, start: usize) ->
 pub fn with(s: State, w: Window) -> State
     ensures { result ≡ with_window s w }
 {
-    State {
-        window: w,
-        place: s.place,
-        schedule_len: s.schedule_len,
-    }
+    State { window: w, ..s }
 }
 
 // Offers the next point at hand to the book.

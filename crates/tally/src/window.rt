@@ -134,8 +134,6 @@ pub fn after(w: Window, n: usize) -> Window
 {
     Window {
         start: w.start + n,
-        end: w.end,
-        is_all: w.is_all,
-        failed: w.failed,
+        ..w
     }
 }

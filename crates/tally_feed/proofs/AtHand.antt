@@ -1,11 +1,11 @@
 -- With enough of a feed at hand, the next step gives what it gives with all of the feed at hand: so a program may hold a part of its
 -- feed only. And the lines of a feed are those of its steps, one after another.
+use Rattle.std.specs.Prelude.{Option, None, Some, unwrap_or}
 use Prim.Native.Nat.{ℕ, zero, suc, ◌+◌, ◌-◌, ◌≤◌}
 use native.Mathlib.Omega.{arith}
 use native.Mathlib.Decide.{dec_lt}
 use mathlib.Core.Path.{◌≡◌, refl, ap, sym, ◌∙◌}
 use mathlib.Core.Bool.{Bool, true, false}
-use mathlib.Core.Option.{Option, none, some, get_or}
 use mathlib.Core.List.{List, [], ◌∷◌}
 use lib.ListN.{length, take, drop, length-drop}
 use lib.Seq.{take_all, take-length, take-nil, drop-nil, take-take, length-take-le}
@@ -21,24 +21,23 @@ use Rattle.books.specs.Kept.{Opened}
 use Rattle.books.specs.Offer.{Offer, Result, offer_tested, offer_with, offer}
 use Rattle.books.specs.Layout.{read_book}
 use Rattle.books.specs.Calls.{open_number, in_bytes, offer_to, offer_bytes}
-use Rattle.tally_feed.specs.declared.front.Front as code-front
-use Rattle.tally_feed.specs.Tally.{last_known_end, schedule_end_from, schedule_end, schedule_to, front_with, front_of, opened_with, begin, record_size, offered_as, offered, step, Tally, step_then, points_from, points}
+use Rattle.tally_feed.specs.Tally.{Front, last_known_end, schedule_end_from, schedule_end, schedule_to, front_with, front_of, opened_with, begin, record_size, offered_as, offered, step, Tally, step_then, points_from, points}
 use Rattle.tally_feed.proofs.Laws.{span, last_known, by-test, schedule-after, schedule-most, schedule-inside, size_of}
 
 -- ---- an end that lies in a part of a list is the whole list's
 
-same_option : (x y : Option ℕ) → ((n : ℕ) → x ≡ some n → y ≡ some n) → ((n : ℕ) → y ≡ some n → x ≡ some n) → x ≡ y
-same_option none none f g = refl
-same_option none (some n) f g = g n refl
-same_option (some n) y f g = sym (f n refl)
+same_option : (x y : Option ℕ) → ((n : ℕ) → x ≡ Some n → y ≡ Some n) → ((n : ℕ) → y ≡ Some n → x ≡ Some n) → x ≡ y
+same_option None None f g = refl
+same_option None (Some n) f g = g n refl
+same_option (Some n) y f g = sym (f n refl)
 
 part_agrees : (n : ℕ) (s : List ℕ) → n ≤ length s → Agree n (take n s) s
 part_agrees n s h = record { same = take-take n n s (omega arith); in_left = omega (arith, length-take-le n s h); in_right = h }
 
 module _ (end : List ℕ → Option ℕ) (most : ℕ)
-    (carries : (e : ℕ) (s t : List ℕ) → Agree e s t → (k : ℕ) → end s ≡ some k → k ≤ e → end t ≡ some k)
-    (limit : (s : List ℕ) (k : ℕ) → end s ≡ some k → k ≤ most)
-    (within : (s : List ℕ) (k : ℕ) → end s ≡ some k → k ≤ length s)
+    (carries : (e : ℕ) (s t : List ℕ) → Agree e s t → (k : ℕ) → end s ≡ Some k → k ≤ e → end t ≡ Some k)
+    (limit : (s : List ℕ) (k : ℕ) → end s ≡ Some k → k ≤ most)
+    (within : (s : List ℕ) (k : ℕ) → end s ≡ Some k → k ≤ length s)
   where
     end_part : (n : ℕ) (s : List ℕ) → most ≤ n → end (take n s) ≡ end s
     end_part n s h = elim (dec_lt (length s) n) [
@@ -54,27 +53,27 @@ record_part : (n : ℕ) (s : List ℕ) → 41126 ≤ n → record_end (take n s)
 record_part = end_part record_end 41126 (λ e s t a k h g. end_same e s t a k h g) record_most end-within
 
 -- bytes where no record ends can't be read
-shapeless : (s : List ℕ) → record_end s ≡ none → (x : Bool) → well_shaped s ≡ x → x ≡ false
+shapeless : (s : List ℕ) → record_end s ≡ None → (x : Bool) → well_shaped s ≡ x → x ≡ false
 shapeless s e true h = let z : ◌≡◌ {A = ℕ} 0 1 = cc (shaped-end s h) in absurd (omega arith)
 shapeless s e false h = refl
 
-endless_unread : (s : List ℕ) → record_end s ≡ none → read_point s ≡ none
+endless_unread : (s : List ℕ) → record_end s ≡ None → read_point s ≡ None
 unfolding read_point
 endless_unread s e = rw (shapeless s e (well_shaped s) refl)
 
 -- all records that can't be read are answered alike
-module _ (schedule book peers : List ℕ) (leader : ℕ) (s t : List ℕ) (p : read_point s ≡ none) (q : read_point t ≡ none) where
+module _ (schedule book peers : List ℕ) (leader : ℕ) (s t : List ℕ) (p : read_point s ≡ None) (q : read_point t ≡ None) where
   abbrev offering : List ℕ → Offer
   offering bytes = record { schedule = schedule; leader = leader; bytes = bytes; peers = peers }
 
   unread-offers : (z : Opened) (x : Option Schedule) → read_schedule schedule ≡ x → offer z (offering s) ≡ offer z (offering t)
   unfolding offer offer_tested offer_with
-  unread-offers z none e = rw e
-  unread-offers z (some d) e = rw (e, p, q)
+  unread-offers z None e = rw e
+  unread-offers z (Some d) e = rw (e, p, q)
 
   unread-to : (z : Option Opened) → offer_to book (offering s) z ≡ offer_to book (offering t) z
-  unread-to none = refl
-  unread-to (some z) = ap in_bytes (unread-offers z (read_schedule schedule) refl)
+  unread-to None = refl
+  unread-to (Some z) = ap in_bytes (unread-offers z (read_schedule schedule) refl)
 
   unread-same : offer_bytes book (offering s) ≡ offer_bytes book (offering t)
   unfolding offer_bytes
@@ -84,15 +83,15 @@ module _ (schedule book peers : List ℕ) (leader : ℕ) (s t : List ℕ) (p : r
   unread-offered place k m = rw (p, q, unread-same)
 
 module _ (schedule book peers : List ℕ) (place leader n : ℕ) (s : List ℕ) where
-  to_part : (o : Option ℕ) → record_end (take n s) ≡ o → record_end s ≡ o → ((k : ℕ) → o ≡ some k → k ≤ n) →
-      offered schedule book peers place leader (suc (get_or o (length (take n s)))) (take (get_or o (length (take n s))) (take n s))
-      ≡ offered schedule book peers place leader (suc (get_or o (length s))) (take (get_or o (length s)) s)
-  to_part none e f h =
+  to_part : (o : Option ℕ) → record_end (take n s) ≡ o → record_end s ≡ o → ((k : ℕ) → o ≡ Some k → k ≤ n) →
+      offered schedule book peers place leader (suc (unwrap_or o (length (take n s)))) (take (unwrap_or o (length (take n s))) (take n s))
+      ≡ offered schedule book peers place leader (suc (unwrap_or o (length s))) (take (unwrap_or o (length s)) s)
+  to_part None e f h =
       let a = take-length (take n s) in
       let b = take-length s in
       unread-offered schedule book peers leader (take (length (take n s)) (take n s)) (take (length s) s)
       (ap read_point a ∙ endless_unread (take n s) e) (ap read_point b ∙ endless_unread s f) place (suc (length (take n s))) (suc (length s))
-  to_part (some k) e f h = rw (take-take k n s (h k refl))
+  to_part (Some k) e f h = rw (take-take k n s (h k refl))
 
 -- the longest leader byte and record take 41,127 bytes
 pub step_part : (n : ℕ) (schedule book peers : List ℕ) (place : ℕ) (feed : List ℕ) → 41127 ≤ n →
@@ -116,7 +115,7 @@ no_span : (s : List ℕ) (at : ℕ) → field_ok last_known s at ≡ true → fi
 no_span s at h = false_of (field_ok span s at) (λ g. omega (arith, (fitting span s at g).tag, (fitting last_known s at h).tag))
 
 module _ (e : ℕ) (s t : List ℕ) (a : Agree e s t) where
-  from-same : (k at n : ℕ) → schedule_end_from k s at ≡ some n → n ≤ e → schedule_end_from k t at ≡ some n
+  from-same : (k at n : ℕ) → schedule_end_from k s at ≡ Some n → n ≤ e → schedule_end_from k t at ≡ Some n
   unfolding schedule_end_from end_from
   from-same zero at n h g = ends_same e s t a (last_known ∷ []) at n h g
   from-same (suc k) at n h g =
@@ -132,20 +131,20 @@ module _ (e : ℕ) (s t : List ℕ) (a : Agree e s t) where
       let o = field-same e s t a at b last_known f in
       rw (no_span t at o) (ends_same e s t a (last_known ∷ []) at n i g))
 
-schedule-same : (e : ℕ) (s t : List ℕ) → Agree e s t → (k : ℕ) → schedule_end s ≡ some k → k ≤ e → schedule_end t ≡ some k
+schedule-same : (e : ℕ) (s t : List ℕ) → Agree e s t → (k : ℕ) → schedule_end s ≡ Some k → k ≤ e → schedule_end t ≡ Some k
 unfolding schedule_end
 schedule-same e s t a k h g = from-same e s t a 4 0 k h g
 
 schedule_part : (n : ℕ) (s : List ℕ) → 32675 ≤ n → schedule_end (take n s) ≡ schedule_end s
 schedule_part = end_part schedule_end 32675 schedule-same schedule-most schedule-inside
 
-schedule-to_part : (n : ℕ) (s : List ℕ) (o : Option ℕ) → ((k : ℕ) → o ≡ some k → k ≤ n) → schedule_to (take n s) o ≡ schedule_to s o
-schedule-to_part n s none f = refl
-schedule-to_part n s (some k) f = rw (take-take k n s (f k refl))
+schedule-to_part : (n : ℕ) (s : List ℕ) (o : Option ℕ) → ((k : ℕ) → o ≡ Some k → k ≤ n) → schedule_to (take n s) o ≡ schedule_to s o
+schedule-to_part n s None f = refl
+schedule-to_part n s (Some k) f = rw (take-take k n s (f k refl))
 
 with_part : (n : ℕ) (s : List ℕ) (c : Option Settings) → 32675 ≤ n → front_with (take n s) c ≡ front_with s c
-with_part n s none h = refl
-with_part n s (some c) h =
+with_part n s None h = refl
+with_part n s (Some c) h =
     ap (schedule_to (take n s)) (schedule_part n s h)
     ∙ schedule-to_part n s (schedule_end s) (λ k e. omega (arith, schedule-most s k e))
 
@@ -160,15 +159,15 @@ unfolding begin front_of
 begin_part n len feed h =
     let e : n ≡ settings_length + (n - settings_length) = omega arith in
     let d : drop settings_length (take n feed) ≡ take (n - settings_length) (drop settings_length feed) = ap (λ (m : ℕ). drop settings_length (take m feed)) e ∙ drop_part settings_length (n - settings_length) feed in
-    rw (take-take settings_length n feed (omega arith), d) (ap (λ (x : code-front.Front). opened_with x (open_number (take settings_length feed) len)) (with_part (n - settings_length) (drop settings_length feed) (read_settings (take settings_length feed)) (omega arith)))
+    rw (take-take settings_length n feed (omega arith), d) (ap (λ (x : Front). opened_with x (open_number (take settings_length feed) len)) (with_part (n - settings_length) (drop settings_length feed) (read_settings (take settings_length feed)) (omega arith)))
 
 -- ---- the lines of a feed, step by step
 
 module _ (f g : List ℕ → List ℕ → List ℕ → Tally) (book : List ℕ) (x : ℕ) (s : List ℕ)
     (same : (b p t : List ℕ) → length t ≤ length s → f b p t ≡ g b p t) where
   offered-same : (place k : ℕ) (r : Result (List ℕ)) (p : Option PointInfo) → step_then f book (x ∷ s) (offered_as place (suc k) r p) ≡ step_then g book (x ∷ s) (offered_as place (suc k) r p)
-  offered-same place k r none = refl
-  offered-same place k r (some p) = rw (same r.after r.peers (drop k s) (omega (arith, length-drop k s)))
+  offered-same place k r None = refl
+  offered-same place k r (Some p) = rw (same r.after r.peers (drop k s) (omega (arith, length-drop k s)))
 
 -- every number of turns that is enough gives the same
 enough : (m n : ℕ) (schedule book peers : List ℕ) (place : ℕ) (feed : List ℕ) → length feed ≤ m → length feed ≤ n →

@@ -1,11 +1,10 @@
 -- Laws of feeds: how far their parts reach, and that a part of a feed that is long enough gives what the whole gives.
+use Rattle.std.specs.Prelude.{option_map, unwrap_or, Option, None, Some, Ok, Err}
 use Prim.Native.Nat.{ℕ, zero, suc, ◌+◌, ◌≤◌, ◌<◌}
 use native.Mathlib.Omega.{arith}
 use native.Mathlib.Numerals.{add-one}
 use mathlib.Core.Path.{◌≡◌, refl, ap, sym, ◌∙◌}
 use mathlib.Core.Bool.{Bool, true, false}
-use mathlib.Core.Option
-use mathlib.Core.Option.{Option, none, some}
 use mathlib.Core.List.{List, [], ◌∷◌}
 use lib.ListN.{length, get_or, take, drop, length-drop}
 use lib.Dec.{eqb}
@@ -19,11 +18,13 @@ use Rattle.record.proofs.Laws.{next-within, fitting, end_after, end-most, end-wi
 use Rattle.point.specs.Point.{PointInfo}
 use Rattle.schedule.specs.Settings.{Settings, read_settings}
 use Rattle.schedule.specs.Schedule.{Schedule, read_schedule}
+use Rattle.reasons.specs.Refusal.{refusal_number}
+use Rattle.reasons.specs.declared.refusal.Refusal.{Refusal}
+use Rattle.reasons.specs.declared.refusal.Refusal.TheVariants as refusal
 use Rattle.rules.specs.Judge.{JudgeAnswer}
 use Rattle.books.specs.Offer.{Result}
 use Rattle.books.specs.Calls.{open_number, opened_as, open_bytes}
 use Rattle.tally_line.specs.declared.Line.{Line}
-use Rattle.tally_feed.specs.declared.front.Front.TheVariants as case-front
 use Rattle.tally_feed.specs.declared.next.Next as code-next
 use Rattle.tally_feed.specs.declared.next.Next.TheVariants as case-next
 use Rattle.tally_feed.specs.Tally.{line_of, last_known_end, schedule_end_from, schedule_end, schedule_to, front_of, begin, record_size, Step, over, offered_as, offered, step}
@@ -37,7 +38,7 @@ span = field_row 34 4 8164
 abbrev pub last_known : Row
 last_known = field_row 35 4 4
 
-end-inside : (rs : List Row) (s : List ℕ) (at n : ℕ) → at ≤ length s → end_from rs s at ≡ some n → n ≤ length s
+end-inside : (rs : List Row) (s : List ℕ) (at n : ℕ) → at ≤ length s → end_from rs s at ≡ Some n → n ≤ length s
 unfolding end_from
 end-inside [] s at n b h = let e : at ≡ n = cc in omega arith
 end-inside (r ∷ rs) s at n b h =
@@ -47,11 +48,11 @@ end-inside (r ∷ rs) s at n b h =
 -- ---- where a schedule ends
 
 -- what was picked was picked for one of two reasons
-pub by-test : {X : Type 0} (t : Bool) (x y : Option ℕ) (n : ℕ) → pick t x y ≡ some n → (t ≡ true → x ≡ some n → X) → (t ≡ false → y ≡ some n → X) → X
+pub by-test : {X : Type 0} (t : Bool) (x y : Option ℕ) (n : ℕ) → pick t x y ≡ Some n → (t ≡ true → x ≡ Some n → X) → (t ≡ false → y ≡ Some n → X) → X
 by-test true x y n h f g = f refl h
 by-test false x y n h f g = g refl h
 
-pub schedule-after : (k : ℕ) (s : List ℕ) (at n : ℕ) → schedule_end_from k s at ≡ some n → at ≤ n
+pub schedule-after : (k : ℕ) (s : List ℕ) (at n : ℕ) → schedule_end_from k s at ≡ Some n → at ≤ n
 unfolding schedule_end_from
 schedule-after zero s at n h = end_after (last_known ∷ []) s at n h
 schedule-after (suc k) s at n h =
@@ -64,7 +65,7 @@ abbrev most_spans : ℕ → ℕ
 most_spans zero = 7
 most_spans (suc k) = 8167 + most_spans k
 
-from-most : (k : ℕ) (s : List ℕ) (at n : ℕ) → schedule_end_from k s at ≡ some n → n ≤ at + most_spans k
+from-most : (k : ℕ) (s : List ℕ) (at n : ℕ) → schedule_end_from k s at ≡ Some n → n ≤ at + most_spans k
 unfolding schedule_end_from
 from-most zero s at n h = end-most (last_known ∷ []) s at n h
 from-most (suc k) s at n h =
@@ -72,7 +73,7 @@ from-most (suc k) s at n h =
     (λ t x. let f = fitting span s at t in omega (arith, f.next, f.greatest, from-most k s (next_at s at) n x))
     (λ t y. omega (arith, end-most (last_known ∷ []) s at n y))
 
-from-inside : (k : ℕ) (s : List ℕ) (at n : ℕ) → at ≤ length s → schedule_end_from k s at ≡ some n → n ≤ length s
+from-inside : (k : ℕ) (s : List ℕ) (at n : ℕ) → at ≤ length s → schedule_end_from k s at ≡ Some n → n ≤ length s
 unfolding schedule_end_from
 from-inside zero s at n b h = end-inside (last_known ∷ []) s at n b h
 from-inside (suc k) s at n b h =
@@ -80,7 +81,7 @@ from-inside (suc k) s at n b h =
     (λ t x. from-inside k s (next_at s at) n (next-within s at) x)
     (λ t y. end-inside (last_known ∷ []) s at n b y)
 
-module _ (s : List ℕ) (n : ℕ) (h : schedule_end s ≡ some n) where
+module _ (s : List ℕ) (n : ℕ) (h : schedule_end s ≡ Some n) where
   pub schedule-most : n ≤ 32675
   unfolding schedule_end
   schedule-most = from-most 4 s 0 n h
@@ -109,31 +110,31 @@ unlike : (n m : ℕ) → n < m → eqb n m ≡ false
 unlike n m h = ne_eqb n m (λ e. omega arith)
 
 -- no settings are shorter than 47 bytes
-pub short-settings : (s : List ℕ) → length s < settings_length → read_settings s ≡ none
+pub short-settings : (s : List ℕ) → length s < settings_length → read_settings s ≡ None
 unfolding read_settings
 short-settings s h = simp (unlike (length s) settings_length h)
 
 module _ (feed : List ℕ) where
-  pub front_unset : read_settings (take settings_length feed) ≡ none → front_of feed ≡ case-front.Number 1
+  pub front_unset : read_settings (take settings_length feed) ≡ None → front_of feed ≡ Err 1
   unfolding front_of
   front_unset e = rw e
 
-  module _ (c : Settings) (z : read_settings (take settings_length feed) ≡ some c) where
+  module _ (c : Settings) (z : read_settings (take settings_length feed) ≡ Some c) where
     front-set : front_of feed ≡ schedule_to (drop settings_length feed) (schedule_end (drop settings_length feed))
     unfolding front_of
     front-set = rw z
 
-    pub front_endless : schedule_end (drop settings_length feed) ≡ none → front_of feed ≡ case-front.Number 2
+    pub front_endless : schedule_end (drop settings_length feed) ≡ None → front_of feed ≡ Err 2
     front_endless e = front-set ∙ rw e
 
-    module _ (n : ℕ) (e : schedule_end (drop settings_length feed) ≡ some n) where
-      pub front-unread : read_schedule (take n (drop settings_length feed)) ≡ none → front_of feed ≡ case-front.Number 2
+    module _ (n : ℕ) (e : schedule_end (drop settings_length feed) ≡ Some n) where
+      pub front-unread : read_schedule (take n (drop settings_length feed)) ≡ None → front_of feed ≡ Err 2
       front-unread u = front-set ∙ rw (e, u)
 
-      pub front_read : (d : Schedule) → read_schedule (take n (drop settings_length feed)) ≡ some d → front_of feed ≡ case-front.Points (settings_length + n)
+      pub front_read : (d : Schedule) → read_schedule (take n (drop settings_length feed)) ≡ Some d → front_of feed ≡ Ok (settings_length + n)
       front_read d r = front-set ∙ rw (e, r)
 
-  pub begins : (n : ℕ) → schedule_end (drop settings_length feed) ≡ some n → settings_length ≤ length feed → (settings_length ≤ settings_length + n) × (settings_length + n ≤ length feed) × (settings_length + n ≤ 32722)
+  pub begins : (n : ℕ) → schedule_end (drop settings_length feed) ≡ Some n → settings_length ≤ length feed → (settings_length ≤ settings_length + n) × (settings_length + n ≤ length feed) × (settings_length + n ≤ 32722)
   begins n e h =
       let i = schedule-inside (drop settings_length feed) n e in
       (omega arith, omega (arith, length-drop settings_length feed), omega (arith, schedule-most (drop settings_length feed) n e))
@@ -141,19 +142,34 @@ module _ (feed : List ℕ) where
 -- ---- opening the book
 
 module _ (len : ℕ) (feed : List ℕ) where
-  pub begin-unread : (n : ℕ) → front_of feed ≡ case-front.Number n → begin len feed ≡ case-front.Number n
+  pub begin-unread : (n : ℕ) → front_of feed ≡ Err n → begin len feed ≡ Err n
   unfolding begin
   begin-unread n e = rw e
 
-  module _ (n : ℕ) (e : front_of feed ≡ case-front.Points n) where
-    pub begin-refused : (k : ℕ) → open_number (take settings_length feed) len ≡ k → (k ≡ 0 → ⊥) → begin len feed ≡ case-front.Number k
+  module _ (n : ℕ) (e : front_of feed ≡ Ok n) where
+    pub begin-refused : (k : ℕ) → open_number (take settings_length feed) len ≡ k → (k ≡ 0 → ⊥) → begin len feed ≡ Err k
     unfolding begin
     begin-refused zero f d = absurd (d refl)
     begin-refused (suc k) f d = rw (e, f)
 
-    pub begin_open : open_number (take settings_length feed) len ≡ 0 → begin len feed ≡ case-front.Points n
+    pub begin_open : open_number (take settings_length feed) len ≡ 0 → begin len feed ≡ Ok n
     unfolding begin
     begin_open f = rw (e, f)
+
+-- a refusal's number is not 0
+pub refused-some : (r : Refusal) → refusal_number r ≡ 0 → ⊥
+refused-some refusal.Settings e = omega (arith, e)
+refused-some refusal.Schedule e = omega (arith, e)
+refused-some refusal.Record e = omega (arith, e)
+refused-some refusal.Domain e = omega (arith, e)
+refused-some refusal.Short e = omega (arith, e)
+refused-some refusal.Horizon e = omega (arith, e)
+refused-some refusal.Entries e = omega (arith, e)
+refused-some refusal.Mismatch e = omega (arith, e)
+refused-some refusal.Uncovered e = omega (arith, e)
+refused-some refusal.Book e = omega (arith, e)
+refused-some refusal.Kept e = omega (arith, e)
+refused-some refusal.Full e = omega (arith, e)
 
 -- a book that is not opened is as it was
 pub unopened : (settings s : List ℕ) → (open_number settings (length s) ≡ 0 → ⊥) → open_bytes settings s ≡ s
@@ -166,15 +182,15 @@ unopened settings s d = go (open_number settings (length s)) d
 
 -- ---- the next point
 
-size_in : (s : List ℕ) (o : Option ℕ) → record_end s ≡ o → Option.get_or o (length s) ≤ length s
-size_in s none e = omega arith
-size_in s (some n) e = end-within s n e
+size_in : (s : List ℕ) (o : Option ℕ) → record_end s ≡ o → unwrap_or o (length s) ≤ length s
+size_in s None e = omega arith
+size_in s (Some n) e = end-within s n e
 
 pub size-inside : (s : List ℕ) → record_size s ≤ length s
 unfolding record_size
 size-inside s = size_in s (record_end s) refl
 
-pub size_of : (s : List ℕ) (o : Option ℕ) → record_end s ≡ o → record_size s ≡ Option.get_or o (length s)
+pub size_of : (s : List ℕ) (o : Option ℕ) → record_end s ≡ o → record_size s ≡ unwrap_or o (length s)
 unfolding record_size
 size_of s o e = rw e
 
@@ -198,8 +214,8 @@ module _ (book peers : List ℕ) (len : ℕ) where
   gives-over t e = rw e (refl, (refl, (refl, tt)))
 
   module _ (t : Step) (place n : ℕ) (r : Result (List ℕ)) (a : JudgeAnswer) (b p : List ℕ) (f : a ≡ r.answer) (g : b ≡ r.after) (h : p ≡ r.peers) where
-    pub gives-last : (l : Line) → t ≡ offered_as place (suc n) r none → l ≡ line_of place 0 a → Gives book peers len t (case-next.Last l) b p
+    pub gives-last : (l : Line) → t ≡ offered_as place (suc n) r None → l ≡ line_of place 0 a → Gives book peers len t (case-next.Last l) b p
     gives-last l e d = rw (e, d, f) (refl, (g, (h, tt)))
 
-    pub gives-point : (i : PointInfo) (l : Line) → t ≡ offered_as place (suc n) r (some i) → l ≡ line_of place i.id.round a → n < len → Gives book peers len t (case-next.Point l (n + 1)) b p
+    pub gives-point : (i : PointInfo) (l : Line) → t ≡ offered_as place (suc n) r (Some i) → l ≡ line_of place i.id.round a → n < len → Gives book peers len t (case-next.Point l (n + 1)) b p
     gives-point i l e d k = rw (e, d, f, add-one n) (refl, (g, (h, omega arith)))

@@ -1,7 +1,7 @@
 -- The numbers that a record which can't be read is given, in the table's order; and a number of a point changes no lent byte.
+use Rattle.std.specs.Prelude.{Option, None, Some}
 use Prim.Native.Nat.{ℕ, suc}
 use mathlib.Core.Path.{◌≡◌, refl}
-use mathlib.Core.Option.{Option, none, some}
 use mathlib.Core.List.{List, [], ◌∷◌}
 use lib.ListN.{take}
 use Rattle.point.specs.Point.{PointInfo}
@@ -18,19 +18,19 @@ use Rattle.tally_feed.specs.Tally.{record_size, Step, over, last, point, offered
 
 -- 10 if the book can't be read, else 2 if the schedule can't, else 3
 abbrev pub unread_number : Option Opened → Option Schedule → ℕ
-unread_number none x = 10
-unread_number (some z) none = 2
-unread_number (some z) (some d) = 3
+unread_number None x = 10
+unread_number (Some z) None = 2
+unread_number (Some z) (Some d) = 3
 
-module _ (schedule book peers : List ℕ) (leader : ℕ) (s : List ℕ) (p : read_point s ≡ none) where
-  offer-number : (z : Opened) (x : Option Schedule) → read_schedule schedule ≡ x → (offer z (offer_of schedule leader s peers)).answer ≡ Number (unread_number (some z) x)
+module _ (schedule book peers : List ℕ) (leader : ℕ) (s : List ℕ) (p : read_point s ≡ None) where
+  offer-number : (z : Opened) (x : Option Schedule) → read_schedule schedule ≡ x → (offer z (offer_of schedule leader s peers)).answer ≡ Number (unread_number (Some z) x)
   unfolding offer offer_tested offer_with
-  offer-number z none e = rw e
-  offer-number z (some d) e = rw (e, p)
+  offer-number z None e = rw e
+  offer-number z (Some d) e = rw (e, p)
 
   to_number : (z : Option Opened) → (offer_to book (offer_of schedule leader s peers) z).answer ≡ Number (unread_number z (read_schedule schedule))
-  to_number none = refl
-  to_number (some z) = offer-number z (read_schedule schedule) refl
+  to_number None = refl
+  to_number (Some z) = offer-number z (read_schedule schedule) refl
 
   pub unread-number : (offer_bytes book (offer_of schedule leader s peers)).answer ≡ Number (unread_number (read_book book) (read_schedule schedule))
   unfolding offer_bytes
@@ -51,5 +51,5 @@ step-unchanged schedule book peers place [] w = tt
 step-unchanged schedule book peers place (x ∷ s) w = go (read_point (take (record_size s) s))
   where
     go : (p : Option PointInfo) → Unchanged book peers (offered_as place (suc (record_size s)) (offer_bytes book (offer_of schedule x (take (record_size s) s) peers)) p)
-    go none = λ n h. unchanged (offer_of schedule x (take (record_size s) s) peers) n book w h
-    go (some p) = λ n h. unchanged (offer_of schedule x (take (record_size s) s) peers) n book w h
+    go None = λ n h. unchanged (offer_of schedule x (take (record_size s) s) peers) n book w h
+    go (Some p) = λ n h. unchanged (offer_of schedule x (take (record_size s) s) peers) n book w h

@@ -1,9 +1,7 @@
 -- What the code's values stand for, and what its functions promise each other.
-use Rattle.std.specs.Prelude.{ℕ, ◌≤◌, List, length}
+use Rattle.std.specs.Prelude.{ℕ, ◌≤◌, List, length, Ok, Err}
 use Rattle.parts.specs.Limits.{settings_length}
-use Rattle.tally_feed.specs.Tally.{Step, over, last, point}
-use Rattle.tally_feed.specs.declared.front.Front as code-front
-use Rattle.tally_feed.specs.declared.front.Front.TheVariants as case-front
+use Rattle.tally_feed.specs.Tally.{Front, Step, over, last, point}
 use Rattle.tally_feed.specs.declared.next.Next as code-next
 use Rattle.tally_feed.specs.declared.next.Next.TheVariants as case-next
 
@@ -24,9 +22,9 @@ peers_after peers (last l r) = r.peers
 peers_after peers (point l size r) = r.peers
 
 -- the points begin within a feed, after a schedule of at most 32,675 bytes
-abbrev pub Begins : List ℕ → code-front.Front → Type 0
-Begins feed (case-front.Number n) = Unit
-Begins feed (case-front.Points n) = (settings_length ≤ n) × (n ≤ length feed) × (n ≤ 32722)
+abbrev pub Begins : List ℕ → Front → Type 0
+Begins feed (Err n) = Unit
+Begins feed (Ok n) = (settings_length ≤ n) × (n ≤ length feed) × (n ≤ 32722)
 
 -- a point ends within a feed
 abbrev pub Within : ℕ → code-next.Next → Type 0

@@ -1,12 +1,10 @@
 -- What the calls give one after the other, each what its contract says, with a part of the feed at hand.
-use Rattle.std.specs.Prelude.{ℕ, zero, suc, List, [], ◌∷◌, take, drop, replicate}
+use Rattle.std.specs.Prelude.{ℕ, zero, suc, List, [], ◌∷◌, take, drop, replicate, Ok, Err}
 use Rattle.parts.specs.Limits.{settings_length, peers_room}
 use Rattle.books.specs.Calls.{open_bytes}
-use Rattle.tally_feed.specs.declared.front.Front as code-front
-use Rattle.tally_feed.specs.declared.front.Front.TheVariants as case-front
 use Rattle.tally_feed.specs.declared.next.Next as code-next
 use Rattle.tally_feed.specs.declared.next.Next.TheVariants as case-next
-use Rattle.tally_feed.specs.Tally.{tally_room, refused_line, begin, begun_book, Step, step, Tally, line_then}
+use Rattle.tally_feed.specs.Tally.{tally_room, refused_line, Front, begin, begun_book, Step, step, Tally, line_then}
 use Rattle.tally_feed.specs.Code.{next_of, book_after, peers_after}
 
 -- a call of `next_point` gave this and left the book and the peer buffer so: the program ends, or goes on after its line and point
@@ -27,11 +25,11 @@ printed_from (suc n) held schedule place book peers feed =
     turn (λ b p f. printed_from n held schedule (suc place) b p f) book peers feed (step schedule book peers place (take (held place) feed))
 
 -- a call of `begin` gave this of the part at hand and left the book so
-abbrev pub front_then : ℕ → (ℕ → ℕ) → List ℕ → List ℕ → List ℕ → List ℕ → code-front.Front → Tally
-front_then turns held part feed book peers (case-front.Number n) = record { lines = refused_line 0 0 n ∷ []; book = book }
-front_then turns held part feed book peers (case-front.Points n) = printed_from turns held (drop settings_length (take n part)) 1 book peers (drop n feed)
+abbrev pub front_then : ℕ → (ℕ → ℕ) → List ℕ → List ℕ → List ℕ → List ℕ → Front → Tally
+front_then turns held part feed book peers (Err n) = record { lines = refused_line 0 0 n ∷ []; book = book }
+front_then turns held part feed book peers (Ok n) = printed_from turns held (drop settings_length (take n part)) 1 book peers (drop n feed)
 
-abbrev pub begun_then : ℕ → (ℕ → ℕ) → List ℕ → List ℕ → List ℕ → List ℕ → code-front.Front → Tally
+abbrev pub begun_then : ℕ → (ℕ → ℕ) → List ℕ → List ℕ → List ℕ → List ℕ → Front → Tally
 begun_then turns held part feed book peers front = front_then turns held part feed (begun_book (take settings_length part) book front) peers front
 
 -- the lines and the book that is left, of a feed whose first `room` bytes are at hand at first

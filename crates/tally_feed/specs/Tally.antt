@@ -1,9 +1,9 @@
 -- The program tally (document 01, "Printing and calling"): "reads settings, schedule, then leader byte and record per point from
 -- standard input into a book of 65,536 bytes". A feed is all bytes of its standard input.
-use Rattle.std.specs.Prelude.{ℕ, zero, suc, ◌+◌, List, [], ◌∷◌, length, take, drop, replicate}
-use Rattle.std.proofs.Math.Option.{Option, none, some, map, get_or}
+use Rattle.std.specs.Prelude.{ℕ, zero, suc, ◌+◌, List, [], ◌∷◌, length, take, drop, replicate, Option, None, Some, option_map, unwrap_or, is_some, Ok, Err}
+use Rattle.std.specs.Prelude as std
 use Rattle.parts.specs.Limits.{settings_length, peers_room}
-use Rattle.base.specs.Base.{pick, is_some}
+use Rattle.base.specs.Base.{pick}
 use Rattle.record.specs.Record.{field_row, field_ok, next_at, end_from, record_end}
 use Rattle.point.specs.Point.{PointInfo}
 use Rattle.point.specs.Reading.{read_point}
@@ -17,8 +17,6 @@ use Rattle.books.specs.Layout.{read_book}
 use Rattle.books.specs.Offer.{Result}
 use Rattle.books.specs.Calls.{open_number, open_bytes, offer_bytes}
 use Rattle.tally_line.specs.declared.Line.{Line}
-use Rattle.tally_feed.specs.declared.front.Front as code-front
-use Rattle.tally_feed.specs.declared.front.Front.TheVariants as case-front
 
 -- ---- a line: "place, round, verdict letter (F, L ill-formed, I, T, V, or -), reason number (0 if none), refusal number"
 
@@ -56,40 +54,44 @@ unfoldable pub schedule_end : List ℕ → Option ℕ
 unfolding schedule_end_from
 schedule_end s = schedule_end_from 4 s 0
 
-abbrev pub schedule_to : List ℕ → Option ℕ → code-front.Front
-schedule_to s none = case-front.Number 2
-schedule_to s (some n) = pick (is_some (read_schedule (take n s))) (case-front.Points (settings_length + n)) (case-front.Number 2)
+-- where the points begin, or a number in their place
+abbrev pub Front : Type 0
+Front = std.Result ℕ ℕ
 
-abbrev pub front_with : List ℕ → Option Settings → code-front.Front
-front_with s none = case-front.Number 1
-front_with s (some c) = schedule_to s (schedule_end s)
+abbrev pub schedule_to : List ℕ → Option ℕ → Front
+schedule_to s None = Err 2
+schedule_to s (Some n) = pick (is_some (read_schedule (take n s))) (Ok (settings_length + n)) (Err 2)
+
+abbrev pub front_with : List ℕ → Option Settings → Front
+front_with s None = Err 1
+front_with s (Some c) = schedule_to s (schedule_end s)
 
 -- the number of settings or a schedule that can't be read, or where the points begin
-unfoldable pub front_of : List ℕ → code-front.Front
+unfoldable pub front_of : List ℕ → Front
 unfolding read_settings schedule_end read_schedule
 front_of feed = front_with (drop settings_length feed) (read_settings (take settings_length feed))
 
-abbrev pub opened_with : code-front.Front → ℕ → code-front.Front
-opened_with (case-front.Number n) number = case-front.Number n
-opened_with (case-front.Points n) zero = case-front.Points n
-opened_with (case-front.Points n) (suc k) = case-front.Number (suc k)
+abbrev pub opened_with : Front → ℕ → Front
+opened_with (Err n) number = Err n
+opened_with (Ok n) zero = Ok n
+opened_with (Ok n) (suc k) = Err (suc k)
 
 -- what a feed begins with, for a book of len bytes: 1, 2, and last the 5 of opening the book, or where the points begin
-unfoldable pub begin : ℕ → List ℕ → code-front.Front
+unfoldable pub begin : ℕ → List ℕ → Front
 unfolding front_of open_number
 begin len feed = opened_with (front_of feed) (open_number (take settings_length feed) len)
 
 -- the book: "A number comes without a verdict, with all lent bytes unchanged"
-abbrev pub begun_book : List ℕ → List ℕ → code-front.Front → List ℕ
-begun_book settings book (case-front.Number n) = book
-begun_book settings book (case-front.Points n) = open_bytes settings book
+abbrev pub begun_book : List ℕ → List ℕ → Front → List ℕ
+begun_book settings book (Err n) = book
+begun_book settings book (Ok n) = open_bytes settings book
 
 -- ---- one point
 
 -- how many bytes the record at the front of a slice takes: all of them where none ends there
 unfoldable pub record_size : List ℕ → ℕ
 unfolding record_end
-record_size s = get_or (record_end s) (length s)
+record_size s = unwrap_or (record_end s) (length s)
 
 -- what comes next in a feed: nothing; the line of a record that can't be read; or a point's line and how many bytes the point takes;
 -- with what the offer left
@@ -100,8 +102,8 @@ pub data Step : Type 0 where
 
 -- "An unreadable record prints round 0 and ends the reading": it is offered as it stands, and the number is the offer's
 abbrev pub offered_as : ℕ → ℕ → Result (List ℕ) → Option PointInfo → Step
-offered_as place size r none = last (line_of place 0 r.answer) r
-offered_as place size r (some p) = point (line_of place p.id.round r.answer) size r
+offered_as place size r None = last (line_of place 0 r.answer) r
+offered_as place size r (Some p) = point (line_of place p.id.round r.answer) size r
 
 abbrev pub offered : List ℕ → List ℕ → List ℕ → ℕ → ℕ → ℕ → List ℕ → Step
 offered schedule book peers place leader size bytes =
@@ -141,11 +143,11 @@ unfolding points_from
 points schedule book peers place feed = points_from (length feed) schedule book peers place feed
 
 -- "Unreadable settings or schedule give place and round 0 with number 1 or 2"; a place counts from 1
-abbrev pub tally_with : List ℕ → List ℕ → List ℕ → code-front.Front → Tally
-tally_with book peers feed (case-front.Number n) = record { lines = refused_line 0 0 n ∷ []; book = book }
-tally_with book peers feed (case-front.Points n) = points (drop settings_length (take n feed)) book peers 1 (drop n feed)
+abbrev pub tally_with : List ℕ → List ℕ → List ℕ → Front → Tally
+tally_with book peers feed (Err n) = record { lines = refused_line 0 0 n ∷ []; book = book }
+tally_with book peers feed (Ok n) = points (drop settings_length (take n feed)) book peers 1 (drop n feed)
 
-abbrev pub tally_from : List ℕ → List ℕ → List ℕ → code-front.Front → Tally
+abbrev pub tally_from : List ℕ → List ℕ → List ℕ → Front → Tally
 tally_from book peers feed front = tally_with (begun_book (take settings_length feed) book front) peers feed front
 
 -- "into a book of 65,536 bytes"
@@ -162,4 +164,4 @@ tally feed = tally_from (replicate tally_room 0) (replicate peers_room 0) feed (
 -- "then `end` and the kept count"
 unfoldable pub kept_in : List ℕ → ℕ
 unfolding read_book
-kept_in s = get_or (map (λ z. length z.book) (read_book s)) 0
+kept_in s = unwrap_or (option_map (λ z. length z.book) (read_book s)) 0

@@ -1,11 +1,11 @@
 // The line that an answer gives.
 ghost use Rattle.std.specs.Prelude.{◌≡◌};
 ghost use Rattle.reasons.specs.Code.{verdict_of};
+ghost use Rattle.reasons.specs.Refusal.{refusal_number};
 ghost use Rattle.judge.specs.Code.{judge_answer_of};
 ghost use Rattle.tally_feed.specs.Tally.{verdict_line, line_of, refused_line};
 
-use judge::JudgeAnswer;
-use reasons::Verdict;
+use reasons::{Refusal, Verdict};
 use tally_line::Line;
 
 fn of_verdict(place: u64, round: u32, v: Verdict) -> Line
@@ -33,23 +33,23 @@ fn judged(place: u64, round: u32, letter: u8, reason: u8) -> Line
 }
 
 // The line of a point that was refused.
-pub fn refused(place: u64, round: u32, number: u8) -> Line
-    ensures { result ≡ refused_line place round number }
+pub fn refused(place: u64, round: u32, refusal: Refusal) -> Line
+    ensures { result ≡ refused_line place round (refusal_number refusal) }
 {
     Line {
         place,
         round,
         letter: b'-',
         reason: 0,
-        number,
+        number: refusal.number(),
     }
 }
 
-pub fn line_of(place: u64, round: u32, answer: JudgeAnswer) -> Line
+pub fn line_of(place: u64, round: u32, answer: Result<Verdict, Refusal>) -> Line
     ensures { result ≡ line_of place round (judge_answer_of answer) }
 {
     match answer {
-        JudgeAnswer::Number(n) => refused(place, round, n),
-        JudgeAnswer::Verdict(v) => of_verdict(place, round, v),
+        Err(refusal) => refused(place, round, refusal),
+        Ok(v) => of_verdict(place, round, v),
     }
 }

@@ -6,5 +6,5 @@ mod front;
 mod next;
 
 pub use answers::refused;
-pub use front::{Front, begin};
+pub use front::begin;
 pub use next::{Next, kept, next_point};

@@ -4,9 +4,6 @@ ghost use Rattle.tally_feed.specs.Tally.{record_size, step, kept_in};
 ghost use Rattle.tally_feed.specs.Code.{next_of, book_after, peers_after, Within};
 
 use crate::answers;
-use book_read::ReadBook;
-use point::ReadPoint;
-use record::End;
 use tally_line::Line;
 
 // What comes next: nothing, the line of a record that can't be read, or a line and how many bytes its point takes.
@@ -22,11 +19,7 @@ fn record_size(s: &[u8]) -> usize
     ensures same { result ≡ record_size s.now }
     ensures within { result ≤ length s.now }
 {
-    let end = record::record_end(s);
-    match end {
-        End::At(n) => n,
-        End::Unreadable => s.len(),
-    }
+    record::record_end(s).unwrap_or(s.len())
 }
 
 // Offers the next point of a feed to a book. Its line has the place that the caller counted.
@@ -49,17 +42,13 @@ pub fn next_point(
     }
     let size = record_size(&feed[1..]) + 1;
     let rec = &feed[1..size];
-    let read = point::read_point(rec);
     let answer = book::offer(book, schedule, feed[0], rec, peers);
-    match read {
-        ReadPoint::Point(info) => {
-            let id = info.id;
-            Next::Point {
-                line: answers::line_of(place, id.round, answer),
-                size,
-            }
-        }
-        ReadPoint::Unreadable => Next::Last(answers::line_of(place, 0, answer)),
+    match point::read_point(rec) {
+        Some(info) => Next::Point {
+            line: answers::line_of(place, info.id.round, answer),
+            size,
+        },
+        None => Next::Last(answers::line_of(place, 0, answer)),
     }
 }
 
@@ -68,9 +57,8 @@ pub fn kept(book: &[u8]) -> usize
     ensures { result ≡ kept_in book.now }
 {
     let mut index = [0u16; id_index::LENGTH];
-    let read = book_read::read_book(book, &mut index);
-    match read {
-        ReadBook::Book(_, _) => id_index::count(&index),
-        ReadBook::Unreadable => 0,
+    match book_read::read_book(book, &mut index) {
+        Some(_) => id_index::count(&index),
+        None => 0,
     }
 }

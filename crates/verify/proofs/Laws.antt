@@ -1,36 +1,41 @@
--- Laws of verification: which faults tell of unknown peers, and the numbers in place of a verdict, in their order.
-use Prim.Native.Nat.{ℕ, ◌≤◌, ◌<◌}
-use mathlib.Core.Path.{◌≡◌, refl, ap, sym, ◌∙◌}
+-- Laws of verification: which faults tell of unknown peers, and the first fault of a point.
+use Rattle.std.specs.Prelude.{Option, None, Some, Err, Ok, Result}
+use Rattle.std.specs.Option.{option_or}
+use Rattle.std.specs.Result.{result_err}
+use Prim.Native.Nat.{ℕ}
+use mathlib.Core.Path.{◌≡◌, refl, sym, ◌∙◌}
 use mathlib.Core.Bool.{Bool, true, false, not, ◌&&◌, ◌||◌, and-true, or-true, or-false}
-use mathlib.Core.Option.{Option, none, some}
 use mathlib.Core.List.{List, [], ◌∷◌, ◌++◌}
 use lib.Dec.{ltb, eqb}
-use borrow.Author.Tests.{lt-ltb, le-ltb, not-true, not-false}
+use borrow.Author.Tests.{not-true}
 use Rattle.base.specs.Base.{pick, when, concat, first_of}
 use Rattle.base.proofs.Bool.{and_left, and_right}
-use Rattle.point.specs.Point.{PointInfo, Sticky, in_domain}
-use Rattle.point.specs.Reading.{read_point}
-use Rattle.schedule.specs.Settings.{Settings, read_settings}
-use Rattle.schedule.specs.Schedule.{Schedule, read_schedule}
-use Rattle.schedule.specs.Code.{schedule_of, read_schedule_of}
-use Rattle.schedule.specs.declared.schedule.ReadSchedule.{ReadSchedule}
+use Rattle.base.proofs.Firsts.{three_rows}
+use Rattle.point.specs.Point.{PointInfo, Sticky}
+use Rattle.schedule.specs.Settings.{Settings}
+use Rattle.schedule.specs.Schedule.{Schedule}
+use Rattle.reasons.specs.IllFormed.{error_answer}
 use Rattle.reasons.specs.declared.ill_formed.StructureIssue.{StructureIssue}
 use Rattle.reasons.specs.declared.ill_formed.VerifyError.{VerifyError}
-use Rattle.reasons.specs.declared.ill_formed.Verified.{Verified}
-use Rattle.reasons.specs.declared.ill_formed.Verified.TheVariants.{Passed, Failed}
-use Rattle.rules.specs.Verify.{Scheduled, scheduled, verify, vset_row, new_rows, structure, genesis_rows, sticky_fault, above_rows, well_formed_rows, buffer_with}
-use Rattle.reasons.specs.Code.{verified_of}
-use Rattle.rules.specs.Judge.{verified_from, Input, Tested, refused, admitted, tested, verify_with, verify_buffer}
-use Rattle.verify_peers.proofs.Laws.{Told, tells_of, buffer_kept}
-use Rattle.reasons.specs.declared.ill_formed.VerifyAnswer.{VerifyAnswer}
-use Rattle.reasons.specs.declared.ill_formed.VerifyAnswer.TheVariants.{Number, Verdict}
+use Rattle.rules.specs.Verify.{Scheduled, scheduled, verify, faults, vset_row, new_rows, structure, genesis_rows, sticky_fault, above_rows, well_formed_rows, peer_rows, buffer_with}
+use Rattle.rules.specs.Judge.{verified_from}
 
 -- ---- faults that tell of no unknown peers
+
+-- whether a fault tells of unknown peers
+abbrev tells_of : Option VerifyError → Bool
+tells_of None = false
+tells_of (Some e) = eqb (error_answer e).reason 12
+
+-- one that doesn't leaves the buffer as it was
+buffer_kept : (k : Scheduled) (p : PointInfo) (e : Option VerifyError) (old : List ℕ) → tells_of e ≡ false → buffer_with k p e old ≡ old
+buffer_kept k p None old h = refl
+buffer_kept k p (Some e) old h = rw h
 
 -- whether no fault of a list, or of a table, tells of unknown peers
 unfoldable silent : List VerifyError → Bool
 silent [] = true
-silent (x ∷ l) = not (tells_of (some x)) && silent l
+silent (x ∷ l) = not (tells_of (Some x)) && silent l
 
 unfoldable all_silent : List (List VerifyError) → Bool
 unfolding silent
@@ -41,7 +46,7 @@ silent-append : (a b : List VerifyError) → silent a ≡ true → silent b ≡ 
 unfolding silent
 silent-append [] b s t = t
 silent-append (x ∷ a) b s t =
-    rw (and_left (not (tells_of (some x))) (silent a) s) (silent-append a b (and_right (not (tells_of (some x))) (silent a) s) t)
+    rw (and_left (not (tells_of (Some x))) (silent a) s) (silent-append a b (and_right (not (tells_of (Some x))) (silent a) s) t)
 
 silent-concat : (l : List (List VerifyError)) → all_silent l ≡ true → silent (concat l) ≡ true
 unfolding concat silent all_silent
@@ -51,12 +56,12 @@ silent-concat (r ∷ l) s = silent-append r (concat l) (and_left (silent r) (all
 silent-first : (l : List VerifyError) → silent l ≡ true → tells_of (first_of l) ≡ false
 unfolding first_of silent
 silent-first [] s = refl
-silent-first (x ∷ l) s = not-true (tells_of (some x)) (and_left (not (tells_of (some x))) (silent l) s)
+silent-first (x ∷ l) s = not-true (tells_of (Some x)) (and_left (not (tells_of (Some x))) (silent l) s)
 
-silent_iff : (b : Bool) (x : VerifyError) → silent (when b x) ≡ (not (tells_of (some x)) || not b)
+silent_iff : (b : Bool) (x : VerifyError) → silent (when b x) ≡ (not (tells_of (Some x)) || not b)
 unfolding silent
-silent_iff false x = sym (or-true (not (tells_of (some x))))
-silent_iff true x = let b = not (tells_of (some x)) in and-true b ∙ sym (or-false b)
+silent_iff false x = sym (or-true (not (tells_of (Some x))))
+silent_iff true x = let b = not (tells_of (Some x)) in and-true b ∙ sym (or-false b)
 
 silent-pick : (b : Bool) (x y : List VerifyError) → silent (pick b x y) ≡ pick b (silent x) (silent y)
 silent-pick true x y = refl
@@ -72,26 +77,17 @@ pick-both false = refl
 
 silent-structure : (o : Option StructureIssue) → silent (structure o) ≡ true
 unfolding silent
-silent-structure none = refl
-silent-structure (some i) = refl
+silent-structure None = refl
+silent-structure (Some i) = refl
 
 silent_sticky : (c : Settings) (o : Option Sticky) → silent (sticky_fault c o) ≡ true
 unfolding silent sticky_fault
-silent_sticky c none = refl
-silent_sticky c (some k) = simp (silent-pick, silent_iff) (pick-both (ltb c.sticky_anchors k.seq_no))
+silent_sticky c None = refl
+silent_sticky c (Some k) = simp (silent-pick, silent_iff) (pick-both (ltb c.sticky_anchors k.seq_no))
 
--- an answer of such rows leaves the buffer as it was
-told-silent : (k : Scheduled) (p : PointInfo) (rows : List (List VerifyError)) (e : Option VerifyError) (old : List ℕ) → all_silent rows ≡ true →
-    e ≡ first_of (concat rows) → Told k p rows e old old
-told-silent k p rows e old s h = (h, sym (buffer_kept k p e old (ap tells_of h ∙ silent-first (concat rows) (silent-concat rows s))))
-
-module _ (c : Settings) (s : Schedule) (p : PointInfo) where
-  silent-new : all_silent (new_rows c s p) ≡ true
-  unfolding all_silent new_rows vset_row
-  silent-new = simp silent_iff
-
-  pub told-new : (k : Scheduled) (e : Option VerifyError) (old : List ℕ) → e ≡ first_of (concat (new_rows c s p)) → Told k p (new_rows c s p) e old old
-  told-new k e old h = told-silent k p (new_rows c s p) e old silent-new h
+-- the first of such rows leaves the buffer as it was
+quiet : (k : Scheduled) (p : PointInfo) (rows : List (List VerifyError)) (old : List ℕ) → all_silent rows ≡ true → buffer_with k p (first_of (concat rows)) old ≡ old
+quiet k p rows old s = buffer_kept k p (first_of (concat rows)) old (silent-first (concat rows) (silent-concat rows s))
 
 module _ (c : Settings) (p : PointInfo) where
   silent-genesis : all_silent (genesis_rows c p) ≡ true
@@ -106,65 +102,27 @@ module _ (c : Settings) (p : PointInfo) where
   unfolding well_formed_rows
   silent_well_formed = rw (all-pick, silent-genesis, silent-above) (pick-both (eqb p.id.round c.genesis_round))
 
-  pub told_well_formed : (k : Scheduled) (e : Option VerifyError) (old : List ℕ) → e ≡ first_of (concat (well_formed_rows c p)) →
-      Told k p (well_formed_rows c p) e old old
-  told_well_formed k e old h = told-silent k p (well_formed_rows c p) e old silent_well_formed h
+  pub quiet_well_formed : (k : Scheduled) (old : List ℕ) → buffer_with k p (first_of (concat (well_formed_rows c p))) old ≡ old
+  quiet_well_formed k old = quiet k p (well_formed_rows c p) old silent_well_formed
 
--- ---- a schedule that was read, and one that was not
+module _ (c : Settings) (s : Schedule) (p : PointInfo) where
+  silent-new : all_silent (new_rows c s p) ≡ true
+  unfolding all_silent new_rows vset_row
+  silent-new = simp silent_iff
 
-module _ (s : List ℕ) (r : ReadSchedule) (e : read_schedule_of s r ≡ read_schedule s) where
-  pub schedule-read : not r.readable ≡ false → read_schedule s ≡ some (schedule_of s r.schedule)
-  schedule-read h = sym e ∙ rw (not-false r.readable h)
+  pub quiet_new : (k : Scheduled) (old : List ℕ) → buffer_with k p (first_of (concat (new_rows c s p))) old ≡ old
+  quiet_new k old = quiet k p (new_rows c s p) old silent-new
 
-  pub schedule-unread : not r.readable ≡ true → read_schedule s ≡ none
-  schedule-unread h = sym e ∙ rw (not-true r.readable h)
+  -- the first fault is that of `new`, else of the form, else of the peers
+  pub verify_first : verify c s p ≡
+      option_or (first_of (concat (new_rows c s p))) (option_or (first_of (concat (well_formed_rows c p))) (first_of (concat (peer_rows c (scheduled c s p) p))))
+  unfolding verify faults
+  verify_first = three_rows (concat (new_rows c s p)) (concat (well_formed_rows c p)) (concat (peer_rows c (scheduled c s p) p))
 
--- ---- the numbers
+pub ruleset verify_facts = (verify_first, quiet_new, quiet_well_formed)
 
-module _ (settings schedule rec : List ℕ) (others : Bool) (size : ℕ) where
-  pub no_settings : read_settings settings ≡ none → tested settings schedule rec others size ≡ refused 1
-  unfolding tested
-  no_settings h = rw h
+-- ---- the call's answer, from the first fault
 
-  module _ (c : Settings) (h : read_settings settings ≡ some c) where
-    pub no_schedule : read_schedule schedule ≡ none → tested settings schedule rec others size ≡ refused 2
-    unfolding tested
-    no_schedule g = rw (h, g)
-
-    module _ (s : Schedule) (g : read_schedule schedule ≡ some s) where
-      pub no_point_lem : read_point rec ≡ none → tested settings schedule rec others size ≡ refused 3
-      unfolding tested
-      no_point_lem f = rw (h, g, f)
-
-      module _ (p : PointInfo) (f : read_point rec ≡ some p) where
-        pub no_domain : (in_domain p && others) ≡ false → tested settings schedule rec others size ≡ refused 4
-        unfolding tested
-        no_domain d = rw (h, g, f) (rw d)
-
-        module _ (d : (in_domain p && others) ≡ true) where
-          pub no_room : size < 8160 → tested settings schedule rec others size ≡ refused 5
-          unfolding tested
-          no_room r = rw (h, g, f) (rw (d, lt-ltb size 8160 r))
-
-          pub all-taken : 8160 ≤ size → tested settings schedule rec others size ≡ admitted (record { settings = c; schedule = s; point = p })
-          unfolding tested
-          all-taken r = rw (h, g, f) (rw (d, le-ltb size 8160 r))
-
--- ---- the call's answer and the buffer, from what its input was tested for
-
--- the answer stands for what was found, and the buffer holds what it should
-abbrev pub Answered : Tested → VerifyAnswer → List ℕ → List ℕ → Type 0
-Answered t a old new = (a ≡ verify_with t) × (new ≡ verify_buffer t old)
-
-pub answer-number : (t : Tested) (n : ℕ) (old : List ℕ) → t ≡ refused n → Answered t (Number n) old old
-answer-number t n old h = rw h (refl, refl)
-
-verified-back : (r : Verified) → r ≡ verified_from (verified_of r)
-verified-back Passed = refl
-verified-back (Failed e) = refl
-
-pub answer-verdict : (t : Tested) (i : Input) (r : Verified) (old new : List ℕ) → t ≡ admitted i →
-    verified_of r ≡ verify i.settings i.schedule i.point →
-    new ≡ buffer_with (scheduled i.settings i.schedule i.point) i.point (verified_of r) old →
-    Answered t (Verdict r) old new
-answer-verdict t i r old new h e b = rw h (ap Verdict (verified-back r ∙ ap verified_from e), rw (← e) b)
+pub verified_back : (r : Result Unit VerifyError) → verified_from (result_err r) ≡ r
+verified_back (Ok tt) = refl
+verified_back (Err e) = refl

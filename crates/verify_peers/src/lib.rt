@@ -1,22 +1,25 @@
 // check_peers: the peers of the maps are scheduled, and there are enough of them.
 #![tactic(auto)]
 
-ghost use Rattle.std.specs.Prelude.{◌≡◌, true, ◌≤◌, length};
-ghost use Rattle.std.proofs.Math.Option.{some};
-ghost use Rattle.base.specs.Base.{concat, first_of};
+ghost use Rattle.std.specs.Prelude.{◌≡◌, true, ◌≤◌, ltb, length, Some};
+ghost use Rattle.std.specs.Result.{result_err};
+ghost use Rattle.base.specs.Base.{when, concat, first_of};
 ghost use Rattle.parts.specs.Parts.{one_f};
 ghost use Rattle.parts.specs.Limits.{peers_room};
 ghost use Rattle.map.specs.Rows.{peers_of, rising};
 ghost use Rattle.point.specs.Code.{point_of, Reads};
 ghost use Rattle.schedule.specs.Code.{settings_of, schedule_of};
-ghost use Rattle.schedule.specs.Schedule.{read_schedule};
-ghost use Rattle.rules.specs.Verify.{Scheduled, includes_round, evidence_rows, includes_rows, witness_rows, buffer_with};
-ghost use Rattle.reasons.specs.Code.{verified_of};
-ghost use Rattle.verify_peers.specs.Code.{PeersChecked, BufferAfter};
+ghost use Rattle.schedule.specs.Schedule.{read_schedule, peers_for};
+ghost use Rattle.parts.specs.Bytes.{put_at};
+ghost use Rattle.rules.specs.Unknown.{unknown_in, peer_bytes};
+ghost use Rattle.reasons.specs.declared.ill_formed.IllFormedReason.TheVariants.{LackOfPeers};
+ghost use Rattle.reasons.specs.declared.ill_formed.VerifyError.TheVariants.{IllFormed};
+ghost use Rattle.rules.specs.Verify.{unknown_row, includes_round, evidence_rows, includes_rows, witness_rows};
+ghost use Rattle.verify_peers.specs.Code.{scheduled_by, PeersChecked, BufferAfter};
 
 use parts::PeerCount;
 use point::{PointInfo, PointMap};
-use reasons::{IllFormedReason, Verified, VerifyError};
+use reasons::{IllFormedReason, VerifyError};
 use schedule::{Schedule, Settings};
 
 // F of a scheduled set: it has one peer at genesis.
@@ -27,120 +30,96 @@ fn one_f(total: usize) -> PeerCount
     PeerCount(((total + 1) / 3) as u8)
 }
 
-// Evidence, checked against the peers of the point's own round.
+// The peers that are scheduled at a round: schedule::peers_for, with what a schedule that was read says of them.
+#[tactic(auto, using(schedule::proofs::Rounds::round_facts))]
+fn scheduled_at(schedule: &[u8], spans: Schedule, round: u32) -> &[u8]
+    requires { read_schedule schedule.now ≡ Some (schedule_of schedule.now spans) }
+    ensures same { peers_of 32 result.now ≡ peers_for (schedule_of schedule.now spans) round }
+    ensures rises { rising (peers_of 32 result.now) ≡ true }
+    ensures few { length (peers_of 32 result.now) ≤ 255 }
+{
+    schedule::peers_for(schedule, spans, round)
+}
+
+// The peers of a map that are not scheduled are a fault, and stand in the peer buffer.
+#[tactic(auto, using(crate::proofs::Laws::known_facts))]
+fn check_known(
+    rows: &[u8],
+    width: usize,
+    known: &[u8],
+    map: PointMap,
+    peers: &mut [u8],
+) -> Result<(), VerifyError>
+    requires le_width { 32 ≤ width }
+    requires rows_value { rising (peers_of width rows.now) ≡ true }
+    requires rows_len_bound { length (peers_of width rows.now) ≤ 255 }
+    requires known_value { rising (peers_of 32 known.now) ≡ true }
+    requires peers_room_in_bounds { peers_room ≤ length peers.old }
+    ensures checked { result_err result ≡ first_of
+        (unknown_row (unknown_in (peers_of 32 known.now) (peers_of width rows.now)) map) }
+    ensures buffer { peers.new ≡ put_at peers.old 0
+        (peer_bytes (unknown_in (peers_of 32 known.now) (peers_of width rows.now))) }
+{
+    let unknown = verify_unknown::unknown_peers(rows, width, known, peers);
+    if 0 < unknown {
+        let unknown = unknown as u8;
+        return Err(IllFormedReason::UnknownPeers { unknown, map }.into());
+    }
+    Ok(())
+}
+
+// Whether a map has the peers that it needs, where F is that of the scheduled ones.
+#[tactic(auto, using(base::proofs::Firsts::row_steps))]
+fn check_enough(
+    len: usize,
+    needed: usize,
+    total: PeerCount,
+    map: PointMap,
+) -> Result<(), VerifyError>
+    requires { len ≤ 255 }
+    ensures { result_err result ≡ first_of (when (ltb len needed) (IllFormed (LackOfPeers len total map))) }
+{
+    if len < needed {
+        let len = len as u8;
+        return Err(IllFormedReason::LackOfPeers { len, total, map }.into());
+    }
+    Ok(())
+}
+
+// Evidence, checked against the peers of the point's own round. The three maps have no function in common: each asks
+// something that the others don't.
+#[tactic(auto, unfolding(rules::specs::Verify::evidence_rows, rules::specs::Verify::scheduled), using(crate::proofs::Laws::peer_facts))]
 fn check_evidence_peers(
     conf: Settings,
+    schedule: &[u8],
+    spans: Schedule,
     rec: &[u8],
     info: PointInfo,
-    known: &[u8],
     peers: &mut [u8],
-) -> Verified
+) -> Result<(), VerifyError>
+    requires schedule_value { read_schedule schedule.now ≡ Some (schedule_of schedule.now spans) }
     requires reads { Reads rec.now info }
-    requires known_value { rising (peers_of 32 known.now) ≡ true }
-    requires known_len_bound { length (peers_of 32 known.now) ≤ 255 }
     requires peers_room_in_bounds { peers_room ≤ length peers.old }
-    ensures { (k : Scheduled) → k.same_round ≡ peers_of 32 known.now →
-        (verified_of result ≡ first_of (concat (evidence_rows (settings_of conf) k (point_of rec.now info))))
-        × (peers.new ≡ buffer_with k (point_of rec.now info) (verified_of result) peers.old) }
+    ensures checked { result_err result ≡ first_of
+        (concat (evidence_rows (settings_of conf) (scheduled_by conf schedule.now spans rec.now info) (point_of rec.now info))) }
+    ensures buffer { BufferAfter conf schedule.now spans rec.now info (result_err result) peers.old peers.new }
 {
-    let id = info.id;
     let evidence = point::evidence(rec, info);
     let len = map::count(evidence, 32);
     if len == 0 {
-        return Verified::Passed;
+        return Ok(());
     }
-    if id.round == conf.genesis_round {
-        let reason = IllFormedReason::MustBeEmpty(PointMap::Evidence);
-        return Verified::Failed(VerifyError::IllFormed(reason));
+    if info.id.round == conf.genesis_round {
+        return Err(IllFormedReason::MustBeEmpty(PointMap::Evidence).into());
     }
-    let unknown = verify_unknown::unknown_peers(evidence, 32, known, peers);
-    if 0 < unknown {
-        let reason = IllFormedReason::UnknownPeers {
-            unknown: unknown as u8,
-            map: PointMap::Evidence,
-        };
-        return Verified::Failed(VerifyError::IllFormed(reason));
-    }
+    let known = scheduled_at(schedule, spans, info.id.round);
+    check_known(evidence, 32, known, PointMap::Evidence, peers)?;
     let total = one_f(map::count(known, 32));
-    if len < total.majority_of_others() {
-        let reason = IllFormedReason::LackOfPeers {
-            len: len as u8,
-            total,
-            map: PointMap::Evidence,
-        };
-        return Verified::Failed(VerifyError::IllFormed(reason));
-    }
-    Verified::Passed
-}
-
-// Includes, checked against the peers of the round before, at genesis of the same round.
-fn check_includes_peers(rec: &[u8], info: PointInfo, known: &[u8], peers: &mut [u8]) -> Verified
-    requires reads { Reads rec.now info }
-    requires known_value { rising (peers_of 32 known.now) ≡ true }
-    requires known_len_bound { length (peers_of 32 known.now) ≤ 255 }
-    requires peers_room_in_bounds { peers_room ≤ length peers.old }
-    ensures { (k : Scheduled) → k.includes ≡ peers_of 32 known.now →
-        (verified_of result ≡ first_of (concat (includes_rows k (point_of rec.now info))))
-        × (peers.new ≡ buffer_with k (point_of rec.now info) (verified_of result) peers.old) }
-{
-    let includes = point::includes(rec, info);
-    let unknown = verify_unknown::unknown_peers(includes, 64, known, peers);
-    if 0 < unknown {
-        let reason = IllFormedReason::UnknownPeers {
-            unknown: unknown as u8,
-            map: PointMap::Includes,
-        };
-        return Verified::Failed(VerifyError::IllFormed(reason));
-    }
-    let len = map::count(includes, 64);
-    let total = one_f(map::count(known, 32));
-    if len < total.majority() {
-        let reason = IllFormedReason::LackOfPeers {
-            len: len as u8,
-            total,
-            map: PointMap::Includes,
-        };
-        return Verified::Failed(VerifyError::IllFormed(reason));
-    }
-    Verified::Passed
-}
-
-// Witness, checked against the peers two rounds before; at genesis and just above it there must be none.
-fn check_witness_peers(
-    conf: Settings,
-    rec: &[u8],
-    info: PointInfo,
-    known: &[u8],
-    peers: &mut [u8],
-) -> Verified
-    requires reads { Reads rec.now info }
-    requires known_value { rising (peers_of 32 known.now) ≡ true }
-    requires peers_room_in_bounds { peers_room ≤ length peers.old }
-    ensures { (k : Scheduled) → k.witness ≡ peers_of 32 known.now →
-        (verified_of result ≡ first_of (concat (witness_rows (settings_of conf) k (point_of rec.now info))))
-        × (peers.new ≡ buffer_with k (point_of rec.now info) (verified_of result) peers.old) }
-{
-    let id = info.id;
-    let witness = point::witness(rec, info);
-    if map::count(witness, 64) == 0 {
-        return Verified::Passed;
-    }
-    if parts::rounds_back(id.round, 2) < conf.genesis_round {
-        let reason = IllFormedReason::MustBeEmpty(PointMap::Witness);
-        return Verified::Failed(VerifyError::IllFormed(reason));
-    }
-    let unknown = verify_unknown::unknown_peers(witness, 64, known, peers);
-    if 0 < unknown {
-        let reason = IllFormedReason::UnknownPeers {
-            unknown: unknown as u8,
-            map: PointMap::Witness,
-        };
-        return Verified::Failed(VerifyError::IllFormed(reason));
-    }
-    Verified::Passed
+    check_enough(len, total.majority_of_others(), total, PointMap::Evidence)
 }
 
 // The round whose peers includes are checked against.
+#[tactic(auto, using(std::proofs::lemmas::Bool::Decides::nat_tests))]
 fn includes_round(conf: Settings, round: u32) -> u32
     ensures { result ≡ includes_round (settings_of conf) round }
 {
@@ -150,6 +129,61 @@ fn includes_round(conf: Settings, round: u32) -> u32
     parts::rounds_back(round, 1)
 }
 
+// Includes, checked against the peers of the round before, at genesis of the same round.
+#[tactic(auto, unfolding(rules::specs::Verify::includes_rows, rules::specs::Verify::scheduled), using(crate::proofs::Laws::peer_facts))]
+fn check_includes_peers(
+    conf: Settings,
+    schedule: &[u8],
+    spans: Schedule,
+    rec: &[u8],
+    info: PointInfo,
+    peers: &mut [u8],
+) -> Result<(), VerifyError>
+    requires schedule_value { read_schedule schedule.now ≡ Some (schedule_of schedule.now spans) }
+    requires reads { Reads rec.now info }
+    requires peers_room_in_bounds { peers_room ≤ length peers.old }
+    ensures checked { result_err result ≡ first_of
+        (concat (includes_rows (scheduled_by conf schedule.now spans rec.now info) (point_of rec.now info))) }
+    ensures buffer { BufferAfter conf schedule.now spans rec.now info (result_err result) peers.old peers.new }
+{
+    let includes = point::includes(rec, info);
+    let known = scheduled_at(schedule, spans, includes_round(conf, info.id.round));
+    check_known(includes, 64, known, PointMap::Includes, peers)?;
+    let len = map::count(includes, 64);
+    let total = one_f(map::count(known, 32));
+    check_enough(len, total.majority(), total, PointMap::Includes)
+}
+
+// Witness, checked against the peers two rounds before; at genesis and just above it there must be none.
+#[tactic(auto, unfolding(rules::specs::Verify::witness_rows, rules::specs::Verify::scheduled), using(crate::proofs::Laws::peer_facts))]
+fn check_witness_peers(
+    conf: Settings,
+    schedule: &[u8],
+    spans: Schedule,
+    rec: &[u8],
+    info: PointInfo,
+    peers: &mut [u8],
+) -> Result<(), VerifyError>
+    requires schedule_value { read_schedule schedule.now ≡ Some (schedule_of schedule.now spans) }
+    requires reads { Reads rec.now info }
+    requires peers_room_in_bounds { peers_room ≤ length peers.old }
+    ensures checked { result_err result ≡ first_of
+        (concat (witness_rows (settings_of conf) (scheduled_by conf schedule.now spans rec.now info) (point_of rec.now info))) }
+    ensures buffer { BufferAfter conf schedule.now spans rec.now info (result_err result) peers.old peers.new }
+{
+    let witness = point::witness(rec, info);
+    if map::count(witness, 64) == 0 {
+        return Ok(());
+    }
+    let round = parts::rounds_back(info.id.round, 2);
+    if round < conf.genesis_round {
+        return Err(IllFormedReason::MustBeEmpty(PointMap::Witness).into());
+    }
+    let known = scheduled_at(schedule, spans, round);
+    check_known(witness, 64, known, PointMap::Witness, peers)
+}
+
+#[tactic(auto, using(crate::proofs::Laws::peer_first))]
 pub fn check_peers(
     conf: Settings,
     schedule: &[u8],
@@ -157,25 +191,14 @@ pub fn check_peers(
     rec: &[u8],
     info: PointInfo,
     peers: &mut [u8],
-) -> Verified
-    requires schedule_value { read_schedule schedule.now ≡ some (schedule_of schedule.now spans) }
+) -> Result<(), VerifyError>
+    requires schedule_value { read_schedule schedule.now ≡ Some (schedule_of schedule.now spans) }
     requires reads { Reads rec.now info }
     requires peers_room_in_bounds { peers_room ≤ length peers.old }
-    ensures checked { PeersChecked conf schedule.now spans rec.now info (verified_of result) }
-    ensures buffer { BufferAfter conf schedule.now spans rec.now info (verified_of result) peers.old peers.new }
+    ensures checked { PeersChecked conf schedule.now spans rec.now info (result_err result) }
+    ensures buffer { BufferAfter conf schedule.now spans rec.now info (result_err result) peers.old peers.new }
 {
-    let id = info.id;
-    let round = id.round;
-    let same_round = schedule::peers_for(schedule, spans, round);
-    let included = schedule::peers_for(schedule, spans, includes_round(conf, round));
-    let witnessed = schedule::peers_for(schedule, spans, parts::rounds_back(round, 2));
-    let first = check_evidence_peers(conf, rec, info, same_round, peers);
-    let Verified::Passed = first else {
-        return first;
-    };
-    let second = check_includes_peers(rec, info, included, peers);
-    let Verified::Passed = second else {
-        return second;
-    };
-    check_witness_peers(conf, rec, info, witnessed, peers)
+    check_evidence_peers(conf, schedule, spans, rec, info, peers)?;
+    check_includes_peers(conf, schedule, spans, rec, info, peers)?;
+    check_witness_peers(conf, schedule, spans, rec, info, peers)
 }

@@ -1,4 +1,5 @@
 -- Laws of unknown peers: which they are, their bytes in the buffer, and the walk of rows beside scheduled peers that writes them.
+use Rattle.std.specs.Prelude.{is_some}
 use Prim.Native.Nat.{ℕ, suc, ◌+◌, ◌*◌, ◌≤◌, ◌<◌}
 use native.Mathlib.Numerals.{add-one}
 use native.Mathlib.Omega.{arith}
@@ -10,15 +11,15 @@ use lib.ListN.{length, get_or, take, length-append}
 use lib.Seq.{take-suc, take_all}
 use lib.Dec.{ltb}
 use borrow.Author.Tests.{ltb-true, lt-ltb, le-ltb}
-use Rattle.base.specs.Base.{pick, is_some}
+use Rattle.base.specs.Base.{pick}
 use Rattle.base.proofs.Impossible.{impossible}
 use Rattle.parts.specs.Bytes.{big_bytes, put_at}
 use Rattle.parts.specs.Parts.{order}
-use Rattle.parts.specs.declared.Order.TheVariants.{Less, Same, More}
+use Rattle.std.specs.declared.cmp.Ordering.TheVariants.{Less, Equal, Greater}
 use Rattle.parts.proofs.Laws.{order-less, order_same, order-more}
 use Rattle.write.proofs.Laws.{bytes-length, put_length, put_put, put_nothing}
 use Rattle.map.specs.Rows.{rising, find}
-use Rattle.map.proofs.Laws.{Nowhere, rising-less, find-rising, find_nowhere}
+use Rattle.map.proofs.Laws.{Nowhere, peers_of-fits, rising-less, find-rising, find_nowhere}
 use Rattle.map.proofs.Pairs.{rising_tail}
 use Rattle.rules.specs.Unknown.{unknown_in, peer_bytes}
 use Rattle.verify_unknown.specs.Code.{order_at}
@@ -34,28 +35,28 @@ found_nowhere l x b = ap is_some (find_nowhere l x b)
 -- ---- the scheduled peer at a position beside a peer
 
 module _ (k : List ℕ) (j x : ℕ) where
-  pub order_at-inside : j < length k → order_at k j x ≡ order (get_or k j 0) x
+  pub order_at_inside : j < length k → order_at k j x ≡ order (get_or k j 0) x
   unfolding order_at
-  order_at-inside h = rw (lt-ltb j (length k) h)
+  order_at_inside h = rw (lt-ltb j (length k) h)
 
-  pub order_at-past : length k ≤ j → order_at k j x ≡ More
+  pub order_at_past : length k ≤ j → order_at k j x ≡ Greater
   unfolding order_at
-  order_at-past h = rw (le-ltb j (length k) h)
+  order_at_past h = rw (le-ltb j (length k) h)
 
-  pub order_at-less : order_at k j x ≡ Less → (j < length k) × (get_or k j 0 < x)
-  order_at-less e = elim (dec_lt j (length k)) [
-    | yes h ↦ (h, order-less _ _ (sym (order_at-inside h) ∙ e))
-    | no h ↦ (let p = order_at-past (omega arith) in impossible (cc))
+  pub order_at_less : order_at k j x ≡ Less → (j < length k) × (get_or k j 0 < x)
+  order_at_less e = elim (dec_lt j (length k)) [
+    | yes h ↦ (h, order-less _ _ (sym (order_at_inside h) ∙ e))
+    | no h ↦ (let p = order_at_past (omega arith) in impossible (cc))
   ]
 
-  pub order_at-same : order_at k j x ≡ Same → (j < length k) × (get_or k j 0 ≡ x)
-  order_at-same e = elim (dec_lt j (length k)) [
-    | yes h ↦ (h, order_same _ _ (sym (order_at-inside h) ∙ e))
-    | no h ↦ (let p = order_at-past (omega arith) in impossible (cc))
+  pub order_at_same : order_at k j x ≡ Equal → (j < length k) × (get_or k j 0 ≡ x)
+  order_at_same e = elim (dec_lt j (length k)) [
+    | yes h ↦ (h, order_same _ _ (sym (order_at_inside h) ∙ e))
+    | no h ↦ (let p = order_at_past (omega arith) in impossible (cc))
   ]
 
-  pub order_at-more : order_at k j x ≡ More → j < length k → x < get_or k j 0
-  order_at-more e h = order-more _ _ (sym (order_at-inside h) ∙ e)
+  pub order_at_more : order_at k j x ≡ Greater → j < length k → x < get_or k j 0
+  order_at_more e h = order-more _ _ (sym (order_at_inside h) ∙ e)
 
 -- ---- which peers are unknown
 
@@ -168,15 +169,15 @@ walked_start k r old = record {
 }
 
 module _ (k r old out : List ℕ) (i j found : ℕ) (w : Walked k r old out i j found) where
-  pub walked-done : length r ≤ i → (found ≡ length (unknown_in k r)) × (out ≡ put_at old 0 (peer_bytes (unknown_in k r)))
-  walked-done h =
+  pub walked_done : length r ≤ i → (found ≡ length (unknown_in k r)) × (out ≡ put_at old 0 (peer_bytes (unknown_in k r)))
+  walked_done h =
       let e : unknown_in k (take i r) ≡ unknown_in k r = ap (unknown_in k) (take_all i r h) in
       (w.count ∙ ap length e, w.bytes ∙ ap (λ (l : List ℕ). put_at old 0 (peer_bytes l)) e)
 
   module _ (h : i < length r) where
-    pub walked-less : order_at k j (get_or r i 0) ≡ Less → Walked k r old out i (j + 1) found
-    walked-less o =
-        let p = order_at-less k j (get_or r i 0) o in
+    pub walked_less : order_at k j (get_or r i 0) ≡ Less → Walked k r old out i (j + 1) found
+    walked_less o =
+        let p = order_at_less k j (get_or r i 0) o in
         record {
           passed = λ a g f. elim (dec_lt a j) [ yes q ↦ w.passed a q h | no q ↦ (let e : a ≡ j = omega arith in rw e p.1) ];
           few = w.few;
@@ -190,9 +191,9 @@ module _ (k r old out : List ℕ) (i j found : ℕ) (w : Walked k r old out i j 
       passed-next : (a : ℕ) → a < j → i + 1 < length r → get_or k a 0 < get_or r (i + 1) 0
       passed-next a g f = omega (arith, w.passed a g h, rising-less r i (i + 1) rises (omega arith) f)
 
-      pub walked_same : order_at k j (get_or r i 0) ≡ Same → Walked k r old out (i + 1) (j + 1) found
+      pub walked_same : order_at k j (get_or r i 0) ≡ Equal → Walked k r old out (i + 1) (j + 1) found
       walked_same o =
-          let p = order_at-same k j (get_or r i 0) o in
+          let p = order_at_same k j (get_or r i 0) o in
           let e = known_next k r i h (found_here k (get_or r i 0) j set-rises p.0 p.1) in
           record {
             passed = λ a g f. elim (dec_lt a j) [
@@ -215,11 +216,11 @@ module _ (k r old out : List ℕ) (i j found : ℕ) (w : Walked k r old out i j 
         ]
       ]
 
-      pub walked_more : 32 * length r ≤ length old → order_at k j (get_or r i 0) ≡ More →
+      pub walked_more : 32 * length r ≤ length old → order_at k j (get_or r i 0) ≡ Greater →
           Walked k r old (put_at out (32 * found) (big_bytes 32 (get_or r i 0))) (i + 1) j (found + 1)
       walked_more room o =
           let x = get_or r i 0 in
-          let e = unknown-next k r i h (found_nowhere k x (between (order_at-more k j x o))) in
+          let e = unknown-next k r i h (found_nowhere k x (between (order_at_more k j x o))) in
           let n = w.few in
           record {
             passed = passed-next;
@@ -228,3 +229,6 @@ module _ (k r old out : List ℕ) (i j found : ℕ) (w : Walked k r old out i j 
             same = put_length out (32 * found) (big_bytes 32 x) (omega (arith, bytes-length 32 x, w.same)) ∙ w.same;
             bytes = rw (e, w.bytes) (put_more old (unknown_in k (take i r)) x found w.count (omega arith));
           }
+
+-- what the check needs of the walk
+pub ruleset walk_facts = (peers_of-fits, order_at_less, order_at_same, walked_less, walked_done)

@@ -7,10 +7,11 @@ ghost use Rattle.map.specs.Rows.{peers_of, rising};
 ghost use Rattle.rules.specs.Unknown.{unknown_in, peer_bytes};
 ghost use Rattle.verify_unknown.specs.Code.{order_at};
 
-use parts::Order;
+use std::cmp::Ordering;
 
 // How the scheduled peer at a position stands to the peer of a row; past the last it counts as greater.
-fn order_at(scheduled: &[u8], j: usize, m: usize, rows: &[u8], width: usize, i: usize) -> Order
+#[tactic(auto, unfolding(crate::specs::Code::order_at))]
+fn order_at(scheduled: &[u8], j: usize, m: usize, rows: &[u8], width: usize, i: usize) -> Ordering
     requires m_value { m ≡ length (peers_of 32 scheduled.now) }
     requires le_width { (32 ≤ width) × (i < length (peers_of width rows.now)) }
     ensures { result ≡ order_at (peers_of 32 scheduled.now) j (get_or (peers_of width rows.now) i 0) }
@@ -18,11 +19,12 @@ fn order_at(scheduled: &[u8], j: usize, m: usize, rows: &[u8], width: usize, i: 
     if j < m {
         return map::compare_rows(scheduled, 32, j, rows, width, i);
     }
-    Order::More
+    Ordering::Greater
 }
 
 // Writes the peers of rising rows that are not among the rising scheduled peers, and says how many they are. Both are
 // walked once, side by side.
+#[tactic(auto, using(crate::proofs::Laws::walk_facts))]
 pub fn unknown_peers(rows: &[u8], width: usize, scheduled: &[u8], out: &mut [u8]) -> usize
     requires le_width { 32 ≤ width }
     requires rows_value { rising (peers_of width rows.now) ≡ true }
@@ -38,14 +40,13 @@ pub fn unknown_peers(rows: &[u8], width: usize, scheduled: &[u8], out: &mut [u8]
     let mut j = 0;
     let mut found = 0;
     while i < n {
-        let order = order_at(scheduled, j, m, rows, width, i);
-        match order {
-            Order::Less => j += 1,
-            Order::Same => {
+        match order_at(scheduled, j, m, rows, width, i) {
+            Ordering::Less => j += 1,
+            Ordering::Equal => {
                 i += 1;
                 j += 1;
             }
-            Order::More => {
+            Ordering::Greater => {
                 let peer = map::peer_at(rows, width, i);
                 write::put_id(out, 32 * found, peer);
                 found += 1;

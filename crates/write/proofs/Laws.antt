@@ -1,17 +1,9 @@
 -- Laws of bytes that are written into a list: the bytes of a number, and where they stand.
-use Prim.Native.Nat.{ℕ, zero, suc, ◌+◌, ◌*◌, ◌/◌, ◌%◌, ◌^◌, ◌≤◌, ◌<◌}
-use native.Mathlib.Nat.{add-zero, zero-add, add-suc, suc-add, pow-succ', one-le-pow, mul_assoc, mul_comm, mul-add-div_right, mul-add-mod_self_right, div-div-eq-div-mul, mod-eq_of_lt, mod-one, div-one}
-use native.Mathlib.Omega.{arith}
-use mathlib.Core.Path.{◌≡◌, refl, ap, sym, ◌∙◌}
-use mathlib.Core.List.{List, [], ◌∷◌, ◌++◌, append_assoc, append-nil}
-use lib.Arith.{digits_lt, digits_div, mod-mul}
-use lib.Pow.{pow-add}
-use lib.ListN.{length, take, drop, length-append, take-append-drop}
-use lib.Seq.{sets, sets-eq, length-sets, take_at, drop_at, drop-append-add, length-take-le}
-use Rattle.parts.specs.Bytes.{little, big, little_bytes, bytes_at, big_at, big_bytes, put_at, Bytes}
-use Rattle.parts.specs.Code.{number}
-use Rattle.parts.specs.declared.Id.{Id}
-use Rattle.parts.proofs.Laws.{Words, little-bytes}
+use Rattle.std.proofs.Common.{ℕ, zero, suc, ◌+◌, ◌*◌, ◌/◌, ◌%◌, ◌^◌, ◌≤◌, ◌<◌, add-zero, zero-add, add-suc, suc-add, mul_assoc, mul_comm, mod-eq_of_lt, arith, ◌≡◌, refl, ap, sym, ◌∙◌, List, [], ◌∷◌, ◌++◌, append_assoc, append-nil, pow-add, length, take, drop, length-append, take-append-drop, take_at, drop_at, length-take-le}
+use Rattle.std.proofs.Math.Nat.{pow-succ', one-le-pow, mul-add-div_right, mul-add-mod_self_right, div-div-eq-div-mul, mod-one}
+use Rattle.std.proofs.Math.Arith.{digits_div, mod-mul}
+use Rattle.std.proofs.Math.Seq.{sets, sets-eq, length-sets, drop-append-add}
+use Rattle.parts.specs.Bytes.{big, bytes_at, big_bytes, put_at, Bytes}
 
 -- ---- the bytes of a number
 
@@ -55,23 +47,6 @@ unfolding big_bytes
 bytes_below zero x k = omega arith
 bytes_below (suc n) x zero = omega arith
 bytes_below (suc n) x (suc k) = bytes_below n x k
-
-mirror : (a b c d e f g h : ℕ) → big (a ∷ b ∷ c ∷ d ∷ e ∷ f ∷ g ∷ h ∷ []) ≡ little (h ∷ g ∷ f ∷ e ∷ d ∷ c ∷ b ∷ a ∷ [])
-unfolding little big
-mirror a b c d e f g h = omega arith
-
--- the bytes of a number in the other order, the first lowest, are its bytes with the first highest
-pub swapped-bytes : (x : ℕ) → little_bytes 8 (big (little_bytes 8 x)) ≡ big_bytes 8 x
-unfolding little_bytes big_bytes
-swapped-bytes x =
-    let c : x / 256 / 256 ≡ x / 65536 = omega arith in
-    let d : x / 65536 / 256 ≡ x / 16777216 = omega arith in
-    let e : x / 16777216 / 256 ≡ x / 4294967296 = omega arith in
-    let f : x / 4294967296 / 256 ≡ x / 1099511627776 = omega arith in
-    let g : x / 1099511627776 / 256 ≡ x / 281474976710656 = omega arith in
-    let h : x / 281474976710656 / 256 ≡ x / 72057594037927936 = omega arith in
-    let same : big (little_bytes 8 x) ≡ little (big_bytes 8 x) = rw (c, d, e, f, g, h, div-one x) (mirror _ _ _ _ _ _ _ _) in
-    ap (little_bytes 8) same ∙ little-bytes (big_bytes 8 x) (bytes_below 8 x)
 
 -- ---- a run of elements in a list
 
@@ -117,16 +92,7 @@ put_read l at vs n e h =
     rw (append_assoc (take at l) vs (drop (at + length vs) l), drop_at (take at l) (vs ++ drop (at + length vs) l) at (length-take-le at l h))
     (take_at vs (drop (at + length vs) l) n e)
 
--- a number that was written is read back
-pub put_big : (l : List ℕ) (at n x : ℕ) → at ≤ length l → x < 256 ^ n → big_at n (put_at l at (big_bytes n x)) at ≡ x
-unfolding big_at
-put_big l at n x h g = rw (put_read l at (big_bytes n x) n (bytes-length n x) h) (big-bytes n x g)
-
 -- ---- ids
-
-pub number-below : (x : Id) → Words x → number x < 256 ^ 32
-unfolding number
-number-below x w = digits_lt (digits_lt (digits_lt w.wa w.wb) w.wc) w.wd
 
 -- the bytes of a number of four words
 bytes_words : (a b c d : ℕ) → b < 2 ^ 64 → c < 2 ^ 64 → d < 2 ^ 64 →

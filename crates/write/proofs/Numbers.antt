@@ -1,12 +1,7 @@
 -- Numbers and their bytes, both ways: a number that was written is read back, and the bytes of a number that was read are those read.
-use Prim.Native.Nat.{ℕ, zero, suc, ◌+◌, ◌/◌, ◌^◌, ◌≤◌, ◌<◌}
-use native.Mathlib.Nat.{pow-succ', zero-add, mod-eq_of_lt}
-use native.Mathlib.Omega.{arith}
-use mathlib.Core.Path.{◌≡◌, refl, ap}
-use mathlib.Core.List.{List, [], ◌∷◌}
-use lib.Arith.{digits_div}
-use lib.ListN.{length, drop}
-use lib.Seq.{get_or-drop}
+use Rattle.std.proofs.Common.{ℕ, zero, suc, ◌+◌, ◌/◌, ◌^◌, ◌≤◌, ◌<◌, zero-add, mod-eq_of_lt, arith, ◌≡◌, refl, ap, List, [], ◌∷◌, length, drop, get_or-drop}
+use Rattle.std.proofs.Math.Nat.{pow-succ'}
+use Rattle.std.proofs.Math.Arith.{digits_div}
 use Rattle.parts.specs.Bytes.{little, big, bytes_at, little_at, big_at, little_bytes, big_bytes, Bytes}
 use Rattle.parts.proofs.Laws.{at_length, big-below, at-bytes, little-bytes}
 use Rattle.write.proofs.Laws.{bytes_split}

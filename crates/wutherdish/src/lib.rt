@@ -8,9 +8,6 @@ ghost use Rattle.books.specs.Offer.{offer_of};
 ghost use Rattle.rules.specs.Answer.{verify_number, verify_answer, judge_number, judge_answer};
 ghost use Rattle.wutherdish.specs.Version.{version};
 
-use judge::JudgeAnswer;
-use reasons::VerifyAnswer;
-
 // Verifies a point. Answers document 01's number, or 0 with the verdict in `answer` and the unknown peers in `peers`; with a
 // number no lent byte changes.
 pub fn wutherdish_verify(
@@ -27,11 +24,10 @@ pub fn wutherdish_verify(
     ensures buffer { peers.new ≡ verify_buffer
         (tested settings.now schedule.now rec.now true (length peers.old)) peers.old }
 {
-    let verified = verify::verify(settings, schedule, rec, peers);
-    match verified {
-        VerifyAnswer::Number(n) => n,
-        VerifyAnswer::Verdict(v) => {
-            answer::put_answer(answer, answer::of_verified(v));
+    match verify::verify(settings, schedule, rec, peers) {
+        Err(refusal) => refusal.number(),
+        Ok(verified) => {
+            answer::put_answer(answer, answer::of_verified(verified));
             0
         }
     }
@@ -59,11 +55,10 @@ pub fn wutherdish_judge(
         (tested settings.now schedule.now rec.now (flags_ok leader presence) (length peers.old))
         peers.old }
 {
-    let judged = judge::judge(settings, schedule, rec, leader, presence, list, peers);
-    match judged {
-        JudgeAnswer::Number(n) => n,
-        JudgeAnswer::Verdict(v) => {
-            answer::put_answer(answer, answer::of_verdict(v));
+    match judge::judge(settings, schedule, rec, leader, presence, list, peers) {
+        Err(refusal) => refusal.number(),
+        Ok(judged) => {
+            answer::put_answer(answer, answer::of_verdict(judged));
             0
         }
     }
@@ -74,7 +69,10 @@ pub fn wutherdish_open(book: &mut [u8], settings: &[u8]) -> u8
     ensures number { result ≡ open_number settings.now (length book.old) }
     ensures opened { book.new ≡ open_bytes settings.now book.old }
 {
-    book::open(book, settings)
+    match book::open(book, settings) {
+        Err(refusal) => refusal.number(),
+        Ok(()) => 0,
+    }
 }
 
 // Offers a point to a book, which keeps it unless the verdict is Fail; answers as verifying does.
@@ -95,10 +93,9 @@ pub fn wutherdish_offer(
     ensures left { book.new ≡ (offer_bytes book.old
         (offer_of schedule.now leader rec.now peers.old)).after }
 {
-    let judged = book::offer(book, schedule, leader, rec, peers);
-    match judged {
-        JudgeAnswer::Number(n) => n,
-        JudgeAnswer::Verdict(verdict) => {
+    match book::offer(book, schedule, leader, rec, peers) {
+        Err(refusal) => refusal.number(),
+        Ok(verdict) => {
             answer::put_answer(answer, answer::of_verdict(verdict));
             0
         }

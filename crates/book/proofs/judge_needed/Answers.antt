@@ -2,7 +2,6 @@
 use native.Mathlib.Omega.{arith}
 use mathlib.Core.Path.{ap, sym}
 use Rattle.parts.specs.Bytes.{Bytes}
-use Rattle.rules.specs.Judge.{Given}
 use Rattle.book_read.proofs.Marked.{marked-holds, marked-index}
 use Rattle.book_judge.proofs.Looked.{held-entries}
 use Rattle.book.proofs.judge_needed.Goals as goal
@@ -11,17 +10,14 @@ use Rattle.book.proofs.judge_needed.Goals.{After-mark_covered}
 bytes : (c : After-mark_covered) → Bytes c.args.book.now
 bytes c k = omega (arith, c.slice_known-1.given k)
 
-pub judge_book-verdict-requires : goal.judge_book-verdict-requires
-judge_book-verdict-requires c =
-    let m = c in
-    let st = m in
-    let h = st.requires.read in
-    record { reads = st.requires.reads; entries = held-entries (marked-holds (bytes (goal.at.judge_book-verdict-requires c).After-mark_covered) h.read _ (m.mark_covered.ensures h.opened h.read) h.holds) (marked-index (bytes (goal.at.judge_book-verdict-requires c).After-mark_covered) h.read _ (m.mark_covered.ensures h.opened h.read) h.holds h.index) }
+pub judge_book-verdict-requires-clause-entries : goal.judge_book-verdict-requires-clause-entries
+judge_book-verdict-requires-clause-entries c =
+    let h = c.requires.read in
+    let at = goal.at.judge_book-verdict-requires-clause-entries c in
+    held-entries (marked-holds (bytes at.After-mark_covered) h.read _ (c.mark_covered.ensures h.opened h.read) h.holds) (marked-index (bytes at.After-mark_covered) h.read _ (c.mark_covered.ensures h.opened h.read) h.holds h.index)
 
 pub returns : goal.returns
 returns c = λ h d.
-    let k = c in
-    let j = k in
-    let m = j in
-    let e = m.mark_covered.ensures h.opened h.read in
-    (ap Given (j.judge_book-verdict.ensures _ (marked-holds (bytes (goal.at.returns c).After-mark_covered) h.read _ e h.holds) d), λ q. rw (sym e) (k.keep.ensures q))
+    let w = bytes (goal.at.returns c).After-mark_covered in
+    let e = c.mark_covered.ensures h.opened h.read in
+    (c.judge_book-verdict.ensures _ (marked-holds w h.read _ e h.holds) d, λ q. rw (sym e) (c.keep.ensures q))

@@ -11,11 +11,7 @@ use Rattle.book_judge.proofs.judge_book.Goals as goal
 pub returns : goal.returns
 returns c =
     λ b h d.
-    let t = c in
-    let l = t in
-    let v = l in
-    let st = v in
-    let q = point_of st.args.rec.now st.args.info in
-    let a : Asked st.args.book.now b st.args.index.now v.point_view-p.result q = record { holds = h; view = v.point_view-p.ensures } in
-    judged-over (settings_of st.args.conf) st.args.required (point_view_of v.point_view-p.result) q b (judging_of l.judge_direct_list-direct.result) (judging_of t.judge_targets.result) (verdict_of c.verdict.result)
-    v.point_view-p.ensures (l.judge_direct_list-direct.ensures b st.args.info a d) (t.judge_targets.ensures b st.args.rec.now a) c.verdict.ensures
+    let q = point_of c.args.rec.now c.args.info in
+    let a : Asked c.args.book.now b c.args.index.now c.point_view.result q = record { holds = h; view = c.point_view.ensures } in
+    judged-over (settings_of c.args.conf) c.args.required (point_view_of c.point_view.result) q b (judging_of c.judge_direct_list-direct.result) (judging_of c.judge_targets.result) (verdict_of c.verdict.result)
+    c.point_view.ensures (c.judge_direct_list-direct.ensures b c.args.info a d) (c.judge_targets.ensures b c.args.rec.now a) c.verdict.ensures

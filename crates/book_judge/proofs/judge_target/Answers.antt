@@ -7,18 +7,14 @@ use Rattle.judge_step.specs.Code.{indirect_fold, judging_of}
 use Rattle.book_judge.proofs.Looked.{target-judged}
 use Rattle.book_judge.proofs.judge_target.Goals as goal
 
-pub returns-in-Direct : goal.returns-in-Direct
+pub returns-in_default : goal.returns-in_default
 unfolding indirect_fold
-returns-in-Direct c = λ b q a e. rw c.in-Direct.is
+returns-in_default c = λ b q a e. rw c.in_default.is
 
-pub returns-in-Indirect : goal.returns-in-Indirect
-returns-in-Indirect c = λ b q a e.
-    let g = c in
-    let l = g in
-    let t = l in
-    let st = t in
-    let x = t.in-Indirect.indirect in
-    let j = judging_of st.args.so_far in
-    target-judged st.args.book.now l.lookup-x.result b q (point_id_of x.to) (l.lookup-x.ensures.looked_up b q a)
-    (settings_of st.args.conf) (point_view_of st.args.p) a.view j (judging_of c.with_indirect.result) st.args.role (through_of x.through) (link_of st.args.link) (ap link_of t.in-Indirect.is) e
-    (λ first. c.with_indirect.ensures ∙ g.indirect_gives-gives.ensures first j)
+pub returns : goal.returns
+returns c = λ b q a e.
+    let x = c.in-Indirect.indirect in
+    let j = judging_of c.args.so_far in
+    target-judged c.args.book.now c.lookup-x.result b q (point_id_of x.to) (c.lookup-x.ensures.looked_up b q a)
+    (settings_of c.args.by.conf) (point_view_of c.args.by.view) a.view j (judging_of c.with_indirect.result) c.args.role (through_of x.through) (link_of c.args.link) (ap link_of c.in-Indirect.is) e
+    (λ first. c.with_indirect.ensures ∙ c.indirect_gives-gives.ensures first j)

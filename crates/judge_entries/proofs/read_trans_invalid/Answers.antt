@@ -1,76 +1,38 @@
 -- `read_trans_invalid` meets its contract: the root cause, then the record after it.
-use Prim.Native.Nat.{ℕ, ◌-◌, ◌+◌, ◌≤◌}
-use native.Mathlib.Omega.{arith}
-use mathlib.Core.Path.{◌≡◌, refl, sym, ◌∙◌}
-use mathlib.Core.Bool.{true}
-use mathlib.Core.List.{List}
+use Prim.Native.Nat.{◌+◌, ◌-◌}
+use mathlib.Core.Path.{refl, sym, ◌∙◌}
 use lib.ListN.{length, get_or, take, drop}
-use borrow.Author.Tests.{not-true, not-false}
 use Rattle.base.proofs.Lists.{rest}
 use Rattle.point.specs.Code.{point_id_of}
+use Rattle.point.specs.Reading.{point_id_at}
 use Rattle.rules.specs.DagPoint.{TransInvalid}
-use Rattle.rules.specs.List.{is_root}
-use Rattle.rules.proofs.Pieces.{root-length}
-use Rattle.judge_entries.proofs.Laws.{Back, state_rootless, state_trans, back_none, back}
+use Rattle.judge_entries.proofs.Laws.{Back, root_long, state_trans, back_none, back}
 use Rattle.judge_entries.proofs.read_trans_invalid.Goals as goal
-use Rattle.judge_entries.proofs.read_trans_invalid.Goals.{Else-not-is_root, In-Record}
-
-abbrev at-Else-not-is_root-from-In-Record : (c : In-Record) → Else-not-is_root
-at-Else-not-is_root-from-In-Record c = record { before = c.before.before.before.before.before.before; type_inv = record { s = c.type_inv.s } }
-
-abbrev slice : Else-not-is_root → List ℕ
-slice c = c.args.s.now
-
-rooted : (c : Else-not-is_root) → is_root (slice c) ≡ true
-rooted c = sym c.is_root.ensures ∙ not-false _ c.if-not-is_root.false-raw
-
-long : (c : Else-not-is_root) → 72 ≤ length (slice c)
-long c = root-length (slice c) (rooted c)
+use Rattle.judge_entries.proofs.read_trans_invalid.Goals.{In_ok-info}
 
 -- the record after the root cause
-read : (c : In-Record) →
-    Back (slice (at-Else-not-is_root-from-In-Record c)) 72 (72 + c.in-Record.n) c.in-Record.info
+read : (c : In_ok-info) → Back c.args.s.now 72 (72 + c.in_ok-info.n) c.in_ok-info.info
 read c =
-    let r = c in
-    let e = r in
-    let s = slice (at-Else-not-is_root-from-In-Record c) in
-    back s (take (length s - 72) (drop 72 s)) 72 r.read_record.result (rest 72 s) r.read_record.ensures.same
-    c.in-Record.n (72 + c.in-Record.n) c.in-Record.info c.in-Record.is r.read_record.ensures.placed (long (at-Else-not-is_root-from-In-Record c)) refl
+    let s = c.args.s.now in
+    back s (take (length s - 72) (drop 72 s)) 72 c.read_record.result (rest 72 s) c.read_record.ensures.same
+    c.in_ok-info.n (72 + c.in_ok-info.n) c.in_ok-info.info c.in_ok-info.was c.read_record.ensures.placed (root_long s (sym c.is_root.ensures ∙ c.if-not-is_root.false)) refl
 
-pub returns-then-not-is_root : goal.returns-then-not-is_root
-returns-then-not-is_root c = record { same = sym (state_rootless _ (sym c.is_root.ensures ∙ not-true _ c.if-not-is_root.true-raw)); placed = tt }
+pub returns-in_err-info-clause-same : goal.returns-in_err-info-clause-same
+returns-in_err-info-clause-same c =
+    let s = c.args.s.now in
+    let i = point_id_at s 3 in
+    rw c.from_residual.ensures
+    (sym (state_trans s i (sym c.is_root.ensures ∙ c.if-not-is_root.false) refl
+    ∙ back_none s (take (length s - 72) (drop 72 s)) 72 c.read_record.result (rest 72 s) c.read_record.ensures.same c.in_err-info.was (λ q. TransInvalid q i (get_or s 71 0))))
 
-pub point_id_at-root-requires : goal.point_id_at-root-requires
-point_id_at-root-requires c = omega (arith, long c)
+pub returns-clause-same : goal.returns-clause-same
+returns-clause-same c =
+    let s = c.args.s.now in
+    let i = point_id_of c.point_id_at.result in
+    let b = read (goal.at.returns-clause-same c).In_ok-info in
+    sym (state_trans s i (sym c.is_root.ensures ∙ c.if-not-is_root.false) c.point_id_at.ensures ∙ b.states (λ q. TransInvalid q i (get_or s 71 0)))
 
-pub bounds-s-71 : goal.bounds-s-71
-bounds-s-71 c = omega (arith, long (goal.at.bounds-s-71 c).Else-not-is_root)
-
-pub slice_bounds-read_record-count : goal.slice_bounds-read_record-count
-slice_bounds-read_record-count c = long (goal.at.slice_bounds-read_record-count c).Else-not-is_root
-
-pub slice_bounds-read_record-start : goal.slice_bounds-read_record-start
-slice_bounds-read_record-start c = omega (arith, long (goal.at.slice_bounds-read_record-start c).Else-not-is_root)
-
-pub returns-in_default : goal.returns-in_default
-returns-in_default c =
-    let r = c in
-    let p = r in
-    let s = slice (goal.at.returns-in_default c).Else-not-is_root in
-    let i = point_id_of p.point_id_at-root.result in record {
-      same = sym (state_trans s i (rooted (goal.at.returns-in_default c).Else-not-is_root) p.point_id_at-root.ensures
-          ∙ back_none s (take (length s - 72) (drop 72 s)) 72 r.read_record.result (rest 72 s) r.read_record.ensures.same c.in_default.is (λ q. TransInvalid q i (get_or s 71 0)));
-      placed = tt;
-    }
-
-pub overflow_add-result : goal.overflow_add-result
-overflow_add-result c =
-    let e = c in
-    omega (arith, (read c).inside, e.well_formed)
-
-pub returns : goal.returns
-returns c =
-    let p = c in
-    let s = slice (goal.at.returns c).Else-not-is_root in
-    let i = point_id_of p.point_id_at-root.result in
-    let b = read c in record { same = sym (state_trans s i (rooted (goal.at.returns c).Else-not-is_root) p.point_id_at-root.ensures ∙ b.states (λ q. TransInvalid q i (get_or s 71 0))); placed = record { ordered = b.ordered; inside = b.inside; read = b.from } }
+pub returns-clause-placed : goal.returns-clause-placed
+returns-clause-placed c =
+    let b = read (goal.at.returns-clause-placed c).In_ok-info in
+    record { ordered = b.ordered; inside = b.inside; read = b.from }

@@ -1,39 +1,7 @@
--- `is_quiet` meets its contract: of a valid entry that is for a dependency by the quick test, and no other passes.
-use mathlib.Core.Path.{refl, sym, ◌∙◌, subst}
-use mathlib.Core.Bool.{false}
-use Rattle.base.proofs.Bool.{clash}
+-- `is_quiet` meets its contract: an entry that is for a dependency goes by the quick test.
+use mathlib.Core.Path.{sym, ◌∙◌}
 use Rattle.base.proofs.Option.{unfound}
-use Rattle.point.specs.Code.{Reads}
-use Rattle.point.proofs.Laws.{readable}
-use Rattle.judge_entries.specs.Code.{ReadFrom}
 use Rattle.judge_list.proofs.is_quiet.Goals as goal
 
-pub returns-then-is_target : goal.returns-then-is_target
-returns-then-is_target c = λ h. clash false h refl
-
-pub is_quick-requires : goal.is_quick-requires
-is_quick-requires c =
-    let st = c in
-    let r : Reads st.args.rec.now _ = subst (ReadFrom st.args.rec.now) c.in-Valid.is st.requires in
-    (readable st.args.rec.now _ r.read).shaped
-
-pub returns-in-Valid : goal.returns-in-Valid
-returns-in-Valid c = λ h.
-    let e = c in
-    let f = e in
-    (unfound _ (sym f.is_target.ensures ∙ f.if-is_target.false), ((_, e.in-Valid.is), c.is_quick.ensures h))
-
-pub returns-in-TransInvalid : goal.returns-in-TransInvalid
-returns-in-TransInvalid c = λ h. clash false h refl
-
-pub returns-in-Invalid : goal.returns-in-Invalid
-returns-in-Invalid c = λ h. clash false h refl
-
-pub returns-in-IllFormed : goal.returns-in-IllFormed
-returns-in-IllFormed c = λ h. clash false h refl
-
-pub returns-in-NotFound : goal.returns-in-NotFound
-returns-in-NotFound c = λ h. clash false h refl
-
-pub returns-in-Dropped : goal.returns-in-Dropped
-returns-in-Dropped c = λ h. clash false h refl
+pub returns : goal.returns
+returns c = λ h. (unfound _ (sym c.is_some.ensures ∙ c.if-is_some.false), c.is_quiet.ensures h)

@@ -1,4 +1,4 @@
--- `uncovers` meets its contract: each `return` rewrites with the tests that led there.
+-- `uncovers` meets its contract: each `return` by the tests that led there, whatever the record of the entry is.
 use mathlib.Core.Path.{ap, sym, ◌∙◌}
 use mathlib.Core.Bool.{not, and-false}
 use Rattle.rules.specs.DagPoint.{is_dropped}
@@ -19,6 +19,4 @@ returns-then-is_dropped c = λ s. rw (sym (c.is_dropped.ensures s) ∙ c.if-is_d
 pub returns : goal.returns
 unfolding uncovers
 returns c = λ s.
-    let i = c in
-    let f = i in
-    rw (sym (f.is_dropped.ensures s) ∙ f.if-is_dropped.false, f.if-x.false) (c.is_prev.ensures ∙ ap (is_id (prev_in (point_view_of f.args.p))) (i.id.ensures s))
+    rw (sym (c.is_dropped.ensures s) ∙ c.if-is_dropped.false, c.if-x.false) (c.is_prev.ensures ∙ ap (is_id (prev_in (point_view_of c.args.p))) (c.id.ensures s))

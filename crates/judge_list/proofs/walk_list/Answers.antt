@@ -1,41 +1,24 @@
 -- `walk_list` meets its contract. The invariant: the walk so far, over what is left of the list, gives what the walk over the whole gives.
+use Rattle.std.specs.Prelude.{Some, option_map, is_some}
 use Prim.Native.Nat.{ℕ, ◌+◌, ◌-◌, ◌≤◌, ◌<◌}
 use native.Mathlib.Omega.{arith}
 use mathlib.Core.Path.{◌≡◌, refl, ap, sym, ◌∙◌}
-use mathlib.Core.Bool.{true, false}
-use mathlib.Core.Option.{some}
+use mathlib.Core.Bool.{Bool, true, false}
 use mathlib.Core.List.{List}
 use lib.ListN.{length, take, drop, length-drop}
-use borrow.Author.Tests.{not-true, not-false}
 use borrow.Author.Rules.{rules}
 use Rattle.base.proofs.Lists.{rest}
 use Rattle.point.specs.Code.{point_of}
 use Rattle.schedule.specs.Settings.{Settings}
 use Rattle.schedule.specs.Code.{settings_of}
 use Rattle.rules.specs.List.{Listed, is_in_order, read_entry, list_from, read_list}
-use Rattle.judge_entries.specs.Code.{aim_of, part_of, listed_of, read_listed_of, EntryPlaced}
-use Rattle.judge_entries.specs.declared.Listed as code-listed
+use Rattle.judge_entries.specs.Code.{part_of, listed_of, EntryPlaced}
 use Rattle.judge_step.specs.Code.{judging_of, gives_of}
 use Rattle.judge_step.proofs.Laws.{passed}
 use Rattle.judge_list.specs.Code.{Walk, Viewed, viewed, walk_step, walk_with, walk_start, viewed_of}
 use Rattle.judge_list.proofs.Laws.{turn-unread, turn_disordered, goes_on, too_many, walk_end, viewed_by, placed-listed, walked-quiet, walked-nothing, walked_giving}
 use Rattle.judge_list.proofs.walk_list.Goals as goal
-use Rattle.judge_list.proofs.walk_list.Goals.{After-is_target-indirect_seen, After-read_entry, At-loop-at, In-Listed}
-
-abbrev at-In-Listed-from-After-is_target-indirect_seen : (c : After-is_target-indirect_seen) → In-Listed
-at-In-Listed-from-After-is_target-indirect_seen c = record { before = c.before.before.before.before.before; type_inv = record { list = c.type_inv.list; rec = c.type_inv.rec } }
-
-abbrev at-At-loop-at-from-After-read_entry : (c : After-read_entry) → At-loop-at
-at-At-loop-at-from-After-read_entry c = record { before = c.before.before.before.before.before; type_inv = record { list = c.type_inv.list; rec = c.type_inv.rec } }
-
-abbrev at-At-loop-at-from-After-is_target-indirect_seen : (c : After-is_target-indirect_seen) → At-loop-at
-at-At-loop-at-from-After-is_target-indirect_seen c = record { before = c.before.before.before.before.before.before.before.before.before.before; type_inv = record { list = c.type_inv.list; rec = c.type_inv.rec } }
-
-abbrev at-At-loop-at-from-In-Listed : (c : In-Listed) → At-loop-at
-at-At-loop-at-from-In-Listed c = record { before = c.before.before.before.before.before.before; type_inv = record { list = c.type_inv.list; rec = c.type_inv.rec } }
-
-abbrev at-After-read_entry-from-In-Listed : (c : In-Listed) → After-read_entry
-at-After-read_entry-from-In-Listed c = record { before = c.before.before; type_inv = record { list = c.type_inv.list; rec = c.type_inv.rec } }
+use Rattle.judge_list.proofs.walk_list.Goals.{At-loop-at, In_ok-x}
 
 abbrev conf : At-loop-at → Settings
 conf l = settings_of l.args.conf
@@ -61,51 +44,44 @@ whole l =
     l.loop-at.invariant.1
     ∙ ap (λ v. walk_with (conf l) l.args.required v walk_start (read_list (list l))) (viewed_by l.point_view-p.result l.args.info l.args.rec.now l.point_view-p.ensures)
 
-abbrev slice : After-read_entry → List ℕ
-slice r = take (length (list (at-At-loop-at-from-After-read_entry r)) - r.loop-at.at) (left (at-At-loop-at-from-After-read_entry r))
+-- the slice that an entry is read from, and the entry
+abbrev slice : ℕ → List ℕ → List ℕ
+slice at s = take (length s - at) (drop at s)
 
-abbrev entry : In-Listed → code-listed.Listed
-entry c = c.in-Listed.x
+abbrev listed : In_ok-x → Listed
+listed o = listed_of (slice o.loop-at.at o.args.list.now) o.in_ok-x.x
 
-abbrev listed : In-Listed → Listed
-listed c = listed_of (slice (at-After-read_entry-from-In-Listed c)) (entry c)
+read : (o : In_ok-x) → read_entry (drop o.loop-at.at o.args.list.now) ≡ Some (listed o)
+read o =
+    ap read_entry (sym (rest o.loop-at.at o.args.list.now))
+    ∙ (sym o.read_entry.ensures.same ∙ ap (option_map (listed_of (slice o.loop-at.at o.args.list.now))) o.in_ok-x.was)
 
-read : (c : In-Listed) → read_entry (left (at-At-loop-at-from-In-Listed c)) ≡ some (listed c)
-read c =
-    let r = c in
-    let l = r in
-    ap read_entry (sym (rest l.loop-at.at (list (at-At-loop-at-from-In-Listed c)))) ∙ (sym r.read_entry.ensures.same ∙ ap (read_listed_of (slice (at-After-read_entry-from-In-Listed c))) c.in-Listed.is)
+placed : (o : In_ok-x) → (0 < o.in_ok-x.x.end) × EntryPlaced (slice o.loop-at.at o.args.list.now) o.in_ok-x.x.state o.in_ok-x.x.place o.in_ok-x.x.end
+placed o = placed-listed (slice o.loop-at.at o.args.list.now) o.in_ok-x.x o.read_entry.result o.in_ok-x.was o.read_entry.ensures.placed
 
-placed : (c : In-Listed) → (0 < (entry c).end) × EntryPlaced (slice (at-After-read_entry-from-In-Listed c)) (entry c).state (entry c).place (entry c).end
-placed c =
-    let r = c in
-    placed-listed (slice (at-After-read_entry-from-In-Listed c)) (entry c) r.read_entry.result c.in-Listed.is r.read_entry.ensures.placed
+within : (o : In_ok-x) → (0 < o.in_ok-x.x.end) × (o.loop-at.at + o.in_ok-x.x.end ≤ length o.args.list.now)
+within o =
+    let h = placed o in
+    let s = o.args.list.now in
+    (h.0, omega (arith, h.1.inside, o.loop-at.invariant.0, ap length (rest o.loop-at.at s), length-drop o.loop-at.at s))
 
-within : (c : In-Listed) →
-    let l = c in
-    (0 < (entry c).end) × (l.loop-at.at + (entry c).end ≤ length (list (at-At-loop-at-from-In-Listed c)))
-within c =
-    let l = c in
-    let h = placed c in
-    (h.0, omega (arith, h.1.inside, l.loop-at.invariant.0, ap length (rest l.loop-at.at (list (at-At-loop-at-from-In-Listed c))), length-drop l.loop-at.at (list (at-At-loop-at-from-In-Listed c))))
-
-ordered : (t : After-is_target-indirect_seen) → is_in_order (t).loop-at.indirect_seen (aim_of (entry (at-In-Listed-from-After-is_target-indirect_seen t)).aim) ≡ true
-ordered t = sym t.is_in_order.ensures ∙ not-false _ t.if-not-is_in_order.false-raw
-
-goes : (t : After-is_target-indirect_seen) (v : Walk) →
-    let l = t in
-    let x = entry (at-In-Listed-from-After-is_target-indirect_seen t) in
-    v ≡ walk_step (conf (at-At-loop-at-from-After-is_target-indirect_seen t)) l.args.required (point (at-At-loop-at-from-After-is_target-indirect_seen t)) (walk (at-At-loop-at-from-After-is_target-indirect_seen t)) (listed (at-In-Listed-from-After-is_target-indirect_seen t)) →
-    (l.loop-at.at + x.end ≤ length (list (at-At-loop-at-from-After-is_target-indirect_seen t)))
-    × (walk_with (conf (at-At-loop-at-from-After-is_target-indirect_seen t)) l.args.required (point (at-At-loop-at-from-After-is_target-indirect_seen t)) v (list_from (l.loop-at.left - 1) t.is_target-indirect_seen.result (drop (l.loop-at.at + x.end) (list (at-At-loop-at-from-After-is_target-indirect_seen t))))
-    ≡ walk_with (conf (at-At-loop-at-from-After-is_target-indirect_seen t)) l.args.required (point (at-At-loop-at-from-After-is_target-indirect_seen t)) walk_start (read_list (list (at-At-loop-at-from-After-is_target-indirect_seen t))))
-goes t v e =
-    let c = t in
-    let r = c in
-    let l = r in (
-      (within (at-In-Listed-from-After-is_target-indirect_seen t)).1,
-      goes_on (conf (at-At-loop-at-from-After-is_target-indirect_seen t)) l.args.required (point (at-At-loop-at-from-After-is_target-indirect_seen t)) (walk (at-At-loop-at-from-After-is_target-indirect_seen t)) v l.loop-at.left (l.loop-at.left - 1) l.loop-at.indirect_seen t.is_target-indirect_seen.result l.loop-at.at (entry (at-In-Listed-from-After-is_target-indirect_seen t)).end (list (at-At-loop-at-from-After-is_target-indirect_seen t)) (listed (at-In-Listed-from-After-is_target-indirect_seen t)) _
-          r.loop-at-test.true (omega (arith, r.if-left-eq0.false)) (read (at-In-Listed-from-After-is_target-indirect_seen t)) (ordered t) t.is_target-indirect_seen.ensures refl e l.loop-at.invariant.1,
+-- the walk goes on after an entry that stands in order
+goes : (o : In_ok-x) (v : Walk) (seen : Bool) →
+    let a = o.args in
+    let s = a.list.now in
+    let x = o.in_ok-x.x in
+    let p = viewed_of o.point_view-p.result a.info in
+    let w : Walk = record { judging = judging_of o.loop-at.judging; uncovered = o.loop-at.uncovered } in
+    is_in_order o.loop-at.indirect_seen x.aim ≡ true → seen ≡ is_some x.aim → v ≡ walk_step (settings_of a.conf) a.required p w (listed o) →
+    (o.loop-at.at + x.end ≤ length s)
+    × (walk_with (settings_of a.conf) a.required p v (list_from (o.loop-at.left - 1) seen (drop (o.loop-at.at + x.end) s))
+    ≡ walk_with (settings_of a.conf) a.required p walk_start (read_list s))
+goes o v seen g e f =
+    let a = o.args in
+    let w : Walk = record { judging = judging_of o.loop-at.judging; uncovered = o.loop-at.uncovered } in (
+      (within o).1,
+      goes_on (settings_of a.conf) a.required (viewed_of o.point_view-p.result a.info) w v o.loop-at.left (o.loop-at.left - 1) o.loop-at.indirect_seen seen o.loop-at.at o.in_ok-x.x.end a.list.now (listed o) _
+          o.loop-at-test.true (omega (arith, o.if-left-eq0.false)) (read o) g e refl f o.loop-at.invariant.1,
     )
 
 all_left : (s : List ℕ) → list_from 65535 false s ≡ read_list s
@@ -119,92 +95,85 @@ loop-at-init c =
 
 pub returns-then-left-eq0 : goal.returns-then-left-eq0
 returns-then-left-eq0 c =
-    let l = c in
-    sym (sym (whole (goal.at.returns-then-left-eq0 c).At-loop-at) ∙ (ap (λ n. walk_with (conf (goal.at.returns-then-left-eq0 c).At-loop-at) l.args.required (point (goal.at.returns-then-left-eq0 c).At-loop-at) (walk (goal.at.returns-then-left-eq0 c).At-loop-at) (list_from n l.loop-at.indirect_seen (left (goal.at.returns-then-left-eq0 c).At-loop-at))) c.if-left-eq0.true
-    ∙ too_many (conf (goal.at.returns-then-left-eq0 c).At-loop-at) l.args.required (point (goal.at.returns-then-left-eq0 c).At-loop-at) (walk (goal.at.returns-then-left-eq0 c).At-loop-at) l.loop-at.indirect_seen (left (goal.at.returns-then-left-eq0 c).At-loop-at) (omega (arith, length-drop l.loop-at.at (list (goal.at.returns-then-left-eq0 c).At-loop-at)))))
+    let l = (goal.at.returns-then-left-eq0 c).At-loop-at in
+    sym (sym (whole l) ∙ (ap (λ n. walk_with (conf l) c.args.required (point l) (walk l) (list_from n c.loop-at.indirect_seen (left l))) c.if-left-eq0.true
+    ∙ too_many (conf l) c.args.required (point l) (walk l) c.loop-at.indirect_seen (left l) (omega (arith, length-drop c.loop-at.at (list l)))))
 
-pub returns-in_default : goal.returns-in_default
-returns-in_default c =
-    let r = c in
-    let l = r in
-    let e = ap read_entry (sym (rest l.loop-at.at (list (goal.at.returns-in_default c).At-loop-at))) ∙ (sym r.read_entry.ensures.same ∙ ap (read_listed_of (slice (goal.at.returns-in_default c).After-read_entry)) c.in_default.is) in
-    sym (sym (whole (goal.at.returns-in_default c).At-loop-at) ∙ turn-unread (conf (goal.at.returns-in_default c).At-loop-at) l.args.required (point (goal.at.returns-in_default c).At-loop-at) (walk (goal.at.returns-in_default c).At-loop-at) l.loop-at.left l.loop-at.indirect_seen (left (goal.at.returns-in_default c).At-loop-at) (omega (arith, length-drop l.loop-at.at (list (goal.at.returns-in_default c).At-loop-at), r.loop-at-test.true)) (omega (arith, r.if-left-eq0.false)) e)
+pub returns-in_err-x : goal.returns-in_err-x
+returns-in_err-x c =
+    let l = (goal.at.returns-in_err-x c).At-loop-at in
+    let s = c.args.list.now in
+    let e = ap read_entry (sym (rest c.loop-at.at s)) ∙ (sym c.read_entry.ensures.same ∙ ap (option_map (listed_of (slice c.loop-at.at s))) c.in_err-x.was) in
+    rw c.from_residual.ensures
+    (sym (sym (whole l) ∙ turn-unread (conf l) c.args.required (point l) (walk l) c.loop-at.left c.loop-at.indirect_seen (left l)
+    (omega (arith, length-drop c.loop-at.at s, c.loop-at-test.true)) (omega (arith, c.if-left-eq0.false)) e))
 
 pub returns-then-not-is_in_order : goal.returns-then-not-is_in_order
 returns-then-not-is_in_order c =
-    let o = c in
-    let x = o in
-    let r = x in
-    let l = r in
-    sym (sym (whole (goal.at.returns-then-not-is_in_order c).At-loop-at) ∙ turn_disordered (conf (goal.at.returns-then-not-is_in_order c).At-loop-at) l.args.required (point (goal.at.returns-then-not-is_in_order c).At-loop-at) (walk (goal.at.returns-then-not-is_in_order c).At-loop-at) l.loop-at.left l.loop-at.indirect_seen (left (goal.at.returns-then-not-is_in_order c).At-loop-at) (listed (goal.at.returns-then-not-is_in_order c).In-Listed) (omega (arith, length-drop l.loop-at.at (list (goal.at.returns-then-not-is_in_order c).At-loop-at), r.loop-at-test.true)) (omega (arith, r.if-left-eq0.false)) (read (goal.at.returns-then-not-is_in_order c).In-Listed) (sym o.is_in_order.ensures ∙ not-true _ c.if-not-is_in_order.true-raw))
+    let l = (goal.at.returns-then-not-is_in_order c).At-loop-at in
+    let o = (goal.at.returns-then-not-is_in_order c).In_ok-x in
+    sym (sym (whole l) ∙ turn_disordered (conf l) c.args.required (point l) (walk l) c.loop-at.left c.loop-at.indirect_seen (left l) (listed o)
+    (omega (arith, length-drop c.loop-at.at (list l), c.loop-at-test.true)) (omega (arith, c.if-left-eq0.false)) (read o) (sym c.is_in_order.ensures ∙ c.if-not-is_in_order.true))
 
 pub slice_bounds-entry-count : goal.slice_bounds-entry-count
-slice_bounds-entry-count c = (placed (goal.at.slice_bounds-entry-count c).In-Listed).1.ordered
+slice_bounds-entry-count c = (placed (goal.at.slice_bounds-entry-count c).In_ok-x).1.ordered
 
 pub slice_bounds-entry-start : goal.slice_bounds-entry-start
-slice_bounds-entry-start c = (placed (goal.at.slice_bounds-entry-start c).In-Listed).1.ordered
+slice_bounds-entry-start c = (placed (goal.at.slice_bounds-entry-start c).In_ok-x).1.ordered
 
 pub slice_bounds-entry-end : goal.slice_bounds-entry-end
-slice_bounds-entry-end c = (placed (goal.at.slice_bounds-entry-end c).In-Listed).1.inside
+slice_bounds-entry-end c = (placed (goal.at.slice_bounds-entry-end c).In_ok-x).1.inside
 
 pub overflow_add-at : goal.overflow_add-at
 overflow_add-at c =
-    let l = c in
-    let h = (within (goal.at.overflow_add-at c).In-Listed).1 in
-    omega (arith, h, l, l, l)
+    let h = (within (goal.at.overflow_add-at c).In_ok-x).1 in
+    omega (arith, h, c)
 
 pub is_quiet-requires : goal.is_quiet-requires
-is_quiet-requires c = (placed (goal.at.is_quiet-requires c).In-Listed).1.read
+is_quiet-requires c = (placed (goal.at.is_quiet-requires c).In_ok-x).1.read
 
 pub loop-at-smaller-then-is_quiet : goal.loop-at-smaller-then-is_quiet
-loop-at-smaller-then-is_quiet c = omega (arith, within (goal.at.loop-at-smaller-then-is_quiet c).In-Listed)
+loop-at-smaller-then-is_quiet c = omega (arith, within (goal.at.loop-at-smaller-then-is_quiet c).In_ok-x)
 
 pub loop-at-preserved-then-is_quiet : goal.loop-at-preserved-then-is_quiet
 loop-at-preserved-then-is_quiet c =
-    let t = c in
-    let k = t in
-    let l = k in
-    let x = entry (goal.at.loop-at-preserved-then-is_quiet c).In-Listed in
-    let s = part_of (slice (goal.at.loop-at-preserved-then-is_quiet c).After-read_entry) x.place x.end in
+    let o = (goal.at.loop-at-preserved-then-is_quiet c).In_ok-x in
+    let l = (goal.at.loop-at-preserved-then-is_quiet c).At-loop-at in
+    let x = c.in_ok-x.x in
+    let s = part_of (slice c.loop-at.at c.args.list.now) x.place x.end in
     let q = c.is_quiet.ensures c.if-is_quiet.true in
-    goes (goal.at.loop-at-preserved-then-is_quiet c).After-is_target-indirect_seen (walk (goal.at.loop-at-preserved-then-is_quiet c).At-loop-at)
-    (walked-quiet (conf (goal.at.loop-at-preserved-then-is_quiet c).At-loop-at) l.args.required (point (goal.at.loop-at-preserved-then-is_quiet c).At-loop-at) (walk (goal.at.loop-at-preserved-then-is_quiet c).At-loop-at) (aim_of x.aim) s x.state x.certified x.first_valid x.end q.0
-    (passed (conf (goal.at.loop-at-preserved-then-is_quiet c).At-loop-at) (point (goal.at.loop-at-preserved-then-is_quiet c).At-loop-at).view l.quick_of-quick.result s x.state l.quick_of-quick.ensures (placed (goal.at.loop-at-preserved-then-is_quiet c).In-Listed).1.read q.1))
+    goes o (walk l) c.is_some-indirect_seen.result (sym c.is_in_order.ensures ∙ c.if-not-is_in_order.false) c.is_some-indirect_seen.ensures
+    (walked-quiet (conf l) c.args.required (point l) (walk l) x.aim s x.state x.certified x.first_valid x.end q.0
+    (passed (conf l) (point l).view c.quick_of-quick.result s x.state c.quick_of-quick.ensures (placed o).1.read q.1))
 
 pub listed_gives-gives-requires : goal.listed_gives-gives-requires
-listed_gives-gives-requires c = (placed (goal.at.listed_gives-gives-requires c).In-Listed).1.read
+listed_gives-gives-requires c = (placed (goal.at.listed_gives-gives-requires c).In_ok-x).1.read
 
 pub loop-at-smaller-then-gives_nothing : goal.loop-at-smaller-then-gives_nothing
-loop-at-smaller-then-gives_nothing c = omega (arith, within (goal.at.loop-at-smaller-then-gives_nothing c).In-Listed)
+loop-at-smaller-then-gives_nothing c = omega (arith, within (goal.at.loop-at-smaller-then-gives_nothing c).In_ok-x)
 
 pub loop-at-preserved-then-gives_nothing : goal.loop-at-preserved-then-gives_nothing
 loop-at-preserved-then-gives_nothing c =
-    let g = c in
-    let u = g in
-    let t = u in
-    let k = t in
-    let l = k in
-    let x = entry (goal.at.loop-at-preserved-then-gives_nothing c).In-Listed in
-    goes (goal.at.loop-at-preserved-then-gives_nothing c).After-is_target-indirect_seen _
-    (walked-nothing (conf (goal.at.loop-at-preserved-then-gives_nothing c).At-loop-at) l.args.required (point (goal.at.loop-at-preserved-then-gives_nothing c).At-loop-at) (walk (goal.at.loop-at-preserved-then-gives_nothing c).At-loop-at) (listed (goal.at.loop-at-preserved-then-gives_nothing c).In-Listed) (gives_of g.listed_gives-gives.result) _ _ g.listed_gives-gives.ensures (sym c.gives_nothing.ensures ∙ c.if-gives_nothing.true)
-    (u.uncovers.ensures (part_of (slice (goal.at.loop-at-preserved-then-gives_nothing c).After-read_entry) x.place x.end)) g.either-uncovered.ensures)
+    let o = (goal.at.loop-at-preserved-then-gives_nothing c).In_ok-x in
+    let l = (goal.at.loop-at-preserved-then-gives_nothing c).At-loop-at in
+    let x = c.in_ok-x.x in
+    goes o _ c.is_some-indirect_seen.result (sym c.is_in_order.ensures ∙ c.if-not-is_in_order.false) c.is_some-indirect_seen.ensures
+    (walked-nothing (conf l) c.args.required (point l) (walk l) (listed o) (gives_of c.listed_gives-gives.result) _ _ c.listed_gives-gives.ensures (sym c.gives_nothing.ensures ∙ c.if-gives_nothing.true)
+    (c.uncovers-uncovered.ensures (part_of (slice c.loop-at.at c.args.list.now) x.place x.end)) refl)
 
 pub loop-at-smaller : goal.loop-at-smaller
-loop-at-smaller c = omega (arith, within (goal.at.loop-at-smaller c).In-Listed)
+loop-at-smaller c = omega (arith, within (goal.at.loop-at-smaller c).In_ok-x)
 
 pub loop-at-preserved : goal.loop-at-preserved
 loop-at-preserved c =
-    let g = c in
-    let u = g in
-    let t = u in
-    let k = t in
-    let l = k in
-    let x = entry (goal.at.loop-at-preserved c).In-Listed in
-    goes (goal.at.loop-at-preserved c).After-is_target-indirect_seen _
-    (walked_giving (conf (goal.at.loop-at-preserved c).At-loop-at) l.args.required (point (goal.at.loop-at-preserved c).At-loop-at) (walk (goal.at.loop-at-preserved c).At-loop-at) (listed (goal.at.loop-at-preserved c).In-Listed) (gives_of g.listed_gives-gives.result) t.is_target-indirect_seen.result _ _ (judging_of c.with_listed-judging.result) g.listed_gives-gives.ensures t.is_target-indirect_seen.ensures c.with_listed-judging.ensures
-    (u.uncovers.ensures (part_of (slice (goal.at.loop-at-preserved c).After-read_entry) x.place x.end)) g.either-uncovered.ensures)
+    let o = (goal.at.loop-at-preserved c).In_ok-x in
+    let l = (goal.at.loop-at-preserved c).At-loop-at in
+    let x = c.in_ok-x.x in
+    goes o _ c.is_some-indirect_seen.result (sym c.is_in_order.ensures ∙ c.if-not-is_in_order.false) c.is_some-indirect_seen.ensures
+    (walked_giving (conf l) c.args.required (point l) (walk l) (listed o) (gives_of c.listed_gives-gives.result) c.is_some-indirect_seen.result _ _ (judging_of c.with_listed-judging.result) c.listed_gives-gives.ensures c.is_some-indirect_seen.ensures c.with_listed-judging.ensures
+    (c.uncovers-uncovered.ensures (part_of (slice c.loop-at.at c.args.list.now) x.place x.end)) refl)
 
 pub returns : goal.returns
 returns c =
-    let l = c in
-    sym (sym (whole (goal.at.returns c).At-loop-at) ∙ walk_end (conf (goal.at.returns c).At-loop-at) l.args.required (point (goal.at.returns c).At-loop-at) (walk (goal.at.returns c).At-loop-at) l.loop-at.left l.loop-at.indirect_seen (left (goal.at.returns c).At-loop-at) (omega (arith, l.loop-at.invariant.0, length-drop l.loop-at.at (list (goal.at.returns c).At-loop-at))))
+    let l = (goal.at.returns c).At-loop-at in
+    sym (sym (whole l) ∙ walk_end (conf l) c.args.required (point l) (walk l) c.loop-at.left c.loop-at.indirect_seen (left l) (omega (arith, c.loop-at.invariant.0, length-drop c.loop-at.at (list l))))

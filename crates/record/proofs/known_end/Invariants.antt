@@ -1,11 +1,7 @@
--- `record::known_end` meets its contract. The invariant: `at` is where field `i` starts.
-use Prim.Native.Nat.{◌-◌, ◌≤◌}
+-- `record::known_end` meets its contract. The invariant: `at` is where the field of the next row starts.
 use mathlib.Core.Path.{◌≡◌}
 use Rattle.record.specs.Record.{start_of}
 use Rattle.record.proofs.known_end.Given as goal
 
-abbrev pub invariant-loop-i : goal.invariant-loop-i
-invariant-loop-i l = (l.i ≤ 9) × (l.at ≡ start_of l.s l.i)
-
-abbrev pub decreases-loop-i : goal.decreases-loop-i
-decreases-loop-i l = 9 - l.i
+abbrev pub invariant-loop : goal.invariant-loop
+invariant-loop l = l.at ≡ start_of l.s l.index

@@ -1,50 +1,30 @@
--- `record::record_end` meets its contract. The invariant: the record ends where the fields of the rows from `k` on end, the first of them at `at`.
-use Prim.Native.Nat.{◌+◌}
-use native.Mathlib.Omega.{arith}
-use native.Mathlib.Numerals.{add-one}
-use mathlib.Core.Path.{◌≡◌, sym, ◌∙◌}
-use mathlib.Core.Option.{none}
-use lib.ListN.{drop}
-use borrow.Author.Rules.{rules}
-use borrow.Author.Tests.{not-true, not-false}
-use Rattle.base.specs.Base.{pick}
-use Rattle.record.specs.Record.{rows, row_of, next_at, end_from, record_end}
-use Rattle.record.proofs.Laws.{next-within, fitting, end-start, end_step, end-last}
+-- `record::record_end` meets its contract.
+use Rattle.std.proofs.Common.{◌≡◌, sym, ◌∙◌, arith, add-one}
+use Rattle.record.specs.Record.{field_ok, rows, row_of}
+use Rattle.record.proofs.Laws.{next-within, fitting, end-start, end-last, walk_off, walk_past}
 use Rattle.record.proofs.record_end.Goals as goal
 use Rattle.record.proofs.record_end.Goals.{After-field_ok}
 
--- one turn: the field of row k, and after it those of the rows from k + 1 on
-turn : (c : After-field_ok) →
-    let l = c in
-    let s = l.args.s.now in
-    record_end s ≡ pick c.field_ok.result (end_from (drop (l.loop-k.k + 1) rows) s (next_at s l.loop-k.at)) none
+-- the row is the table's
+tested : (c : After-field_ok) → c.field_ok.result ≡ field_ok (row_of c.loop-row.row-index) c.args.s.now c.loop-row.at
 unfolding row_of rows
-turn c =
-    let l = c in
-    let s = l.args.s.now in
-    rw (c.field_ok.ensures, add-one l.loop-k.k) (l.loop-k.invariant.2 ∙ end_step s l.loop-k.at l.loop-k.k (omega arith))
+tested c = c.field_ok.ensures
 
-pub loop-k-init : goal.loop-k-init
-loop-k-init c = (search rules, search rules, end-start _)
+pub loop-row-init : goal.loop-row-init
+loop-row-init c = (omega arith, end-start _)
 
 pub returns-then-not-field_ok : goal.returns-then-not-field_ok
-returns-then-not-field_ok c = sym (turn (goal.at.returns-then-not-field_ok c).After-field_ok ∙ rw (not-true c.field_ok.result c.if-not-field_ok.true-raw))
+returns-then-not-field_ok c =
+    sym (walk_off _ _ _ c.loop-row.invariant.1 (omega arith) (sym (tested (goal.at.returns-then-not-field_ok c).After-field_ok) ∙ c.if-not-field_ok.true))
 
 pub field_end-at-requires : goal.field_end-at-requires
-field_end-at-requires c =
-    let f = c in
-    let l = f in
-    (fitting _ l.args.s.now l.loop-k.at (sym f.field_ok.ensures ∙ not-false _ c.if-not-field_ok.false-raw)).end
+field_end-at-requires c = (fitting _ _ _ (sym c.field_ok.ensures ∙ c.if-not-field_ok.false)).end
 
-pub loop-k-preserved : goal.loop-k-preserved
-loop-k-preserved c =
-    let f = c in
-    let l = f in
-    let s = l.args.s.now in
-    (search rules, omega (arith, next-within s l.loop-k.at, c.field_end-at.ensures), turn (goal.at.loop-k-preserved c).After-field_ok ∙ rw (not-false f.field_ok.result c.if-not-field_ok.false-raw, c.field_end-at.ensures))
+pub loop-row-preserved : goal.loop-row-preserved
+loop-row-preserved c = (
+  omega (arith, next-within),
+  rw (add-one, c.field_end-at.ensures) (walk_past _ _ _ c.loop-row.invariant.1 (omega arith) (sym (tested (goal.at.loop-row-preserved c).After-field_ok) ∙ c.if-not-field_ok.false)),
+)
 
 pub returns : goal.returns
-returns c =
-    let l = c in
-    let e : l.loop-k.k ≡ 9 = omega arith in
-    cc (end-last l.args.s.now l.loop-k.at)
+returns c = let e : c.loop-row.row-index ≡ 9 = omega arith in cc (end-last c.args.s.now c.loop-row.at)

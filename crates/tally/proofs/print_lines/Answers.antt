@@ -11,8 +11,8 @@ pub print_after-requires : goal.print_after-requires
 print_after-requires g c =
     let end = c.first-w.result.end in
     let s = c.first-w.new.buf in
-    let b = subst (Begins (take (end - 0) s)) c.in-Points.is c.begin-front.ensures.begins in
+    let b = c.in-Ok.ensures.begins in
     record {
       begins = (b.0, b.2, search rules);
-      held = (c.first-w.ensures.start, omega (arith, b.1, length-take (end - 0) s), search rules, search rules);
+      held = (c.first-w.ensures.start, omega (arith, b.1, length-take end s), search rules, search rules);
     }

@@ -1,6 +1,7 @@
--- `is_zero` meets its contract: zeros stand for the number 0.
-use Rattle.parts.proofs.Laws.{number_zero}
+-- `is_zero` meets its contract: `==` of a digest and zeros.
+use Rattle.std.proofs.Common.{◌∙◌, rules}
+use Rattle.verify_well_formed.proofs.Laws.{zero_digest}
 use Rattle.verify_well_formed.proofs.is_zero.Goals as goal
 
-pub returns-in-Digest : goal.returns-in-Digest
-returns-in-Digest c = rw c.in-Digest.is (rw number_zero at c.same.ensures)
+pub returns : goal.returns
+returns c = c.eq.ensures ∙ zero_digest c.args.digest (search rules)

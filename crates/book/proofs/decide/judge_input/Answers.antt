@@ -1,30 +1,36 @@
--- `judge_input` meets its contract: an answer before the list is needed, or what judging by it needs.
-use mathlib.Core.Path.{refl, ap, sym, ◌∙◌}
+-- `judge_input` meets its contract: a number, a verdict before the list is needed, or what judging by it needs.
+use Rattle.std.specs.Prelude.{Ok, Err}
+use Rattle.std.proofs.lemmas.Grind.{common_steps}
+use native.Mathlib.Omega.{arith}
+use mathlib.Core.Path.{◌≡◌, refl, ap, sym, ◌∙◌, subst}
 use Rattle.judge.specs.Code.{before_of}
-use Rattle.books.specs.Offer.{before_in}
-use Rattle.book.specs.Code.{input_of}
-use Rattle.book.proofs.OfferLaws.{ready-answered}
+use Rattle.books.specs.Offer.{offer_of, before_in}
+use Rattle.book.specs.Code.{input_of, Decides}
+use Rattle.book.proofs.OfferLaws.{ready-refused, ready-judged}
 use Rattle.book.proofs.decide.judge_input.Goals as goal
 
-pub returns-in-Answered : goal.returns-in-Answered
-returns-in-Answered c =
-    λ s x w h.
-    let k = c in
-    let b = k in
-    ready-answered h w _ b.before_list-before.ensures.buffer _ (sym b.before_list-before.ensures.same ∙ ap before_of k.in-Answered.is)
+pub returns-in_err-known : goal.returns-in_err-known
+returns-in_err-known c = λ s x w h.
+    let k = c.in_err-known in
+    let e : c.from_residual.result ≡ Err k.field-0.0 = grind (arith, common_steps) in
+    let a = c.args in
+    subst (λ r. Decides s (offer_of a.schedule.now a.leader a.rec.now a.peers.now) r x c.before_list.new.peers) (sym e) (ready-refused h w _ k.ensures.buffer _ (sym k.ensures.same))
+
+pub returns-in-Judged : goal.returns-in-Judged
+returns-in-Judged c = λ s x w h.
+    let k = c.in_ok-known in
+    ready-judged h w _ k.ensures.buffer _ (sym k.ensures.same ∙ ap (λ b. before_of (Ok b)) c.in-Judged.is)
 
 pub returns-in-Needed : goal.returns-in-Needed
 unfolding before_in
-returns-in-Needed c =
-    λ s x w h.
-    let k = c in
-    let b = k in
-    let a = b in
+returns-in-Needed c = λ s x w h.
+    let a = c.args in
+    let k = c.in_ok-known in
     record {
-      input = input_of a.args.input a.args.schedule.now a.args.rec.now;
+      input = input_of a.input a.schedule.now a.rec.now;
       ready = h;
-      reads = a.requires.reads;
+      reads = c.requires.reads;
       point = refl;
-      list = sym b.before_list-before.ensures.same ∙ ap before_of k.in-Needed.is;
-      peers = b.before_list-before.ensures.buffer;
+      list = sym k.ensures.same ∙ ap (λ b. before_of (Ok b)) c.in-Needed.is;
+      peers = k.ensures.buffer;
     }

@@ -8,17 +8,12 @@ use Rattle.book_certify.proofs.Entries.{id-round}
 use Rattle.book_certify.proofs.entry.round_of.Goals as goal
 
 pub overflow_add-place_at : goal.overflow_add-place_at
-overflow_add-place_at c =
-    let st = c in
-    omega (arith, c.place_at.ensures, st.requires.0.inside st.args.j st.requires.1, st.well_formed.0.0)
+overflow_add-place_at c = omega (arith, c.place_at.ensures, c.requires.0.inside c.args.j c.requires.1, c.well_formed.0.0)
 
 pub u32_at-requires : goal.u32_at-requires
-u32_at-requires c =
-    let st = c in
-    omega (arith, c.place_at.ensures, st.requires.0.inside st.args.j st.requires.1)
+u32_at-requires c = omega (arith, c.place_at.ensures, c.requires.0.inside c.args.j c.requires.1)
 
 pub returns : goal.returns
 returns c =
-    let st = c in
-    let s = st.args.book.now in
-    c.u32_at.ensures ∙ (ap (λ (p : ℕ). little_at 4 s (p + 3)) c.place_at.ensures ∙ sym (id-round s (place_in st.args.index.now st.args.j)))
+    let s = c.args.book.now in
+    c.u32_at.ensures ∙ (ap (λ (p : ℕ). little_at 4 s (p + 3)) c.place_at.ensures ∙ sym (id-round s (place_in c.args.index.now c.args.j)))

@@ -17,25 +17,20 @@ read c = stands (λ k. omega (arith, c.type_inv.book k)) c.requires.read.0
 -- both cursors lie in the index, and the walk is as long as it was
 few : (c : At-loop-left) → (c.loop-left.left ≤ 4096) × ((c.loop-left.k ≤ 4096) × (length c.loop-left.walk ≡ 8448))
 few c =
-    let st = c in
     let p = c.loop-left.invariant in
-    (omega (arith, p.here.within, st.requires.read.0.index.places.room), (omega (arith, p.above.within, st.requires.read.0.index.places.room), p.grown.sized ∙ st.requires.read.1.sized))
+    (omega (arith, p.here.within, c.requires.read.0.index.places.room), (omega (arith, p.above.within, c.requires.read.0.index.places.room), p.grown.sized ∙ c.requires.read.1.sized))
 
 above : (c : After-take) → 0 < c.loop-left.k
 above c = omega (arith, c.if-k-eq0.false)
 
 pub bounds-walk-depth : goal.bounds-walk-depth
-bounds-walk-depth c =
-    let st = c in
-    omega (arith, st.requires.fact.1.1, st.requires.read.1.sized, st.well_formed.0)
+bounds-walk-depth c = omega (arith, c.requires.fact.1.1, c.requires.read.1.sized, c.well_formed.0)
 
 pub overflow_cast-left : goal.overflow_cast-left
 overflow_cast-left c = omega (arith, c.type_inv.walk (8192 + c.args.depth))
 
 pub bounds-walk-depth-2 : goal.bounds-walk-depth-2
-bounds-walk-depth-2 c =
-    let st = c in
-    omega (arith, st.requires.fact.1.1, st.requires.read.1.sized, st.well_formed.0)
+bounds-walk-depth-2 c = omega (arith, c.requires.fact.1.1, c.requires.read.1.sized, c.well_formed.0)
 
 pub overflow_cast-k : goal.overflow_cast-k
 overflow_cast-k c =
@@ -44,8 +39,7 @@ overflow_cast-k c =
 
 pub loop-left-init : goal.loop-left-init
 loop-left-init c =
-    let st = c in
-    passing_start (settings_of st.args.by.conf) (stands (λ k. omega (arith, c.type_inv.book k)) st.requires.read.0) (point_id_of st.args.by.prev) st.args.depth st.args.back st.requires.fact.0 st.requires.fact.1.0 st.requires.fact.1.1 st.requires.read.1
+    passing_start (settings_of c.args.by.conf) (stands (λ k. omega (arith, c.type_inv.book k)) c.requires.read.0) (point_id_of c.args.by.prev) c.args.depth c.args.back c.requires.fact.0 c.requires.fact.1.0 c.requires.fact.1.1 c.requires.read.1
 
 pub overflow_sub-j : goal.overflow_sub-j
 overflow_sub-j c = omega (arith, c.loop-left-test.true)
@@ -74,33 +68,25 @@ overflow_cast-left-then-walk-j-eq1 c = omega (arith, c.type_inv.walk (4096 + (c.
 
 pub loop-left-smaller-then-walk-j-eq1 : goal.loop-left-smaller-then-walk-j-eq1
 loop-left-smaller-then-walk-j-eq1 c =
-    let l = c in
-    let st = l in
-    omega (arith, here-below (settings_of st.args.by.conf) (read (goal.at.loop-left-smaller-then-walk-j-eq1 c).At-loop-left) (point_id_of st.args.by.prev) st.args.depth st.args.back st.requires.fact.0 st.requires.fact.1.0 st.requires.fact.1.1 st.requires.read.1 l.loop-left.invariant c.loop-left-test.true)
+    omega (arith, here-below (settings_of c.args.by.conf) (read (goal.at.loop-left-smaller-then-walk-j-eq1 c).At-loop-left) (point_id_of c.args.by.prev) c.args.depth c.args.back c.requires.fact.0 c.requires.fact.1.0 c.requires.fact.1.1 c.requires.read.1 c.loop-left.invariant c.loop-left-test.true)
 
 pub loop-left-preserved-then-walk-j-eq1 : goal.loop-left-preserved-then-walk-j-eq1
 loop-left-preserved-then-walk-j-eq1 c =
-    let l = c in
-    let st = l in
-    passing_past (settings_of st.args.by.conf) (read (goal.at.loop-left-preserved-then-walk-j-eq1 c).At-loop-left) (point_id_of st.args.by.prev) st.args.depth st.args.back st.requires.fact.0 st.requires.fact.1.0 st.requires.fact.1.1 st.requires.read.1 l.loop-left.invariant c.loop-left-test.true c.if-walk-j-eq1.true
+    passing_past (settings_of c.args.by.conf) (read (goal.at.loop-left-preserved-then-walk-j-eq1 c).At-loop-left) (point_id_of c.args.by.prev) c.args.depth c.args.back c.requires.fact.0 c.requires.fact.1.0 c.requires.fact.1.1 c.requires.read.1 c.loop-left.invariant c.loop-left-test.true c.if-walk-j-eq1.true
 
 pub shape_of-walk-then-k-eq0 : goal.shape_of-walk-then-k-eq0
 shape_of-walk-then-k-eq0 c = c.loop-left.invariant.grown.sized
 
 pub returns-then-k-eq0 : goal.returns-then-k-eq0
 returns-then-k-eq0 c =
-    let l = c in
-    let st = l in
-    passed-all (settings_of st.args.by.conf) (read (goal.at.returns-then-k-eq0 c).At-loop-left) (point_id_of st.args.by.prev) st.args.depth st.args.back st.requires.fact.0 st.requires.fact.1.0 st.requires.fact.1.1 st.requires.read.1 l.loop-left.invariant c.if-k-eq0.true
+    passed-all (settings_of c.args.by.conf) (read (goal.at.returns-then-k-eq0 c).At-loop-left) (point_id_of c.args.by.prev) c.args.depth c.args.back c.requires.fact.0 c.requires.fact.1.0 c.requires.fact.1.1 c.requires.read.1 c.loop-left.invariant c.if-k-eq0.true
 
 pub overflow_sub-e : goal.overflow_sub-e
 overflow_sub-e c = omega (arith, c.if-k-eq0.false)
 
 pub take-requires : goal.take-requires
 take-requires c =
-    let l = c in
-    let st = l in
-    record { read = (st.requires.read.0, omega (arith, l.loop-left.invariant.above.within, c.if-k-eq0.false)); fact = (st.requires.fact.0, (few (goal.at.take-requires c).At-loop-left).1.1) }
+    record { read = (c.requires.read.0, omega (arith, c.loop-left.invariant.above.within, c.if-k-eq0.false)); fact = (c.requires.fact.0, (few (goal.at.take-requires c).At-loop-left).1.1) }
 
 pub overflow_add-k-in-loop-left : goal.overflow_add-k-in-loop-left
 overflow_add-k-in-loop-left c = omega (arith, few (goal.at.overflow_add-k-in-loop-left c).At-loop-left)
@@ -110,32 +96,23 @@ offset_bounds-walk-e c = omega (arith, few (goal.at.offset_bounds-walk-e c).At-l
 
 pub bounds-walk-e : goal.bounds-walk-e
 bounds-walk-e c =
-    let t = c in
     let f = few (goal.at.bounds-walk-e c).At-loop-left in
-    omega (arith, t.take.auto.walk, above (goal.at.bounds-walk-e c).After-take)
+    omega (arith, c.take.auto.walk, above (goal.at.bounds-walk-e c).After-take)
 
 pub overflow_cast-k-in-loop-left : goal.overflow_cast-k-in-loop-left
 overflow_cast-k-in-loop-left c = omega (arith, c.type_inv.walk (4096 + (c.loop-left.k - 1)))
 
 pub loop-left-smaller : goal.loop-left-smaller
 loop-left-smaller c =
-    let t = c in
-    let l = t in
-    let st = l in
-    omega (arith, above-below (settings_of st.args.by.conf) (read (goal.at.loop-left-smaller c).At-loop-left) (point_id_of st.args.by.prev) st.args.depth st.args.back st.requires.fact.0 st.requires.fact.1.0 st.requires.fact.1.1 st.requires.read.1 l.loop-left.invariant (above (goal.at.loop-left-smaller c).After-take) t.take.ensures)
+    omega (arith, above-below (settings_of c.args.by.conf) (read (goal.at.loop-left-smaller c).At-loop-left) (point_id_of c.args.by.prev) c.args.depth c.args.back c.requires.fact.0 c.requires.fact.1.0 c.requires.fact.1.1 c.requires.read.1 c.loop-left.invariant (above (goal.at.loop-left-smaller c).After-take) c.take.ensures)
 
 pub loop-left-preserved : goal.loop-left-preserved
 loop-left-preserved c =
-    let t = c in
-    let l = t in
-    let st = l in
-    passing_taken (settings_of st.args.by.conf) (read (goal.at.loop-left-preserved c).At-loop-left) (point_id_of st.args.by.prev) st.args.depth st.args.back st.requires.fact.0 st.requires.fact.1.0 st.requires.fact.1.1 st.requires.read.1 l.loop-left.invariant (above (goal.at.loop-left-preserved c).After-take) t.take.ensures
+    passing_taken (settings_of c.args.by.conf) (read (goal.at.loop-left-preserved c).At-loop-left) (point_id_of c.args.by.prev) c.args.depth c.args.back c.requires.fact.0 c.requires.fact.1.0 c.requires.fact.1.1 c.requires.read.1 c.loop-left.invariant (above (goal.at.loop-left-preserved c).After-take) c.take.ensures
 
 pub shape_of-walk : goal.shape_of-walk
 shape_of-walk c = c.loop-left.invariant.grown.sized
 
 pub returns : goal.returns
 returns c =
-    let l = c in
-    let st = l in
-    passed-full (settings_of st.args.by.conf) (read (goal.at.returns c).At-loop-left) (point_id_of st.args.by.prev) st.args.depth st.args.back st.requires.fact.0 st.requires.fact.1.0 st.requires.fact.1.1 st.requires.read.1 l.loop-left.invariant (omega (arith, c.loop-left-test.false))
+    passed-full (settings_of c.args.by.conf) (read (goal.at.returns c).At-loop-left) (point_id_of c.args.by.prev) c.args.depth c.args.back c.requires.fact.0 c.requires.fact.1.0 c.requires.fact.1.1 c.requires.read.1 c.loop-left.invariant (omega (arith, c.loop-left-test.false))

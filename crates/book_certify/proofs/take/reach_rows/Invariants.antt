@@ -1,5 +1,5 @@
 -- `reach_rows` meets its contract: what the rows that are left add, with what is reached, is what all of them add.
-use Prim.Native.Nat.{ℕ, ◌-◌, ◌≤◌}
+use Prim.Native.Nat.{ℕ}
 use mathlib.Core.Path.{◌≡◌}
 use mathlib.Core.List.{List}
 use lib.ListN.{length, drop}
@@ -9,9 +9,5 @@ use Rattle.book_certify.specs.Code.{Adds}
 use Rattle.book_certify.proofs.take.reach_rows.Given as goal
 
 abbrev pub invariant-loop-i : goal.invariant-loop-i
-invariant-loop-i l = (l.i ≤ length (pairs_of l.rows))
-    × ((length l.walk ≡ 8448)
-    × ((v : List ℕ) → Adds l.book l.index (is_among l.round (drop l.i (pairs_of l.rows))) l.walk v → Adds l.book l.index (is_among l.round (pairs_of l.rows)) l.initial.walk v))
-
-abbrev pub decreases-loop-i : goal.decreases-loop-i
-decreases-loop-i l = length (pairs_of l.rows) - l.i
+invariant-loop-i l = (length l.walk ≡ 8448)
+    × ((v : List ℕ) → Adds l.book l.index (is_among l.round (drop l.i (pairs_of l.rows))) l.walk v → Adds l.book l.index (is_among l.round (pairs_of l.rows)) l.initial.walk v)

@@ -1,12 +1,11 @@
 -- `judge_direct_list` meets its contract: the two maps, and the versions where there is no previous point.
+use Rattle.parts.specs.Code.{number}
+use Rattle.std.specs.Prelude.{Option, is_some, option_map}
 use mathlib.Core.Path.{◌≡◌, ap, sym, ◌∙◌}
 use mathlib.Core.Bool.{true}
-use mathlib.Core.Option.{Option}
 use Prim.Native.Nat.{ℕ}
 use Rattle.judge_valid.specs.Code.{point_view_of}
-use Rattle.base.specs.Base.{is_some}
 use Rattle.map.specs.Rows.{pairs_of}
-use Rattle.map.specs.Code.{found_of}
 use Rattle.point.specs.Point.{PointInfo, in_domain}
 use Rattle.point.specs.Code.{point_of}
 use Rattle.point.specs.declared.info.PointInfo as code-info
@@ -22,40 +21,30 @@ abbrev point : After-judge_map-both → code-info.PointInfo → PointInfo
 point c i = point_of c.args.rec.now i
 
 maps : (c : After-judge_map-both) (b : Book) (i : code-info.PointInfo) →
-    let st = c in
-    Asked st.args.book.now b st.args.index.now st.args.p (point c i) → in_domain (point c i) ≡ true →
+    Asked c.args.book.now b c.args.index.now c.args.by.view (point c i) → in_domain (point c i) ≡ true →
     judging_of c.judge_map-both.result
-    ≡ in_maps (settings_of st.args.conf) st.args.required (point_view_of st.args.p) b (point c i) start
+    ≡ in_maps (settings_of c.args.by.conf) c.args.by.required (point_view_of c.args.by.view) b (point c i) start
 maps c b i a d =
-    let st = c in
-    let m = c in
-    let n = m in
-    let w = n in
-    maps_judged (settings_of st.args.conf) st.args.required (point_view_of st.args.p) b (point c i) start
-    w.rounds_back-two.result w.rounds_back-one.result (pairs_of w.witness-far.result.now) (pairs_of n.includes-near.result.now)
-    (judging_of m.judge_map-done.result) (judging_of c.judge_map-both.result)
-    a.view d w.rounds_back-two.ensures w.rounds_back-one.ensures (ap pairs_of w.witness-far.ensures) (ap pairs_of n.includes-near.ensures)
-    (m.judge_map-done.ensures b (point c i) a) (c.judge_map-both.ensures b (point c i) a)
+    maps_judged (settings_of c.args.by.conf) c.args.by.required (point_view_of c.args.by.view) b (point c i) start
+    c.rounds_back-two.result c.rounds_back-one.result (pairs_of c.witness-far.result.now) (pairs_of c.includes-near.result.now)
+    (judging_of c.judge_map-done.result) (judging_of c.judge_map-both.result)
+    a.view d c.rounds_back-two.ensures c.rounds_back-one.ensures (ap pairs_of c.witness-far.ensures) (ap pairs_of c.includes-near.ensures)
+    (c.judge_map-done.ensures b (point c i) a) (c.judge_map-both.ensures b (point c i) a)
 
 pub judge_versions-requires : goal.judge_versions-requires
-judge_versions-requires c = let st = c in st.requires.entries
+judge_versions-requires c = c.requires.entries
 
-pub returns-in-Digest : goal.returns-in-Digest
-returns-in-Digest c =
+pub returns-in-Some : goal.returns-in-Some
+returns-in-Some c =
     λ b i a d.
-    let m = c in
-    let st = m in
-    let q = point (goal.at.returns-in-Digest c).After-judge_map-both i in
-    direct-linked (settings_of st.args.conf) st.args.required (point_view_of st.args.p) b q start (judging_of m.judge_map-both.result)
-    (ap (λ (o : Option ℕ). is_some o) (sym (view-prev (point_view_of st.args.p) q a.view) ∙ ap found_of c.in-Digest.is)) (maps (goal.at.returns-in-Digest c).After-judge_map-both b i a d)
+    let q = point (goal.at.returns-in-Some c).After-judge_map-both i in
+    direct-linked (settings_of c.args.by.conf) c.args.by.required (point_view_of c.args.by.view) b q start (judging_of c.judge_map-both.result)
+    (ap (λ (o : Option ℕ). is_some o) (sym (view-prev (point_view_of c.args.by.view) q a.view) ∙ ap (option_map number) c.in-Some.is)) (maps (goal.at.returns-in-Some c).After-judge_map-both b i a d)
 
-pub returns-in-Absent : goal.returns-in-Absent
-returns-in-Absent c =
+pub returns-in-None : goal.returns-in-None
+returns-in-None c =
     λ b i a d.
-    let t = c in
-    let m = t in
-    let st = m in
-    let q = point (goal.at.returns-in-Absent c).After-judge_map-both i in
-    versions-after (settings_of st.args.conf) st.args.required (point_view_of st.args.p) b q start (judging_of m.judge_map-both.result) _ a.view
-    (sym (view-prev (point_view_of st.args.p) q a.view) ∙ ap found_of t.in-Absent.is)
-    (maps (goal.at.returns-in-Absent c).After-judge_map-both b i a d) (c.judge_versions.ensures b a.holds)
+    let q = point (goal.at.returns-in-None c).After-judge_map-both i in
+    versions-after (settings_of c.args.by.conf) c.args.by.required (point_view_of c.args.by.view) b q start (judging_of c.judge_map-both.result) _ a.view
+    (sym (view-prev (point_view_of c.args.by.view) q a.view) ∙ ap (option_map number) c.in-None.is)
+    (maps (goal.at.returns-in-None c).After-judge_map-both b i a d) (c.judge_versions.ensures b a.holds)

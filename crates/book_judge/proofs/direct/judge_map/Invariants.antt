@@ -1,6 +1,4 @@
 -- `judge_map` meets its contract. The invariant: judging so far, over the dependencies that are left, gives what judging over all gives.
-use Prim.Native.Nat.{◌-◌, ◌≤◌}
-use lib.ListN.{length}
 use Rattle.judge_valid.specs.Code.{point_view_of}
 use Rattle.map.specs.Rows.{pairs_of}
 use Rattle.point.specs.Point as point
@@ -13,10 +11,7 @@ use Rattle.book_judge.proofs.Laws.{MapLeft}
 use Rattle.book_judge.proofs.direct.judge_map.Given as goal
 
 abbrev pub invariant-loop-i : goal.invariant-loop-i
-invariant-loop-i l = (l.i ≤ length (pairs_of l.rows))
-    × ((b : Book) (q : point.PointInfo) → Asked l.book b l.index l.by.view q → NoVersions q l.round (pairs_of l.rows) →
+invariant-loop-i l =
+    (b : Book) (q : point.PointInfo) → Asked l.book b l.index l.by.view q → NoVersions q l.round (pairs_of l.rows) →
     MapLeft (settings_of l.by.conf) l.by.required (point_view_of l.by.view) b q l.round (pairs_of l.rows)
-    (direct_fold (settings_of l.by.conf) l.by.required (point_view_of l.by.view) (judging_of l.initial.judging) (lookups b q l.round (pairs_of l.rows))) l.i (judging_of l.judging))
-
-abbrev pub decreases-loop-i : goal.decreases-loop-i
-decreases-loop-i l = length (pairs_of l.rows) - l.i
+    (direct_fold (settings_of l.by.conf) l.by.required (point_view_of l.by.view) (judging_of l.initial.judging) (lookups b q l.round (pairs_of l.rows))) l.i (judging_of l.judging)

@@ -1,5 +1,4 @@
 -- `judge_versions` meets its contract. The invariant: the versions so far, over the entries that are left, give what all entries give.
-use Prim.Native.Nat.{◌-◌, ◌≤◌}
 use Rattle.judge_valid.specs.Code.{point_view_of}
 use Rattle.schedule.specs.Code.{settings_of}
 use Rattle.books.specs.Kept.{Book}
@@ -9,9 +8,6 @@ use Rattle.book_judge.proofs.Versions.{versions_fold, VersionsLeft}
 use Rattle.book_judge.proofs.direct.judge_versions.Given as goal
 
 abbrev pub invariant-loop-j : goal.invariant-loop-j
-invariant-loop-j l = (l.j ≤ l.n)
-    × ((b : Book) → Holds l.book b l.index →
-    VersionsLeft (settings_of l.by.conf) l.by.required (point_view_of l.by.view) b (versions_fold (settings_of l.by.conf) l.by.required (point_view_of l.by.view) (versions_of l.initial.so_far) b) l.j (versions_of l.so_far))
-
-abbrev pub decreases-loop-j : goal.decreases-loop-j
-decreases-loop-j l = l.n - l.j
+invariant-loop-j l =
+    (b : Book) → Holds l.book b l.index →
+    VersionsLeft (settings_of l.by.conf) l.by.required (point_view_of l.by.view) b (versions_fold (settings_of l.by.conf) l.by.required (point_view_of l.by.view) (versions_of l.initial.so_far) b) l.j (versions_of l.so_far)

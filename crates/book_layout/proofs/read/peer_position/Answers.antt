@@ -1,53 +1,53 @@
 -- `peer_position` meets its contract: the peer has a position in the link's map exactly if the link is named.
+use Rattle.std.specs.Prelude.{Some, is_some}
+use Prim.Native.Nat.{ℕ, ◌≤◌}
 use native.Mathlib.Omega.{arith}
 use mathlib.Core.Path.{◌≡◌}
-use mathlib.Core.Option.{some}
+use mathlib.Core.Bool.{true}
+use mathlib.Core.List.{List}
+use lib.ListN.{length}
+use borrow.Author.Rules.{rules}
 use Rattle.base.proofs.Option.{some_of}
-use Rattle.point.specs.Point.{PointInfo}
-use Rattle.point.specs.Reading.{read_point}
-use Rattle.point.proofs.Laws.{Readable, readable}
+use Rattle.parts.specs.Bytes.{id_at}
+use Rattle.map.specs.Rows.{peers_of, rising, find}
+use Rattle.point.specs.Point.{PointInfo, AnchorLink}
+use Rattle.point.specs.Reading.{read_point, read_link}
+use Rattle.point.proofs.Laws.{readable}
+use Rattle.rules.specs.List.{is_named}
 use Rattle.book_layout.proofs.Named.{map-rises, map-few, includes-named, witness-named}
 use Rattle.book_layout.proofs.read.peer_position.Goals as goal
-use Rattle.book_layout.proofs.read.peer_position.Goals.{After-id_at-peer}
+use Rattle.book_layout.proofs.read.peer_position.Goals.{After-id_at, in-0, in_default}
 
-point : (c : After-id_at-peer) → (q : PointInfo) × (read_point c.args.rec.now ≡ some q)
-point c = some_of _ c.requires.reads.0
+-- what the rows of the link's map have
+record Told (q : PointInfo) (link rows : List ℕ) : Type 0 where
+  rise : rising (peers_of 64 rows) ≡ true
+  few : length (peers_of 64 rows) ≤ 255
+  named : (l : AnchorLink) → read_link link ≡ Some l → is_some (find (peers_of 64 rows) (id_at link 2)) ≡ is_named q l
 
-parts : (c : After-id_at-peer) → Readable c.args.rec.now (point c).0
-parts c = readable _ (point c).0 (point c).1
+told : (c : After-id_at) (q : PointInfo) → read_point c.args.rec.now ≡ Some q → Told q c.args.link.now c.match-link.rows.now
+told c q h =
+    let m = readable _ q h in
+    elim c.match-link.branch [
+      | in-0 w ↦ rw (w.rows-is, w.content_from-rows.ensures) (record {
+        rise = map-rises _ _ m.includes;
+        few = map-few _ _ m.includes;
+        named = λ l g. includes-named _ l g q c.requires.reads.1.1 _ m.includes.are w.in-0.is;
+      })
+      | in_default w ↦ rw (w.rows-is, w.content_from-rows-in_default.ensures) (record {
+        rise = map-rises _ _ m.witness;
+        few = map-few _ _ m.witness;
+        named = λ l g. witness-named _ l g q c.requires.reads.1.1 _ m.witness.are (λ e. search rules);
+      })
+    ]
 
-pub content_from-requires : goal.content_from-requires
-content_from-requires c =
-    let i = c in
-    let p = i.requires.places in
-    record { rec_value = ((parts (goal.at.content_from-requires c).After-id_at-peer).shaped, omega arith); at_value = (p.0, p.1.0) }
+found : (c : After-id_at) → (q : PointInfo) × (read_point c.args.rec.now ≡ Some q)
+found c = some_of _ c.requires.reads.0
 
 pub search-requires : goal.search-requires
 search-requires c =
-    let m = (parts (goal.at.search-requires c).After-id_at-peer).includes in
-    record { le_width = (omega arith, rw c.content_from.ensures (map-rises _ _ m)); rows_len_bound = rw c.content_from.ensures (map-few _ _ m) }
-
-pub returns-then-link-eq0 : goal.returns-then-link-eq0
-returns-then-link-eq0 c = λ q l h g.
-    let t = c in
-    let i = t in
-    rw (c.search.ensures, c.content_from.ensures, i.id_at-peer.ensures)
-    (includes-named _ l g q i.requires.reads.1.1 _ (readable _ q h).includes.are t.if-link-eq0.true)
-
-pub content_from-requires-2 : goal.content_from-requires-2
-content_from-requires-2 c =
-    let i = c in
-    let p = i.requires.places in
-    record { rec_value = ((parts (goal.at.content_from-requires-2 c).After-id_at-peer).shaped, omega arith); at_value = (p.1.0, p.1.1) }
-
-pub search-requires-2 : goal.search-requires-2
-search-requires-2 c =
-    let m = (parts (goal.at.search-requires-2 c).After-id_at-peer).witness in
-    record { le_width = (omega arith, rw c.content_from-2.ensures (map-rises _ _ m)); rows_len_bound = rw c.content_from-2.ensures (map-few _ _ m) }
+    let q = found c in
+    let t = told c q.0 q.1 in
+    record { le_width = (omega arith, t.rise); rows_len_bound = t.few }
 
 pub returns : goal.returns
-returns c = λ q l h g.
-    let t = c in
-    let i = t in
-    rw (c.search-2.ensures, c.content_from-2.ensures, i.id_at-peer.ensures)
-    (witness-named _ l g q i.requires.reads.1.1 _ (readable _ q h).witness.are t.if-link-eq0.false)
+returns c = λ q l h g. rw (c.search.ensures, c.id_at.ensures) ((told (goal.at.returns c).After-id_at q h).named l g)

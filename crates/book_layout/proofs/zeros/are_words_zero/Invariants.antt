@@ -1,12 +1,11 @@
--- `are_words_zero` meets its contract. The invariant: the bytes from `at` on decide.
-use Prim.Native.Nat.{◌-◌, ◌≤◌}
+-- `are_words_zero` meets its contract. The invariant: the bytes that are left decide.
 use mathlib.Core.Path.{◌≡◌}
-use lib.ListN.{length, drop}
+use lib.ListN.{length}
 use Rattle.books.specs.Layout.{is_zeros}
 use Rattle.book_layout.proofs.zeros.are_words_zero.Given as goal
 
-abbrev pub invariant-loop-at : goal.invariant-loop-at
-invariant-loop-at l = (l.at ≤ length l.s) × (is_zeros (drop l.at l.s) ≡ is_zeros (drop l.from l.s))
+abbrev pub invariant-loop-rest : goal.invariant-loop-rest
+invariant-loop-rest l = is_zeros l.rest ≡ is_zeros l.s
 
-abbrev pub decreases-loop-at : goal.decreases-loop-at
-decreases-loop-at l = length l.s - l.at
+abbrev pub decreases-loop-rest : goal.decreases-loop-rest
+decreases-loop-rest l = length l.rest

@@ -1,34 +1,13 @@
--- `is_zeros` meets its contract. The invariant: the bytes from `at` on decide.
-use native.Mathlib.Omega.{arith}
-use mathlib.Core.Path.{refl, sym, ◌∙◌}
-use borrow.Author.Rules.{rules}
-use borrow.Author.Tests.{not-true, not-false}
-use Rattle.book_layout.proofs.Laws.{line_not, line_zero}
+-- `is_zeros` meets its contract: each 64 bytes decide, and then those that are left.
+use mathlib.Core.Path.{sym, ◌∙◌}
+use Rattle.book_layout.proofs.Laws.{front_not, front_zero}
 use Rattle.book_layout.proofs.zeros.is_zeros.Goals as goal
 
-pub loop-at-init : goal.loop-at-init
-loop-at-init c = (search rules, refl)
+pub returns-then-not-are_words_zero : goal.returns-then-not-are_words_zero
+returns-then-not-are_words_zero c =
+    sym (sym c.loop-rest.invariant ∙ front_not 64 _ _ c.split_at.ensures.front (sym c.are_words_zero.ensures ∙ c.if-not-are_words_zero.true))
 
-pub is_line_zero-requires : goal.is_line_zero-requires
-is_line_zero-requires c = omega arith
-
-pub returns-then-not-is_line_zero : goal.returns-then-not-is_line_zero
-returns-then-not-is_line_zero c =
-    let u = c in
-    let l = u in
-    sym (sym l.loop-at.invariant.1 ∙ line_not l.args.s.now l.loop-at.at _ u.is_line_zero.ensures (not-true _ c.if-not-is_line_zero.true-raw))
-
-pub overflow_add-at : goal.overflow_add-at
-overflow_add-at c = omega arith
-
-pub loop-at-smaller : goal.loop-at-smaller
-loop-at-smaller c = omega arith
-
-pub loop-at-preserved : goal.loop-at-preserved
-loop-at-preserved c =
-    let u = c in
-    let l = u in
-    (omega arith, line_zero l.args.s.now l.loop-at.at _ u.is_line_zero.ensures (not-false _ c.if-not-is_line_zero.false-raw) ∙ l.loop-at.invariant.1)
-
-pub returns : goal.returns
-returns c = c.are_words_zero.ensures ∙ c.loop-at.invariant.1
+pub loop-rest-preserved : goal.loop-rest-preserved
+loop-rest-preserved c =
+    let w = c.split_at.ensures in
+    rw w.back (front_zero 64 _ _ w.front (sym c.are_words_zero.ensures ∙ c.if-not-are_words_zero.false)) ∙ c.loop-rest.invariant

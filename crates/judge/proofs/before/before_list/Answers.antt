@@ -1,18 +1,11 @@
 -- `before_list` meets its contract: a verification that didn't pass ends it.
-use mathlib.Core.Path.{ap}
-use Rattle.reasons.specs.Code.{verified_of}
-use Rattle.judge.proofs.Laws.{before_failed, before-passed, buffered}
+use Rattle.std.specs.Result.{result_err}
+use mathlib.Core.Path.{ap, refl}
+use Rattle.judge.proofs.Laws.{before_failed, before-passed}
 use Rattle.judge.proofs.before.before_list.Goals as goal
 
-pub returns-in_default : goal.returns-in_default
-returns-in_default c =
-    let t = c in
-    let v = t.verify_point-verified in
-    let e = ap verified_of t.in_default.is in
-    record { same = before_failed _ _ _ _ _ t.verify_point-verified.ensures.same _ _ e (c.of_verified.ensures _ e); buffer = buffered _ _ _ _ _ _ t.verify_point-verified.ensures.same t.verify_point-verified.ensures.buffer }
+pub returns-clause-same : goal.returns-clause-same
+returns-clause-same c = before_failed _ _ _ _ _ c.in-Err.ensures.same _ _ refl c.of_error.ensures
 
-pub returns : goal.returns
-returns c =
-    let t = c in
-    let v = t.verify_point-verified in
-    record { same = before-passed _ _ _ _ _ t.verify_point-verified.ensures.same _ (ap verified_of t.in-Passed.is) (c.before_verified.ensures _); buffer = buffered _ _ _ _ _ _ t.verify_point-verified.ensures.same t.verify_point-verified.ensures.buffer }
+pub returns-in_default-clause-same : goal.returns-in_default-clause-same
+returns-in_default-clause-same c = before-passed _ _ _ _ _ c.in_default.ensures.same _ refl (c.before_verified.ensures _)

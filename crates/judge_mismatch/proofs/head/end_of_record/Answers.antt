@@ -1,9 +1,9 @@
 -- `end_of_record` meets its contract.
+use Rattle.std.specs.Prelude.{Some}
 use mathlib.Core.Path.{◌≡◌, ap, sym, ◌∙◌}
 use native.Mathlib.Omega.{arith}
 use Prim.Native.Nat.{◌+◌, ◌≤◌}
 use lib.ListN.{length}
-use mathlib.Core.Option.{some}
 use Rattle.base.proofs.Lists.{rest}
 use Rattle.record.specs.Record.{record_end}
 use Rattle.judge_mismatch.specs.Code.{end_in}
@@ -13,7 +13,7 @@ use Rattle.judge_mismatch.proofs.head.end_of_record.Goals.{After-known_end}
 
 known : (c : After-known_end) →
     let a = c.args in
-    (end_in a.at a.s.now ≡ some (a.at + c.known_end.result)) × (a.at + c.known_end.result ≤ length a.s.now)
+    (end_in a.at a.s.now ≡ Some (a.at + c.known_end.result)) × (a.at + c.known_end.result ≤ length a.s.now)
 known c =
     let a = c.args in
     end_known _ _ _ (ap record_end (sym (rest a.at a.s.now)) ∙ c.known_end.ensures)

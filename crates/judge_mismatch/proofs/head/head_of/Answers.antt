@@ -1,7 +1,7 @@
 -- `head_of` meets its contract: what `head-is` says of an entry that was read is what the code reads.
+use Rattle.std.specs.Prelude.{is_some}
 use mathlib.Core.Path.{ap, sym, ◌∙◌}
 use native.Mathlib.Omega.{arith}
-use Rattle.base.specs.Base.{is_some}
 use Rattle.base.proofs.Option.{some_of}
 use Rattle.rules.specs.List.{Listed, read_entry}
 use Rattle.judge_mismatch.specs.Code.{aim_at, flags_at}
@@ -44,8 +44,7 @@ entry_end-requires c = let h = shown (goal.at.entry_end-requires c).After-flags_
 
 pub returns : goal.returns
 returns c =
-    let f = c in
     let h = shown (goal.at.returns c).After-flags_at-flags in
     let e = c.entry_end.ensures in
     let g = h.end in
-    head_made _ (first (goal.at.returns c).Start) _ _ _ _ (some_of _ f.requires).1 (c.aim.ensures ∙ sym h.for) (sym h.dropped) (c.id_after.ensures ∙ sym h.id) (cc)
+    head_made _ (first (goal.at.returns c).Start) _ _ _ _ (some_of _ c.requires).1 (c.aim.ensures ∙ sym h.for) (sym h.dropped) (c.id_after.ensures ∙ sym h.id) (cc)

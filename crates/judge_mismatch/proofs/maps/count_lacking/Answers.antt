@@ -6,11 +6,11 @@ use Rattle.judge_mismatch.proofs.maps.count_lacking.Goals as goal
 pub loop-i-init : goal.loop-i-init
 loop-i-init c = counted_start _ _ _
 
-pub loop-i-preserved-then-seen-from-eq0 : goal.loop-i-preserved-then-seen-from-eq0
-loop-i-preserved-then-seen-from-eq0 c = let l = c in counted_zero l.loop-i.invariant (omega arith) c.if-seen-from-eq0.true
+pub loop-i-preserved-then-seen-from-ne0 : goal.loop-i-preserved-then-seen-from-ne0
+loop-i-preserved-then-seen-from-ne0 c = counted-other c.loop-i.invariant (omega arith) c.if-seen-from-ne0.true
 
 pub loop-i-preserved : goal.loop-i-preserved
-loop-i-preserved c = let l = c in counted-other l.loop-i.invariant (omega arith) c.if-seen-from-eq0.false
+loop-i-preserved c = counted_zero c.loop-i.invariant (omega arith) c.if-seen-from-ne0.false
 
 pub returns : goal.returns
 returns c = counted-end c.loop-i.invariant c.loop-i-test.false

@@ -20,41 +20,32 @@ witness : (c : After-count-then-presence-eq3) →
     let a = c.args in
     c.count-then-presence-eq3.result ≡ length (pairs_in (point_of a.rec.now a.info) 1)
 witness c =
-    let s = c in
-    c.count-then-presence-eq3.ensures ∙ rows-count _ _ _ c.witness.ensures (map_at _ _ (readable _ _ s.requires.reads.read) 1)
+    c.count-then-presence-eq3.ensures ∙ rows-count _ _ _ c.witness.ensures (map_at _ _ (readable _ _ c.requires.reads.read) 1)
 
 pub count_lacking-includes-requires : goal.count_lacking-includes-requires
 count_lacking-includes-requires c =
     let e = includes c in
-    let s = c in
-    omega (arith, s.requires.seen_len, (map_at _ _ (readable _ _ s.requires.reads.read) 0).few)
+    omega (arith, c.requires.seen_len, (map_at _ _ (readable _ _ c.requires.reads.read) 0).few)
 
 pub count_lacking-requires : goal.count_lacking-requires
 count_lacking-requires c =
     let e = witness c in
-    let s = c in
-    omega (arith, s.requires.seen_len, (map_at _ _ (readable _ _ s.requires.reads.read) 1).few)
+    omega (arith, c.requires.seen_len, (map_at _ _ (readable _ _ c.requires.reads.read) 1).few)
 
 pub overflow_add-result : goal.overflow_add-result
 overflow_add-result c =
-    let l = c in
-    let s = l in
-    let seen = s.args.seen.now in
-    let i = zeros-few l.count.result 0 seen in
+    let seen = c.args.seen.now in
+    let i = zeros-few c.count.result 0 seen in
     let w = zeros-few c.count-then-presence-eq3.result 255 seen in
-    omega (arith, includes (goal.at.overflow_add-result c).After-count, witness (goal.at.overflow_add-result c).After-count-then-presence-eq3, c.count_lacking.ensures, l.count_lacking-includes.ensures, (map_at _ _ (readable _ _ s.requires.reads.read) 0).few, (map_at _ _ (readable _ _ s.requires.reads.read) 1).few)
+    omega (arith, includes (goal.at.overflow_add-result c).After-count, witness (goal.at.overflow_add-result c).After-count-then-presence-eq3, c.count_lacking.ensures, c.count_lacking-includes.ensures, (map_at _ _ (readable _ _ c.requires.reads.read) 0).few, (map_at _ _ (readable _ _ c.requires.reads.read) 1).few)
 
 pub returns-then-presence-eq3 : goal.returns-then-presence-eq3
 returns-then-presence-eq3 c =
-    let l = c in
-    let s = l in
-    let seen = s.args.seen.now in
-    let i = l.count_lacking-includes.ensures ∙ ap (λ (n : ℕ). zeros_in n 0 seen) (includes (goal.at.returns-then-presence-eq3 c).After-count) in
+    let seen = c.args.seen.now in
+    let i = c.count_lacking-includes.ensures ∙ ap (λ (n : ℕ). zeros_in n 0 seen) (includes (goal.at.returns-then-presence-eq3 c).After-count) in
     let w = c.count_lacking.ensures ∙ ap (λ (n : ℕ). zeros_in n 255 seen) (witness (goal.at.returns-then-presence-eq3 c).After-count-then-presence-eq3) in
     rw (i, w) (sym (zeros-three _ _ _ c.if-presence-eq3.true))
 
 pub returns : goal.returns
 returns c =
-    let l = c in
-    let s = l in
-    l.count_lacking-includes.ensures ∙ (ap (λ (n : ℕ). zeros_in n 0 s.args.seen.now) (includes (goal.at.returns c).After-count) ∙ sym (zeros-other _ _ _ c.if-presence-eq3.false))
+    c.count_lacking-includes.ensures ∙ (ap (λ (n : ℕ). zeros_in n 0 c.args.seen.now) (includes (goal.at.returns c).After-count) ∙ sym (zeros-other _ _ _ c.if-presence-eq3.false))

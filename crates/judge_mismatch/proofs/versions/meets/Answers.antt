@@ -5,6 +5,8 @@ use lib.ListN.{length}
 use Rattle.point.specs.Code.{point_id_of}
 use Rattle.judge_mismatch.proofs.Heads.{reads-head}
 use Rattle.judge_mismatch.proofs.Own.{Met, met, found-is, absent-is, meeting_start, meeting_end, meeting_found, meeting_absent, meeting_other}
+use Rattle.base.proofs.Option.{unfound, some_of}
+use mathlib.Core.Path.{sym, ◌∙◌}
 use Rattle.judge_mismatch.proofs.versions.meets.Goals as goal
 use Rattle.judge_mismatch.proofs.versions.meets.Goals.{After-struct_known-1, After-version_at-v}
 
@@ -12,20 +14,16 @@ abbrev at-After-version_at-v-from-After-struct_known-1 : (c : After-struct_known
 at-After-version_at-v-from-After-struct_known-1 c = record { before = c.before.before.before; type_inv = record { index = c.type_inv.index; list = c.type_inv.list } }
 
 here : (c : After-version_at-v) →
-    let l = c in
-    let a = l.args in
-    Met (point_id_of a.own) a.list.now l.loop-at.at c.version_at-v.result
+    let a = c.args in
+    Met (point_id_of a.own) a.list.now c.loop-at.at c.version_at-v.result
 here c =
-    let t = c in
-    met _ _ _ _ t.loop-at.invariant.reads t.loop-at-test.true c.version_at-v.ensures
+    met _ _ _ _ c.loop-at.invariant.reads c.loop-at-test.true c.version_at-v.ensures
 
 fits : (c : After-version_at-v) → c.loop-at.at + c.version_at-v.result.size < 18446744073709551616
 fits c = let m = here c in omega (arith, m.next.within)
 
 inside : (c : After-struct_known-1) →
-    let v = c in
-    let l = v in
-    l.loop-at.at + v.version_at-v.result.place + 71 ≤ length l.args.list.now
+    c.loop-at.at + c.version_at-v.result.place + 71 ≤ length c.args.list.now
 inside c = ((here (at-After-version_at-v-from-After-struct_known-1 c)).own_first c.if-v.true).0
 
 pub loop-at-init : goal.loop-at-init
@@ -46,13 +44,10 @@ point_id_at-id-requires c = omega (arith, inside c)
 pub find-requires : goal.find-requires
 find-requires c = c.requires.index
 
-pub returns-in_default : goal.returns-in_default
-returns-in_default c =
-    let f = c in
-    let i = f in
-    let t = i in
-    let v = t in
-    meeting_found v.loop-at.invariant _ (here (goal.at.returns-in_default c).After-version_at-v) t.if-v.true _ (found-is _ _ _ _ _ _ c.in_default.is i.point_id_at-id.ensures f.find.ensures)
+pub returns-then-is_some : goal.returns-then-is_some
+returns-then-is_some c =
+    let found = some_of _ (sym c.is_some.ensures ∙ c.if-is_some.true) in
+    meeting_found c.loop-at.invariant _ (here (goal.at.returns-then-is_some c).After-version_at-v) c.if-v.true _ (found-is _ _ _ _ _ _ found.1 c.point_id_at-id.ensures c.find.ensures)
 
 pub overflow_add-at-then-v-2 : goal.overflow_add-at-then-v-2
 overflow_add-at-then-v-2 c = omega (arith, fits (goal.at.overflow_add-at-then-v-2 c).After-version_at-v)
@@ -62,12 +57,8 @@ loop-at-smaller-then-v c = let m = here (goal.at.loop-at-smaller-then-v c).After
 
 pub loop-at-preserved-then-v : goal.loop-at-preserved-then-v
 loop-at-preserved-then-v c =
-    let e = c in
-    let f = e in
-    let i = f in
-    let t = i in
-    let v = t in
-    meeting_absent v.loop-at.invariant _ (here (goal.at.loop-at-preserved-then-v c).After-version_at-v) t.if-v.true (absent-is _ _ _ _ _ e.in-Absent.is i.point_id_at-id.ensures f.find.ensures)
+    meeting_absent c.loop-at.invariant _ (here (goal.at.loop-at-preserved-then-v c).After-version_at-v) c.if-v.true
+    (absent-is _ _ _ _ _ (unfound _ (sym c.is_some.ensures ∙ c.if-is_some.false)) c.point_id_at-id.ensures c.find.ensures)
 
 pub overflow_add-at-else-v : goal.overflow_add-at-else-v
 overflow_add-at-else-v c = let m = here (goal.at.overflow_add-at-else-v c).After-version_at-v in omega (arith, m.next.within)

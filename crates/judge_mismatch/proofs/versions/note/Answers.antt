@@ -12,12 +12,10 @@ use Rattle.judge_mismatch.proofs.versions.note.Goals as goal
 use Rattle.judge_mismatch.proofs.versions.note.Goals.{After-version_at-v, Else-not-has_room}
 
 here : (c : After-version_at-v) →
-    let l = c in
-    let a = l.args in
-    Met (point_id_of a.own) a.list.now l.loop-at.at c.version_at-v.result
+    let a = c.args in
+    Met (point_id_of a.own) a.list.now c.loop-at.at c.version_at-v.result
 here c =
-    let t = c in
-    met _ _ _ _ t.loop-at.invariant.reads t.loop-at-test.true c.version_at-v.ensures
+    met _ _ _ _ c.loop-at.invariant.reads c.loop-at-test.true c.version_at-v.ensures
 
 room : (c : Else-not-has_room) → HasRoom (count_of c.loop-at.index) c.loop-at.at true
 room c = room-there _ _ c.has_room.result c.has_room.ensures c.if-not-has_room.false-raw
@@ -42,9 +40,7 @@ overflow_add-at c = let m = here (goal.at.overflow_add-at c).After-version_at-v 
 
 pub add-requires : goal.add-requires
 add-requires c =
-    let e = c in
-    let v = e in
-    (v.loop-at.invariant.noted.places.sized, ((room (goal.at.add-requires c).Else-not-has_room).0, omega (arith, (here (goal.at.add-requires c).After-version_at-v).near, (room (goal.at.add-requires c).Else-not-has_room).1)))
+    (c.loop-at.invariant.noted.places.sized, ((room (goal.at.add-requires c).Else-not-has_room).0, omega (arith, (here (goal.at.add-requires c).After-version_at-v).near, (room (goal.at.add-requires c).Else-not-has_room).1)))
 
 pub overflow_add-at-then-v : goal.overflow_add-at-then-v
 overflow_add-at-then-v c = let m = here (goal.at.overflow_add-at-then-v c).After-version_at-v in omega (arith, m.next.within)
@@ -54,11 +50,7 @@ loop-at-smaller-then-v c = let m = here (goal.at.loop-at-smaller-then-v c).After
 
 pub loop-at-preserved-then-v : goal.loop-at-preserved-then-v
 loop-at-preserved-then-v c =
-    let a = c in
-    let e = a in
-    let t = e in
-    let v = t in
-    rw a.add.ensures (noting_own v.loop-at.invariant _ (here (goal.at.loop-at-preserved-then-v c).After-version_at-v) t.if-v.true (room (goal.at.loop-at-preserved-then-v c).Else-not-has_room).0)
+    rw c.add.ensures (noting_own c.loop-at.invariant _ (here (goal.at.loop-at-preserved-then-v c).After-version_at-v) c.if-v.true (room (goal.at.loop-at-preserved-then-v c).Else-not-has_room).0)
 
 pub overflow_add-at-else-v : goal.overflow_add-at-else-v
 overflow_add-at-else-v c = let m = here (goal.at.overflow_add-at-else-v c).After-version_at-v in omega (arith, m.next.within)

@@ -1,9 +1,9 @@
 -- `own_twice` meets its contract: each block is tested with all that stands after it (`Blocks`).
+use Rattle.std.specs.Prelude.{is_some}
 use native.Mathlib.Omega.{arith}
 use mathlib.Core.Path.{ap, ◌∙◌}
 use mathlib.Core.List.{List}
 use Prim.Native.Nat.{ℕ}
-use Rattle.base.specs.Base.{is_some}
 use Rattle.base.proofs.Lists.{rest}
 use Rattle.rules.specs.List.{read_list}
 use Rattle.judge_mismatch.proofs.Own.{blocks_start, blocks_end, blocks_more, blocks_within, blocks_twice, blocks_next}
@@ -14,8 +14,7 @@ loop-at-init c = blocks_start _ _ c.requires
 
 pub read_block-block-requires : goal.read_block-block-requires
 read_block-block-requires c =
-    let l = c in
-    ap (λ (t : List ℕ). is_some (read_list t)) (rest l.loop-at.at l.args.list.now) ∙ l.loop-at.invariant.reads.left
+    ap (λ (t : List ℕ). is_some (read_list t)) (rest c.loop-at.at c.args.list.now) ∙ c.loop-at.invariant.reads.left
 
 pub returns-then-block : goal.returns-then-block
 returns-then-block c = let r = c in blocks_twice r.loop-at.invariant _ r.read_block-block.ensures c.if-block.true
@@ -25,9 +24,7 @@ overflow_add-at c = let r = c in omega (arith, blocks_within r.loop-at.invariant
 
 pub loop-at-smaller : goal.loop-at-smaller
 loop-at-smaller c =
-    let r = c in
-    let l = r in
-    omega (arith, blocks_within l.loop-at.invariant _ r.read_block-block.ensures, blocks_more l.loop-at.invariant _ r.read_block-block.ensures r.loop-at-test.true)
+    omega (arith, blocks_within c.loop-at.invariant _ c.read_block-block.ensures, blocks_more c.loop-at.invariant _ c.read_block-block.ensures c.loop-at-test.true)
 
 pub loop-at-preserved : goal.loop-at-preserved
 loop-at-preserved c = let r = c in blocks_next r.loop-at.invariant _ r.read_block-block.ensures c.if-block.false

@@ -5,5 +5,4 @@ use Rattle.judge_mismatch.proofs.versions.version_at.Goals as goal
 
 pub returns : goal.returns
 returns c =
-    let h = c in
-    version-is _ _ _ _ h.requires h.head_of-head.ensures refl c.is_own.ensures c.id_field.ensures
+    version-is _ _ _ _ c.requires c.head_of-head.ensures refl c.is_own.ensures c.id_field.ensures

@@ -1,10 +1,10 @@
 -- `is_mismatch` meets its contract: each `return` is one of the four parts of `mismatch`.
+use Rattle.std.specs.Prelude.{is_some}
 use mathlib.Core.Path.{refl, ap, sym, ◌∙◌}
 use Prim.Native.Nat.{ℕ, ◌≤◌}
 use native.Mathlib.Omega.{arith}
 use mathlib.Core.Bool.{false, not}
 use mathlib.Core.List.{List}
-use Rattle.base.specs.Base.{is_some}
 use Rattle.base.proofs.Lists.{rest}
 use Rattle.point.specs.Code.{point_of}
 use Rattle.rules.specs.List.{read_list, directs, indirects}
@@ -24,13 +24,11 @@ placed : (c : Else-walked) →
 placed c = found-false _ _ _ _ _ _ _ c.if-walked.false c.walk-walked.ensures
 
 enough : (c : Else-walked-lacking) →
-    let o = c in
-    let a = o.args in
-    let w = o.walk-walked in
-    zeros a.presence (point_of a.rec.now a.info) o.walk-walked.new.seen ≤ w.result.dropped
+    let a = c.args in
+    let w = c.walk-walked in
+    zeros a.presence (point_of a.rec.now a.info) c.walk-walked.new.seen ≤ w.result.dropped
 enough c =
-    let k = c in
-    let z = k.lacking.ensures in
+    let z = c.lacking.ensures in
     omega arith
 
 pub returns-then-stand_twice : goal.returns-then-stand_twice
@@ -38,8 +36,7 @@ returns-then-stand_twice c = λ l e. sym (mismatch-twice _ _ _ l e (sym c.stand_
 
 pub walk-walked-requires : goal.walk-walked-requires
 walk-walked-requires c =
-    let e = c in
-    record { reads = e.requires.reads; list_value = (e.requires.list_value, sym e.stand_twice.ensures ∙ e.if-stand_twice.false); seen_value = refl }
+    record { reads = c.requires.reads; list_value = (c.requires.list_value, sym c.stand_twice.ensures ∙ c.if-stand_twice.false); seen_value = refl }
 
 pub returns-then-walked : goal.returns-then-walked
 returns-then-walked c = λ l e. sym (mismatch_failed _ _ _ l e (found-true _ _ _ _ _ _ _ c.if-walked.true c.walk-walked.ensures))
@@ -47,16 +44,13 @@ returns-then-walked c = λ l e. sym (mismatch_failed _ _ _ l e (found-true _ _ _
 pub returns-then-walked-lacking : goal.returns-then-walked-lacking
 returns-then-walked-lacking c =
     λ l e.
-    let k = c in
-    let z = k.lacking.ensures in
+    let z = c.lacking.ensures in
     sym (mismatch-lacking _ _ _ l e (placed (goal.at.returns-then-walked-lacking c).Else-walked) (omega arith))
 
 pub returns-then-has_absent_targets : goal.returns-then-has_absent_targets
 returns-then-has_absent_targets c =
     λ l e.
-    let a = c in
-    let k = a in
-    sym (mismatch-absent _ _ _ l e (placed (goal.at.returns-then-has_absent_targets c).Else-walked) (enough (goal.at.returns-then-has_absent_targets c).Else-walked-lacking) (sym a.has_absent_targets.ensures ∙ c.if-has_absent_targets.true))
+    sym (mismatch-absent _ _ _ l e (placed (goal.at.returns-then-has_absent_targets c).Else-walked) (enough (goal.at.returns-then-has_absent_targets c).Else-walked-lacking) (sym c.has_absent_targets.ensures ∙ c.if-has_absent_targets.true))
 
 pub slice_bounds-are_targets-count : goal.slice_bounds-are_targets-count
 slice_bounds-are_targets-count c = (placed (goal.at.slice_bounds-are_targets-count c).Else-walked).within
@@ -73,9 +67,7 @@ are_targets-requires c =
 pub returns : goal.returns
 returns c =
     λ l e.
-    let a = c in
-    let o = c in
-    let s = o.args in
+    let s = c.args in
     let t = rest (w-end (goal.at.returns c).Else-walked) s.list.now in
     ap not (c.are_targets.ensures s.rec.now ∙ ap (λ (k : List ℕ). all_targets (point_of s.rec.now s.info) false false (indirects (listed k))) t)
-    ∙ sym (mismatch-targets _ _ _ l e (placed (goal.at.returns c).Else-walked) (enough (goal.at.returns c).Else-walked-lacking) (sym a.has_absent_targets.ensures ∙ c.if-has_absent_targets.false))
+    ∙ sym (mismatch-targets _ _ _ l e (placed (goal.at.returns c).Else-walked) (enough (goal.at.returns c).Else-walked-lacking) (sym c.has_absent_targets.ensures ∙ c.if-has_absent_targets.false))

@@ -1,8 +1,8 @@
 -- `dependency_gives` meets its contract: the reason and the root cause by what was called for them.
+use Rattle.std.specs.Prelude.{Option}
 use Prim.Native.Nat.{ℕ}
 use mathlib.Core.Path.{◌≡◌, ap, ◌∙◌}
 use mathlib.Core.Bool.{Bool}
-use mathlib.Core.Option.{Option}
 use Rattle.point.specs.Point.{PointId, Through}
 use Rattle.schedule.specs.Settings.{Settings}
 use Rattle.schedule.specs.Code.{settings_of}
@@ -21,8 +21,7 @@ recorded c round certified d t i o h g e = h ∙ ap (λ (x : Through). record_of
 
 pub returns : goal.returns
 returns c = λ first.
-    let t = c in
-    let a = t.args in
+    let a = c.args in
     let s = a.rec.now in
     let conf = settings_of a.conf in
     let p = point_view_of a.p in
@@ -35,4 +34,4 @@ returns c = λ first.
     _
     _
     c.dependency_reason.ensures
-    (recorded conf p.id.round a.certified (dag_point_of s a.point) _ _ _ (c.record_of.ensures s) t.direct_through-through.ensures (t.id.ensures s))
+    (recorded conf p.id.round a.certified (dag_point_of s a.point) _ _ _ (c.record_of.ensures s) c.direct_through-direct.ensures (c.id.ensures s))

@@ -43,8 +43,7 @@ content_from-id-requires c = record { rec_value = (well c, omega arith); at_valu
 
 pub content_from-times-requires : goal.content_from-times-requires
 content_from-times-requires c =
-    let f = c in
-    record { rec_value = (well (goal.at.content_from-times-requires c).After-find_places-at, omega arith); at_value = (f.find_places-at.ensures.times, sym (end_is (slice (goal.at.content_from-times-requires c).After-find_places-at) _ (shaped-end (slice (goal.at.content_from-times-requires c).After-find_places-at) (well (goal.at.content_from-times-requires c).After-find_places-at)))) }
+    record { rec_value = (well (goal.at.content_from-times-requires c).After-find_places-at, omega arith); at_value = (c.find_places-at.ensures.times, sym (end_is (slice (goal.at.content_from-times-requires c).After-find_places-at) _ (shaped-end (slice (goal.at.content_from-times-requires c).After-find_places-at) (well (goal.at.content_from-times-requires c).After-find_places-at)))) }
 
 pub u32_at-round-requires : goal.u32_at-round-requires
 u32_at-round-requires c = let h = id-long c in omega arith
@@ -74,33 +73,26 @@ top_round-requires-2 c = let k = c in rw k.content_from-trigger.ensures (content
 pub u64_at-requires-3 : goal.u64_at-requires-3
 unfolding row_of rows
 u64_at-requires-3 c =
-    let k = c in
     let h = content-least _ (well (goal.at.u64_at-requires-3 c).After-find_places-at) 8 (omega arith) in
-    rw k.content_from-times.ensures (omega arith)
+    rw c.content_from-times.ensures (omega arith)
 
 pub returns : goal.returns
 unfolding point_id_at
 returns c =
     λ q e.
-    let t2 = c in
-    let t1 = t2 in
-    let w2 = t1 in
-    let w1 = w2 in
-    let n = w1 in
-    let k = n in
     let s = slice (goal.at.returns c).After-find_places-at in
-    let b : Bytes s = λ i. omega (arith, k.type_inv.rec i) in
+    let b : Bytes s = λ i. omega (arith, c.type_inv.rec i) in
     let m = asked s q e in
-    let id = k.content_from-id.ensures in
-    let proof = k.content_from-proof.ensures in
-    let trigger = k.content_from-trigger.ensures in
-    let role = k.content_from-role.ensures in
-    let round = n.u32_at-round.ensures ∙ (ap (λ (l : List ℕ). little_at 4 l 0) id ∙ sym (ap (λ (i : PointId). i.round) m.id)) in
+    let id = c.content_from-id.ensures in
+    let proof = c.content_from-proof.ensures in
+    let trigger = c.content_from-trigger.ensures in
+    let role = c.content_from-role.ensures in
+    let round = c.u32_at-round.ensures ∙ (ap (λ (l : List ℕ). little_at 4 l 0) id ∙ sym (ap (λ (i : PointId). i.round) m.id)) in
     record {
       round = round;
-      digest = word_read (content_of s 0) _ 4 _ _ (content-bytes s 0 b) (id-room (goal.at.returns c).After-content_from-times) id w1.u64_at.ensures w1.swapped.ensures ∙ sym (ap (λ (i : PointId). first_word i.digest) m.id);
-      author = word_read (content_of s 0) _ 36 _ _ (content-bytes s 0 b) (id-all (goal.at.returns c).After-content_from-times) id w2.u64_at-2.ensures w2.swapped-2.ensures ∙ sym (ap (λ (i : PointId). first_word i.author) m.id);
-      proof_round = top_read Proof q _ _ _ (t1.top_round.ensures _ (ap read_link proof ∙ m.proof)) (t1.is_proof.ensures _ (ap read_role role ∙ m.role)) round;
-      trigger_round = top_read Trigger q _ _ _ (t2.top_round-2.ensures _ (ap read_link trigger ∙ m.trigger)) (t2.is_trigger.ensures _ (ap read_role role ∙ m.role)) round;
-      time = c.u64_at-3.ensures ∙ (ap (λ (l : List ℕ). little_at 8 l 0) k.content_from-times.ensures ∙ sym m.time);
+      digest = word_read (content_of s 0) _ 4 _ _ (content-bytes s 0 b) (id-room (goal.at.returns c).After-content_from-times) id c.u64_at.ensures c.swapped.ensures ∙ sym (ap (λ (i : PointId). first_word i.digest) m.id);
+      author = word_read (content_of s 0) _ 36 _ _ (content-bytes s 0 b) (id-all (goal.at.returns c).After-content_from-times) id c.u64_at-2.ensures c.swapped-2.ensures ∙ sym (ap (λ (i : PointId). first_word i.author) m.id);
+      proof_round = top_read Proof q _ _ _ (c.top_round.ensures _ (ap read_link proof ∙ m.proof)) (c.is_proof.ensures _ (ap read_role role ∙ m.role)) round;
+      trigger_round = top_read Trigger q _ _ _ (c.top_round-2.ensures _ (ap read_link trigger ∙ m.trigger)) (c.is_trigger.ensures _ (ap read_role role ∙ m.role)) round;
+      time = c.u64_at-3.ensures ∙ (ap (λ (l : List ℕ). little_at 8 l 0) c.content_from-times.ensures ∙ sym m.time);
     }

@@ -11,10 +11,8 @@ returns-then-link-ge102 c = λ l e. rw c.if-has_role.false (c.u32_at.ensures ∙
 
 pub returns-then-link-eq0 : goal.returns-then-link-eq0
 returns-then-link-eq0 c = λ l e.
-    let f = c in
-    rw f.if-has_role.false (c.rounds_back.ensures ∙ target-includes _ _ l e f.if-link-ge102.false c.if-link-eq0.true)
+    rw c.if-has_role.false (c.rounds_back.ensures ∙ target-includes _ _ l e c.if-link-ge102.false c.if-link-eq0.true)
 
 pub returns : goal.returns
 returns c = λ l e.
-    let f = c in
-    rw f.if-has_role.false (c.rounds_back-2.ensures ∙ target-witness _ _ l e f.if-link-ge102.false c.if-link-eq0.false)
+    rw c.if-has_role.false (c.rounds_back-2.ensures ∙ target-witness _ _ l e c.if-link-ge102.false c.if-link-eq0.false)

@@ -1,24 +1,21 @@
--- `record_size` meets its contract: each case by its equation.
+-- `record_size` meets its contract: where the record ends, or the length.
+use Rattle.std.specs.Prelude.{Option, None, Some, unwrap_or}
+use Rattle.std.proofs.lemmas.Grind.{common_steps}
 use native.Mathlib.Omega.{arith}
-use mathlib.Core.Path.{◌≡◌, ap, sym, ◌∙◌}
-use mathlib.Core.Option.{none, some}
-use Rattle.record.specs.Code.{end_of}
+use mathlib.Core.Path.{◌≡◌, subst, sym}
+use lib.ListN.{length}
+use Prim.Native.Nat.{◌≤◌}
 use Rattle.record.specs.Record.{record_end}
-use Rattle.record.proofs.Laws.{end-within}
-use Rattle.tally_feed.proofs.Laws.{size_of}
+use Rattle.tally_feed.specs.Tally.{record_size}
+use Rattle.tally_feed.proofs.Laws.{size-inside}
 use Rattle.tally_feed.proofs.next.record_size.Goals as goal
+use Rattle.tally_feed.proofs.next.record_size.Goals.{After-unwrap_or}
 
-pub returns-in-At : goal.returns-in-At
-returns-in-At c =
-    let r = c in
-    let s = r.args.s.now in
-    let n = c.in-At.n in
-    let e : record_end s ≡ some n = sym r.record_end-end.ensures ∙ ap end_of c.in-At.is in
-    record { same = sym (size_of s (some n) e); within = end-within s n e }
+same : (c : After-unwrap_or) → c.unwrap_or.result ≡ record_size c.args.s.now
+unfolding record_size
+same c = grind (arith, common_steps)
 
-pub returns-in-Unreadable : goal.returns-in-Unreadable
-returns-in-Unreadable c =
-    let r = c in
-    let s = r.args.s.now in
-    let e : record_end s ≡ none = sym r.record_end-end.ensures ∙ ap end_of c.in-Unreadable.is in
-    record { same = sym (size_of s none e); within = omega arith }
+pub returns : goal.returns
+returns c =
+    let e = same (goal.at.returns c).After-unwrap_or in
+    record { same = e; within = subst (λ n. n ≤ length c.args.s.now) (sym e) (size-inside c.args.s.now) }

@@ -1,9 +1,0 @@
--- `has_absent_targets` meets its contract.
-use borrow.Author.Tests.{eq-eqb, ne_eqb}
-use Rattle.judge_mismatch.proofs.walk.has_absent_targets.Goals as goal
-
-pub returns-then-presence-eq3 : goal.returns-then-presence-eq3
-returns-then-presence-eq3 c = rw (eq-eqb _ _ c.if-presence-eq3.true)
-
-pub returns : goal.returns
-returns c = rw (ne_eqb _ _ c.if-presence-eq3.false)

@@ -1,0 +1,40 @@
+-- The maps of a record that was read as a point: their peers rise, and none has over 255.
+use Prim.Native.Nat.{ℕ, ◌≤◌}
+use mathlib.Core.Path.{◌≡◌, ap, sym, ◌∙◌}
+use mathlib.Core.Bool.{true}
+use mathlib.Core.List.{List}
+use lib.ListN.{length}
+use Rattle.map.specs.Rows.{peers_of, pairs_of, peers, rising}
+use Rattle.map.proofs.Laws.{peers-pairs_of, peers-length}
+use Rattle.record.specs.Record.{content_of}
+use Rattle.point.specs.Code.{Reads}
+use Rattle.point.specs.declared.info.PointInfo as code-info
+use Rattle.point.proofs.Laws.{readable}
+
+-- the peers of a map are those of its rows, as many as its pairs
+pub pairs_peers : (s : List ℕ) → peers (pairs_of s) ≡ peers_of 64 s
+pairs_peers s = peers-pairs_of s
+
+pub pairs_many : (s : List ℕ) → length (pairs_of s) ≡ length (peers_of 64 s)
+pairs_many s = sym (peers-length (pairs_of s)) ∙ ap length (peers-pairs_of s)
+
+module _ (s : List ℕ) (i : code-info.PointInfo) (r : Reads s i) where
+  pub includes_rises : rising (peers_of 64 (content_of s 2)) ≡ true
+  includes_rises = rw (← pairs_peers (content_of s 2)) (readable s _ r.read).includes.rise
+
+  pub includes_short : length (peers_of 64 (content_of s 2)) ≤ 255
+  includes_short = rw (← pairs_many (content_of s 2)) (readable s _ r.read).includes.few
+
+  pub witness_rises : rising (peers_of 64 (content_of s 3)) ≡ true
+  witness_rises = rw (← pairs_peers (content_of s 3)) (readable s _ r.read).witness.rise
+
+  pub witness_short : length (peers_of 64 (content_of s 3)) ≤ 255
+  witness_short = rw (← pairs_many (content_of s 3)) (readable s _ r.read).witness.few
+
+  pub evidence_rises : rising (peers_of 32 (content_of s 4)) ≡ true
+  evidence_rises = (readable s _ r.read).evidence.rise
+
+  pub evidence_short : length (peers_of 32 (content_of s 4)) ≤ 255
+  evidence_short = (readable s _ r.read).evidence.few
+
+pub ruleset map_facts = (pairs_peers, pairs_many, includes_rises, includes_short, witness_rises, witness_short, evidence_rises, evidence_short)

@@ -1,8 +1,0 @@
--- `Through::round` meets its contract.
-use Rattle.point.proofs.link.Through.round.Goals as goal
-
-pub returns-in-Includes : goal.returns-in-Includes
-returns-in-Includes c = rw c.in-Includes.is c.rounds_back.ensures
-
-pub returns-in-Witness : goal.returns-in-Witness
-returns-in-Witness c = rw c.in-Witness.is c.rounds_back-in-Witness.ensures
