@@ -6,10 +6,8 @@ use mathlib.Core.List.{List, [], ◌∷◌}
 use lib.ListN.{length, set}
 use Rattle.parts.specs.Bytes.{put_at}
 use Rattle.write.proofs.Laws.{put_is}
-use Rattle.reasons.specs.IllFormed.{issue_answer, ill_formed_number, ill_formed_answer}
+use Rattle.reasons.specs.IllFormed.{ill_formed_number, ill_formed_answer}
 use Rattle.reasons.specs.Invalid.{InvalidReason, NoRoundInDag, DependencyRoundDropped, NotTrigger, TerminalTriggerBeforeLastProof, TimeNotGreaterThanInPrevPoint, AnchorProofDoesntInheritAnchorTime, AnchorTimeNotInheritedFromProof, MustHaveReferencedPrevPoint, MustHaveSkippedRound, DependencyTimeTooFarInFuture, NewerAnchorInDependency, AnchorLink, AnchorLinkRole, AnchorLinkBadPath, BadStickySequence, TriggerProofMismatch, DepIllFormed, DepNotFound, invalid_number, invalid_answer}
-use Rattle.reasons.specs.declared.ill_formed.StructureIssue.{StructureIssue}
-use Rattle.reasons.specs.declared.ill_formed.StructureIssue.TheVariants.{ExpectedGenesis, BadGenesisPrevPoint, AuthorInMap, TriggerBadProofLink, Link, AnchorTime, NoPrevPoint}
 use Rattle.reasons.specs.declared.ill_formed.IllFormedReason.{IllFormedReason}
 use Rattle.reasons.specs.declared.ill_formed.IllFormedReason.TheVariants.{BeforeGenesis, UnknownAuthor, FalseGenesis, TooLargePayload, Structure, TooManyStickyAnchors, BadLastStickyFlag, LinksAcrossGenesis, MustBeEmpty, UnknownPeers, UnknownPeerInAnchorLink, LackOfPeers, NotRegular, BadWaveLink}
 use Rattle.answer.specs.Code.{values_in, named, plain}
@@ -19,15 +17,6 @@ pub set_put : (l : List ℕ) (i x : ℕ) → i < length l → set l i x ≡ put_
 set_put l i x h = put_is l i (x ∷ []) (omega arith)
 
 -- ---- an answer is made of its reason's number, the point that it names, and what it carries
-
-pub issue_parts : (i : StructureIssue) → values_in (issue_answer i) ≡ values_in (ill_formed_answer (Structure i))
-issue_parts (ExpectedGenesis b) = refl
-issue_parts BadGenesisPrevPoint = refl
-issue_parts (AuthorInMap m) = refl
-issue_parts TriggerBadProofLink = refl
-issue_parts (Link g m) = refl
-issue_parts AnchorTime = refl
-issue_parts NoPrevPoint = refl
 
 pub ill_formed_parts : (r : IllFormedReason) → plain 3 (ill_formed_number r) (values_in (ill_formed_answer r)) ≡ ill_formed_answer r
 ill_formed_parts BeforeGenesis = refl

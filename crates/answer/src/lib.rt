@@ -3,20 +3,18 @@
 
 ghost use Rattle.std.specs.Prelude.{◌≡◌, ◌≤◌, length};
 ghost use Rattle.parts.specs.Bytes.{put_at};
-ghost use Rattle.point.specs.Code.{point_id_of, through_of};
+ghost use Rattle.point.specs.Code.{point_id_of};
 ghost use Rattle.reasons.specs.Code.{reason_of, dependency_of, verdict_of};
 ghost use Rattle.reasons.specs.IllFormed.{issue_answer, ill_formed_answer, error_answer};
-ghost use Rattle.reasons.specs.Invalid.{prev_seq_no, invalid_answer};
+ghost use Rattle.reasons.specs.Invalid.{invalid_answer};
 ghost use Rattle.reasons.specs.Verdict.{TransInvalid};
-ghost use Rattle.reasons.specs.declared.ill_formed.VerifyError.TheVariants as case-error;
-ghost use Rattle.rules.specs.Answer.{verified_answer, through_number, verdict_answer, head_bytes, number_bytes, root_bytes, answer_bytes};
+ghost use Rattle.rules.specs.Answer.{verified_answer, verdict_answer, head_bytes, number_bytes, root_bytes, answer_bytes};
 ghost use Rattle.answer.specs.Code.{values_in, named, plain, values_of, answer_of};
 
 use parts::Id;
-use point::{PointId, Through};
+use point::{PointId, PointMap};
 use reasons::{
-    IllFormedReason, InvalidDependency, InvalidReason, StructureIssue, UninitVset, Verdict,
-    VerifyError,
+    IllFormedReason, InvalidDependency, InvalidReason, StructureIssue, Verdict, VerifyError,
 };
 
 // What a reason carries beside its number.
@@ -54,68 +52,72 @@ const NOTHING: Values = Values {
     unknown: 0,
 };
 
-fn of_issue(issue: StructureIssue) -> Values
-    ensures { values_of result ≡ values_in (issue_answer issue) }
-{
-    let (first, second, map, role) = match issue {
-        StructureIssue::ExpectedGenesis(b) => (1, b as u32, NONE, NONE),
-        StructureIssue::BadGenesisPrevPoint => (2, 0, NONE, NONE),
-        StructureIssue::AuthorInMap(map) => (3, 0, map as u8, NONE),
-        StructureIssue::TriggerBadProofLink => (4, 0, NONE, NONE),
-        StructureIssue::Link { role, map } => (5, 0, map as u8, role as u8),
-        StructureIssue::AnchorTime => (6, 0, NONE, NONE),
-        StructureIssue::NoPrevPoint => (7, 0, NONE, NONE),
-    };
-    Values {
-        map,
-        role,
-        first,
-        second,
-        ..NOTHING
+impl From<StructureIssue> for Values {
+    ghost from_gives = { λ issue values. values_of values ≡ values_in (issue_answer issue) };
+
+    fn from(issue: StructureIssue) -> Values {
+        let (first, second, map, role) = match issue {
+            StructureIssue::ExpectedGenesis(b) => (1, b as u32, NONE, NONE),
+            StructureIssue::BadGenesisPrevPoint => (2, 0, NONE, NONE),
+            StructureIssue::AuthorInMap(map) => (3, 0, map as u8, NONE),
+            StructureIssue::TriggerBadProofLink => (4, 0, NONE, NONE),
+            StructureIssue::Link { role, map } => (5, 0, map as u8, role as u8),
+            StructureIssue::AnchorTime => (6, 0, NONE, NONE),
+            StructureIssue::NoPrevPoint => (7, 0, NONE, NONE),
+        };
+        Values {
+            map,
+            role,
+            first,
+            second,
+            ..NOTHING
+        }
     }
 }
 
-fn of_ill_formed(reason: IllFormedReason) -> Values
-    ensures { values_of result ≡ values_in (ill_formed_answer reason) }
-{
-    match reason {
-        IllFormedReason::BeforeGenesis
-        | IllFormedReason::UnknownAuthor
-        | IllFormedReason::FalseGenesis
-        | IllFormedReason::BadLastStickyFlag
-        | IllFormedReason::LinksAcrossGenesis
-        | IllFormedReason::NotRegular => NOTHING,
-        IllFormedReason::TooLargePayload(first) => Values { first, ..NOTHING },
-        IllFormedReason::Structure(issue) => of_issue(issue),
-        IllFormedReason::TooManyStickyAnchors(n) => Values {
-            first: n as u32,
-            ..NOTHING
-        },
-        IllFormedReason::MustBeEmpty(map) => Values {
-            map: map as u8,
-            ..NOTHING
-        },
-        IllFormedReason::UnknownPeers { unknown, map } => {
-            Values {
-                map: map as u8,
-                unknown,
+impl From<IllFormedReason> for Values {
+    ghost from_gives = { λ reason values. values_of values ≡ values_in (ill_formed_answer reason) };
+
+    fn from(reason: IllFormedReason) -> Values {
+        match reason {
+            IllFormedReason::BeforeGenesis
+            | IllFormedReason::UnknownAuthor
+            | IllFormedReason::FalseGenesis
+            | IllFormedReason::BadLastStickyFlag
+            | IllFormedReason::LinksAcrossGenesis
+            | IllFormedReason::NotRegular => NOTHING,
+            IllFormedReason::TooLargePayload(first) => Values { first, ..NOTHING },
+            IllFormedReason::Structure(issue) => issue.into(),
+            IllFormedReason::TooManyStickyAnchors(n) => Values {
+                first: n as u32,
                 ..NOTHING
+            },
+            IllFormedReason::MustBeEmpty(map) => Values {
+                map: map as u8,
+                ..NOTHING
+            },
+            IllFormedReason::UnknownPeers { unknown, map } => {
+                Values {
+                    map: map as u8,
+                    unknown,
+                    ..NOTHING
+                }
             }
+            IllFormedReason::UnknownPeerInAnchorLink(role) => Values {
+                role: role as u8,
+                ..NOTHING
+            },
+            IllFormedReason::LackOfPeers { len, total, map } => Values {
+                map: map as u8,
+                first: len as u32,
+                second: total.0 as u32,
+                ..NOTHING
+            },
+            IllFormedReason::BadWaveLink(b) => Values {
+                first: b as u32,
+                ..NOTHING
+            },
         }
-        IllFormedReason::UnknownPeerInAnchorLink(role) => Values {
-            role: role as u8,
-            ..NOTHING
-        },
-        IllFormedReason::LackOfPeers { len, total, map } => Values {
-            map: map as u8,
-            first: len as u32,
-            second: total.0 as u32,
-            ..NOTHING
-        },
-        IllFormedReason::BadWaveLink(b) => Values {
-            first: b as u32,
-            ..NOTHING
-        },
     }
 }
 
@@ -146,88 +148,85 @@ fn plain(kind: u8, reason: u8, v: Values) -> Answer
     named(kind, reason, point::NO_POINT, v)
 }
 
-fn of_fail(u: UninitVset) -> Answer
-    ensures { answer_of result ≡ error_answer (case-error.Fail u) }
-{
-    plain(
-        4,
-        0,
-        Values {
-            map: u.map as u8,
-            first: u.len as u32,
-            second: u.round,
-            ..NOTHING
-        },
-    )
-}
+impl From<VerifyError> for Answer {
+    ghost from_gives = { λ error answer. answer_of answer ≡ error_answer error };
 
-#[tactic(auto, using(crate::proofs::Laws::ill_formed_parts))]
-pub fn of_verified(verified: Result<(), VerifyError>) -> Answer
-    ensures { answer_of result ≡ verified_answer verified }
-{
-    match verified {
-        Ok(()) => plain(5, 0, NOTHING),
-        Err(VerifyError::Fail(u)) => of_fail(u),
-        Err(VerifyError::IllFormed(reason)) => plain(3, reason.number(), of_ill_formed(reason)),
+    #[tactic(auto, using(crate::proofs::Laws::ill_formed_parts))]
+    fn from(error: VerifyError) -> Answer {
+        match error {
+            VerifyError::Fail(u) => {
+                let values = Values {
+                    map: u.map as u8,
+                    first: u.len as u32,
+                    second: u.round,
+                    ..NOTHING
+                };
+                plain(4, 0, values)
+            }
+            VerifyError::IllFormed(reason) => plain(3, reason.number(), reason.into()),
+        }
     }
 }
 
-// The previous seq_no, or the greatest number where there is none.
-fn prev_seq_no(prev: Option<u8>) -> u32
-    ensures { result ≡ prev_seq_no prev }
-{
-    match prev {
-        Some(n) => n as u32,
-        None => u32::MAX,
+impl From<Result<(), VerifyError>> for Answer {
+    ghost from_gives = { λ verified answer. answer_of answer ≡ verified_answer verified };
+
+    fn from(verified: Result<(), VerifyError>) -> Answer {
+        match verified {
+            Ok(()) => plain(5, 0, NOTHING),
+            Err(error) => error.into(),
+        }
     }
 }
 
-fn of_invalid(reason: InvalidReason) -> Values
-    ensures { values_of result ≡ values_in (invalid_answer (reason_of reason)) }
-{
-    match reason {
-        InvalidReason::NoRoundInDag(map) => Values {
-            map: map as u8,
-            ..NOTHING
-        },
-        InvalidReason::NewerAnchorInDependency { role, .. }
-        | InvalidReason::AnchorLink { role, .. }
-        | InvalidReason::AnchorLinkRole { role, .. }
-        | InvalidReason::AnchorLinkBadPath { role, .. } => {
-            Values {
-                role: role as u8,
+impl From<InvalidReason> for Values {
+    ghost from_gives = { λ reason values. values_of values ≡ values_in (invalid_answer (reason_of reason)) };
+
+    fn from(reason: InvalidReason) -> Values {
+        match reason {
+            InvalidReason::NoRoundInDag(map) => Values {
+                map: map as u8,
                 ..NOTHING
+            },
+            InvalidReason::NewerAnchorInDependency { role, .. }
+            | InvalidReason::AnchorLink { role, .. }
+            | InvalidReason::AnchorLinkRole { role, .. }
+            | InvalidReason::AnchorLinkBadPath { role, .. } => {
+                Values {
+                    role: role as u8,
+                    ..NOTHING
+                }
             }
-        }
-        InvalidReason::BadStickySequence {
-            prev_seq_no: prev,
-            seq_no,
-            ..
-        } => Values {
-            first: seq_no as u32,
-            second: prev_seq_no(prev),
-            ..NOTHING
-        },
-        InvalidReason::TriggerProofMismatch { is_target, .. } => {
-            Values {
-                first: is_target as u32,
+            InvalidReason::BadStickySequence {
+                prev_seq_no,
+                seq_no,
+                ..
+            } => Values {
+                first: seq_no as u32,
+                second: prev_seq_no.map_or(u32::MAX, u32::from),
                 ..NOTHING
+            },
+            InvalidReason::TriggerProofMismatch { is_target, .. } => {
+                Values {
+                    first: is_target as u32,
+                    ..NOTHING
+                }
             }
+            InvalidReason::DepIllFormed { reason: n, .. } => Values {
+                first: n as u32,
+                ..NOTHING
+            },
+            InvalidReason::DependencyRoundDropped
+            | InvalidReason::NotTrigger(_)
+            | InvalidReason::TerminalTriggerBeforeLastProof(_)
+            | InvalidReason::TimeNotGreaterThanInPrevPoint(_)
+            | InvalidReason::AnchorProofDoesntInheritAnchorTime(_)
+            | InvalidReason::AnchorTimeNotInheritedFromProof(_)
+            | InvalidReason::MustHaveReferencedPrevPoint(_)
+            | InvalidReason::MustHaveSkippedRound(_)
+            | InvalidReason::DependencyTimeTooFarInFuture(_)
+            | InvalidReason::DepNotFound(_) => NOTHING,
         }
-        InvalidReason::DepIllFormed { reason: n, .. } => Values {
-            first: n as u32,
-            ..NOTHING
-        },
-        InvalidReason::DependencyRoundDropped
-        | InvalidReason::NotTrigger(_)
-        | InvalidReason::TerminalTriggerBeforeLastProof(_)
-        | InvalidReason::TimeNotGreaterThanInPrevPoint(_)
-        | InvalidReason::AnchorProofDoesntInheritAnchorTime(_)
-        | InvalidReason::AnchorTimeNotInheritedFromProof(_)
-        | InvalidReason::MustHaveReferencedPrevPoint(_)
-        | InvalidReason::MustHaveSkippedRound(_)
-        | InvalidReason::DependencyTimeTooFarInFuture(_)
-        | InvalidReason::DepNotFound(_) => NOTHING,
     }
 }
 
@@ -257,47 +256,43 @@ fn id_of(reason: InvalidReason) -> PointId
     }
 }
 
-fn through_number(through: Through) -> u8
-    ensures { result ≡ through_number (through_of through) }
-{
-    match through {
-        Through::Includes(_) => 1,
-        Through::Witness(_) => 2,
-    }
-}
-
 // A root cause, with what it came through.
-fn of_dependency(d: InvalidDependency) -> Answer
-    ensures { answer_of result ≡ verdict_answer (TransInvalid (dependency_of d)) }
-{
-    let through = d.through;
-    Answer {
-        kind: 1,
-        reason: 0,
-        id: d.to,
-        map: through_number(through),
-        role: NONE,
-        first: 0,
-        second: 0,
-        root_reason: d.reason,
-        peer: through.peer(),
-        unknown: 0,
+impl From<InvalidDependency> for Answer {
+    ghost from_gives = { λ d answer. answer_of answer ≡ verdict_answer (TransInvalid (dependency_of d)) };
+
+    fn from(d: InvalidDependency) -> Answer {
+        let through = d.through;
+        Answer {
+            kind: 1,
+            reason: 0,
+            id: d.to,
+            map: PointMap::from(through) as u8,
+            role: NONE,
+            first: 0,
+            second: 0,
+            root_reason: d.reason,
+            peer: through.peer(),
+            unknown: 0,
+        }
     }
 }
 
-#[tactic(auto, using(crate::proofs::Laws::ill_formed_parts, crate::proofs::Laws::invalid_parts))]
-pub fn of_verdict(verdict: Verdict) -> Answer
-    ensures { answer_of result ≡ verdict_answer (verdict_of verdict) }
-{
-    match verdict {
-        Verdict::Fail(u) => of_fail(u),
-        Verdict::IllFormed(reason) => plain(3, reason.number(), of_ill_formed(reason)),
-        Verdict::Invalid(reason) => named(2, reason.number(), id_of(reason), of_invalid(reason)),
-        Verdict::TransInvalid(d) => of_dependency(d),
-        Verdict::Valid => plain(0, 0, NOTHING),
+impl From<Verdict> for Answer {
+    ghost from_gives = { λ verdict answer. answer_of answer ≡ verdict_answer (verdict_of verdict) };
+
+    #[tactic(auto, using(crate::proofs::Laws::invalid_parts))]
+    fn from(verdict: Verdict) -> Answer {
+        match verdict {
+            Verdict::Fail(u) => VerifyError::Fail(u).into(),
+            Verdict::IllFormed(reason) => VerifyError::IllFormed(reason).into(),
+            Verdict::Invalid(reason) => named(2, reason.number(), id_of(reason), reason.into()),
+            Verdict::TransInvalid(d) => d.into(),
+            Verdict::Valid => plain(0, 0, NOTHING),
+        }
     }
 }
 
+// Each writes into any slice of 114 bytes or more: an array of 114 would ask more of callers.
 fn put_head(out: &mut [u8], a: Answer)
     requires { 114 ≤ length out.old }
     ensures { out.new ≡ put_at out.old 0 (head_bytes (answer_of a)) }

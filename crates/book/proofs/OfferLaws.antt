@@ -14,6 +14,7 @@ use Rattle.point.specs.Point.{Includes, Direct, PointInfo, prev_id}
 use Rattle.point.specs.declared.data.PointRole.TheVariants.{Regular}
 use Rattle.schedule.specs.Settings.{Settings}
 use Rattle.schedule.specs.Code.{settings_of}
+use Rattle.point.specs.Said.{said}
 use Rattle.reasons.specs.Verdict as verdict
 use Rattle.reasons.specs.declared.ill_formed.VerifyError.{VerifyError}
 use Rattle.reasons.specs.declared.ill_formed.WaveChecked.{WaveChecked}
@@ -34,7 +35,8 @@ use Rattle.books.proofs.Bytes.{unmarked, append-bytes}
 use Rattle.book_read.specs.Code.{IsRead}
 use Rattle.book_judge.specs.Code.{over_book}
 use Rattle.book.specs.Code.{covered_by, Marked, LeftAt, Ready, Refuses, Judges, Asks, ListJudged}
-use Rattle.book.specs.declared.decide.Needs as goal
+use Rattle.book.specs.declared.decide.Needs as code-needs
+use Rattle.id_index.specs.declared.Index as code-index
 
 -- ---- what a verdict leaves
 
@@ -219,7 +221,7 @@ module _ {s : List ℕ} {o : Offer} {buffer : List ℕ} where
 
 -- ---- an offer to a book that was read
 
-module _ {s : List ℕ} {c : Settings} {end : ℕ} {x : List ℕ} (h : IsRead s c end x) (w : Bytes s) where
+module _ {s : List ℕ} {c : Settings} {end : ℕ} {x : code-index.Index} (h : IsRead s c end x) (w : Bytes s) where
   -- a number that comes of the tests
   pub refused-answers : (o : Offer) (m : ℕ) → offer_tested h.opened o ≡ refused m → Refuses s o m o.peers
   refused-answers o m t = number-result s w h.opened h.read o m t
@@ -228,7 +230,7 @@ module _ {s : List ℕ} {c : Settings} {end : ℕ} {x : List ℕ} (h : IsRead s 
   end-within = omega (arith, h.ends, ends-within s w h.opened h.read)
 
 -- one that passed the tests
-module _ {s : List ℕ} {o : Offer} {c : Settings} {end : ℕ} {x : List ℕ} {i : Input} (h : Ready s o c end x i) (w : Bytes s) where
+module _ {s : List ℕ} {o : Offer} {c : Settings} {end : ℕ} {x : code-index.Index} {i : Input} (h : Ready s o c end x i) (w : Bytes s) where
   pub ready-room : end + length o.bytes + 108 ≤ length s
   ready-room = room-left s w h.read.opened h.read.read o i h.taken end h.read.ends
 
@@ -242,18 +244,19 @@ module _ {s : List ℕ} {o : Offer} {c : Settings} {end : ℕ} {x : List ℕ} {i
     ready-judged v e = judged_before s w h.read.opened h.read.read o i h.taken end h.read.ends buffer f v e
 
 -- one whose list is needed
-module _ {s : List ℕ} {o : Offer} {n : goal.Needs} {x buffer : List ℕ} (q : Asks s o n x buffer) (w : Bytes s) where
+module _ {s : List ℕ} {o : Offer} {n : code-needs.Needs} {x : code-index.Index} {buffer : List ℕ} (q : Asks s o n x buffer) (w : Bytes s) where
   taken : Accepted q.ready.read.opened o q.input
   taken = accepted q.ready.read.opened o q.input q.ready.taken
 
-  pub list_written : (v : verdict.Verdict) (last : List ℕ) → ListJudged s x o.bytes n v last → Written s o (Given v) buffer last
+  pub list_written : (v : verdict.Verdict) (last : List ℕ) → ListJudged s x n v last → Written s o (Given v) buffer last
   list_written v last l =
       let h = q.ready.read in
       let z = h.opened in
       let r = l h (rw q.point at taken.domain) in
       let same : settings_of n.conf ≡ q.input.settings = h.settings ∙ sym taken.settings in
       let given = subst (λ (p : PointInfo). v ≡ over_book (settings_of n.conf) n.required p (covered_by (settings_of n.conf) p z.book)) (sym q.point) r.0 in
-      let left = subst (λ (p : PointInfo). LeftAt (book_bytes z.bytes (length s) (covered_by (settings_of n.conf) p z.book)) n.end o.bytes v last) (sym q.point) r.1 in
+      let left = subst (λ (p : PointInfo). LeftAt (book_bytes z.bytes (length s) (covered_by (settings_of n.conf) p z.book)) n.end o.bytes v last) (sym q.point)
+      (subst (λ (l : List ℕ). LeftAt (book_bytes z.bytes (length s) (covered_by (settings_of n.conf) (said n.point) z.book)) n.end l v last) q.bytes r.1) in
       listed s w z h.read o q.input q.ready.taken n.end h.ends buffer q.peers n.required q.list v last
       (subst (λ (c : Settings). v ≡ over_book c n.required q.input.point (covered_by c q.input.point z.book)) same given)
       (subst (λ (c : Settings). LeftAt (book_bytes z.bytes (length s) (covered_by c q.input.point z.book)) n.end o.bytes v last) same left)

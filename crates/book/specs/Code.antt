@@ -3,10 +3,12 @@ use Rattle.std.specs.Prelude.{ℕ, ◌+◌, ◌≤◌, ◌≡◌, true, List, le
 use Rattle.parts.specs.Bytes.{put_at}
 use Rattle.parts.specs.Limits.{tag33_length}
 use Rattle.point.specs.Point.{PointId, PointInfo, prev_id, in_domain}
-use Rattle.point.specs.Code.{point_of, Reads}
+use Rattle.point.specs.Code.{point_of}
+use Rattle.point.specs.Said.{said}
 use Rattle.schedule.specs.Settings.{Settings}
 use Rattle.schedule.specs.Schedule.{Schedule}
-use Rattle.schedule.specs.Code.{settings_of, schedule_of}
+use Rattle.schedule.specs.Code.{settings_of}
+use Rattle.schedule.specs.PeerSchedule.{peer_schedule_of}
 use Rattle.reasons.specs.Verdict.{Verdict}
 use Rattle.reasons.specs.Code.{verdict_of}
 use Rattle.reasons.specs.Refusal.{refusal_number}
@@ -20,6 +22,7 @@ use Rattle.books.specs.Calls.{offer_bytes}
 use Rattle.book_read.specs.Code.{IsRead}
 use Rattle.book_judge.specs.Code.{over_book}
 use Rattle.point.specs.declared.info.PointInfo as code-info
+use Rattle.id_index.specs.declared.Index as code-index
 use Rattle.book.specs.declared.decide.Input as code-input
 use Rattle.book.specs.declared.decide.Needs as code-needs
 use Rattle.book.specs.declared.decide.Decided as code-decided
@@ -52,18 +55,17 @@ InputTested rec info leader room r =
     ≡ passed_or r (record { settings = c; schedule = d; point = point_of rec info })
 
 -- 11 and 12, of a book that was read
-abbrev pub RoomTested : List ℕ → ℕ → List ℕ → List ℕ → PointId → Result Unit Refusal → Type 0
+abbrev pub RoomTested : List ℕ → ℕ → code-index.Index → List ℕ → PointId → Result Unit Refusal → Type 0
 RoomTested s end x bytes id r =
     (c : Settings) (h : IsRead s c end x) (i : Input) → i.point.id ≡ id → tested_room h.opened bytes (admitted i) ≡ passed_or r i
 
 -- the book is read, and the offer gets none of the numbers 2 to 5, 11 and 12
-pub record Ready (s : List ℕ) (o : Offer) (c : Settings) (end : ℕ) (x : List ℕ) (i : Input) : Type 0 where
+pub record Ready (s : List ℕ) (o : Offer) (c : Settings) (end : ℕ) (x : code-index.Index) (i : Input) : Type 0 where
   pub read : IsRead s c end x
   pub taken : offer_tested read.opened o ≡ admitted i
 
-abbrev pub input_of : code-input.Input → List ℕ → List ℕ → Input
-input_of i schedule rec =
-    record { settings = settings_of i.conf; schedule = schedule_of schedule i.spans; point = point_of rec i.info }
+abbrev pub input_of : code-input.Input → Input
+input_of i = record { settings = settings_of i.conf; schedule = peer_schedule_of i.schedule; point = said i.point }
 
 -- ---- what is decided of an offer before anything is written
 
@@ -79,24 +81,24 @@ pub record Judges (s : List ℕ) (o : Offer) (v : Verdict) (end : ℕ) (buffer :
   pub bytes : LeftAt s end o.bytes v (offer_bytes s o).after
 
 -- the list is needed
-pub record Asks (s : List ℕ) (o : Offer) (n : code-needs.Needs) (x buffer : List ℕ) : Type 0 where
+pub record Asks (s : List ℕ) (o : Offer) (n : code-needs.Needs) (x : code-index.Index) (buffer : List ℕ) : Type 0 where
   pub input : Input
   pub ready : Ready s o (settings_of n.conf) n.end x input
-  pub reads : Reads o.bytes n.info
-  pub point : input.point ≡ point_of o.bytes n.info
+  pub bytes : n.point.rec.now ≡ o.bytes
+  pub point : input.point ≡ said n.point
   pub list : before_in input o.leader ≡ needed n.required
   pub peers : buffer ≡ verify_buffer (admitted input) o.peers
 
-abbrev pub Decides : List ℕ → Offer → Result code-decided.Decided Refusal → List ℕ → List ℕ → Type 0
+abbrev pub Decides : List ℕ → Offer → Result code-decided.Decided Refusal → code-index.Index → List ℕ → Type 0
 Decides s o (Err r) x buffer = Refuses s o (refusal_number r) buffer
 Decides s o (Ok (case-decided.Judged v end)) x buffer = Judges s o (verdict_of v) end buffer
 Decides s o (Ok (case-decided.Needed n)) x buffer = Asks s o n x buffer
 
 -- a point was judged by the list over the book with its marks, and what it leaves stands there
-abbrev pub ListJudged : List ℕ → List ℕ → List ℕ → code-needs.Needs → Verdict → List ℕ → Type 0
-ListJudged s x rec n v t =
+abbrev pub ListJudged : List ℕ → code-index.Index → code-needs.Needs → Verdict → List ℕ → Type 0
+ListJudged s x n v t =
     let c = settings_of n.conf in
-    let p = point_of rec n.info in
+    let p = said n.point in
     (h : IsRead s c n.end x) → in_domain p ≡ true →
     (v ≡ over_book c n.required p (covered_by c p h.opened.book))
-    × LeftAt (book_bytes h.opened.bytes (length s) (covered_by c p h.opened.book)) n.end rec v t
+    × LeftAt (book_bytes h.opened.bytes (length s) (covered_by c p h.opened.book)) n.end n.point.rec.now v t

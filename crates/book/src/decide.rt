@@ -1,48 +1,50 @@
 // What an offer comes to over the book as it stands: a refusal, a verdict, or that its list is needed.
-ghost use Rattle.std.specs.Prelude.{◌≡◌, ◌||◌, List, ℕ, ◌+◌, ◌-◌, ◌≤◌, length, replicate, leb, ltb, Some};
+ghost use Rattle.std.specs.Prelude.{◌≡◌, ◌||◌, List, ℕ, ◌+◌, ◌-◌, ◌≤◌, length, leb, ltb};
 ghost use Rattle.parts.specs.Bytes.{Bytes};
 ghost use Rattle.parts.specs.Limits.{tag33_length, most_kept, peers_room};
-ghost use Rattle.point.specs.Code.{point_id_of, Reads};
-ghost use Rattle.schedule.specs.Code.{settings_of, schedule_of};
-ghost use Rattle.schedule.specs.Schedule.{read_schedule};
-ghost use Rattle.id_index.specs.Code.{Index};
+ghost use Rattle.point.specs.Code.{point_id_of};
+ghost use Rattle.schedule.specs.Code.{settings_of};
+ghost use Rattle.id_index.specs.Code.{IsEmpty, IsIndex};
+ghost use Rattle.id_index.specs.declared.Index as index;
 ghost use Rattle.books.specs.Offer.{offer_of};
 ghost use Rattle.book.specs.Code.{input_of, InputTested, RoomTested, Ready, Decides};
 
+use id_index::Index;
 use judge::Before;
-use point::{PointId, PointInfo};
+use point::{Point, PointId, PointInfo};
 use reasons::{Refusal, Verdict};
-use schedule::{Schedule, Settings};
+use schedule::{PeerSchedule, Settings};
 
 // What was read of an offer to a book with these settings.
 #[derive(Clone, Copy)]
-struct Input {
+struct Input<'a> {
     conf: Settings,
-    spans: Schedule,
-    info: PointInfo,
+    schedule: PeerSchedule<'a>,
+    point: Point<'a>,
 }
 
-// What judging by the list needs: the settings, the point, whether regular points are required, and where the entries end.
+// What judging by the list needs: the settings, the point, whether regular points are required, which is a fact of its own, and where
+// the entries end.
 #[derive(Clone, Copy)]
-pub struct Needs {
+pub struct Needs<'a> {
     pub conf: Settings,
-    pub info: PointInfo,
+    pub point: Point<'a>,
     pub required: bool,
     pub end: usize,
 }
 
-// A verdict and where the entries end, or that the list is needed.
+// A verdict and where the entries end, or that the list is needed. No Result, since neither is a failure.
 #[derive(Clone, Copy)]
-pub enum Decided {
+pub enum Decided<'a> {
     Judged(Verdict, usize),
-    Needed(Needs),
+    Needed(Needs<'a>),
 }
 
 // The numbers 4 and 5 in their order. The peer buffer has `room` bytes.
-fn test_input(rec: &[u8], info: PointInfo, leader: u8, room: usize) -> Result<(), Refusal>
-    ensures { InputTested rec.now info leader room result }
+fn test_input(info: PointInfo, leader: u8, room: usize) -> Result<(), Refusal>
+    ensures { (rec : List ℕ) → InputTested rec info leader room result }
 {
-    if !point::is_in_domain(rec, info) || 1 < leader {
+    if !info.is_in_domain() || 1 < leader {
         return Err(Refusal::Domain);
     }
     if room < parts::PEERS_ROOM {
@@ -61,44 +63,39 @@ fn is_full(len: usize, n: usize, end: usize, rec_len: usize) -> bool
 }
 
 // The numbers 11 and 12 in their order.
-fn test_room(book: &[u8], end: usize, index: &[u16], rec: &[u8], id: PointId) -> Result<(), Refusal>
-    requires { Index book.now index.now × (end ≤ length book.now) }
+fn test_room(book: &[u8], end: usize, index: &Index, rec: &[u8], id: PointId) -> Result<(), Refusal>
+    requires { IsIndex book.now index.now × (end ≤ length book.now) }
     ensures { RoomTested book.now end index.now rec.now (point_id_of id) result }
 {
-    if id_index::find(book, index, id).is_some() {
+    if index.find(book, id).is_some() {
         return Err(Refusal::Kept);
     }
-    if is_full(book.len(), id_index::count(index), end, rec.len()) {
+    if is_full(book.len(), index.count(), end, rec.len()) {
         return Err(Refusal::Full);
     }
     Ok(())
 }
 
 // Judges an offer that passed the tests, as far as no list is needed.
-fn judge_input(
-    input: Input,
+fn judge_input<'a>(
+    input: &Input<'a>,
     end: usize,
-    schedule: &[u8],
     leader: u8,
-    rec: &[u8],
     peers: &mut [u8],
-) -> Result<Decided, Refusal>
-    requires schedule_value { read_schedule schedule.now ≡ Some (schedule_of schedule.now input.spans) }
-    requires reads { Reads rec.now input.info }
-    requires peers_room_in_bounds { peers_room ≤ length peers.old }
-    ensures { (s x : List ℕ) → Bytes s →
-        Ready s (offer_of schedule.now leader rec.now peers.old) (settings_of input.conf) end x
-        (input_of input schedule.now rec.now) →
-        Decides s (offer_of schedule.now leader rec.now peers.old) result x peers.new }
+) -> Result<Decided<'a>, Refusal>
+    requires { peers_room ≤ length peers.old }
+    ensures { (s : List ℕ) (x : index.Index) → Bytes s →
+        Ready s (offer_of input.now.schedule.bytes.now leader input.now.point.rec.now peers.old) (settings_of input.now.conf) end x (input_of input.now) →
+        Decides s (offer_of input.now.schedule.bytes.now leader input.now.point.rec.now peers.old) result x peers.new }
 {
     let conf = input.conf;
-    let info = input.info;
-    let known = judge::before_list(conf, schedule, input.spans, rec, info, leader == 1, peers)?;
+    let point = input.point;
+    let known = judge::before_list(conf, &input.schedule, &point, leader == 1, peers)?;
     match known {
         Before::Judged(verdict) => Ok(Decided::Judged(verdict, end)),
         Before::Needed(required) => Ok(Decided::Needed(Needs {
             conf,
-            info,
+            point,
             required,
             end,
         })),
@@ -106,24 +103,28 @@ fn judge_input(
 }
 
 // Decides an offer over a book as it stands, the numbers 10, 2 to 5, 11 and 12 first, and makes the book's index.
-pub fn decide(
+pub fn decide<'a>(
     book: &[u8],
-    schedule: &[u8],
+    schedule: &'a [u8],
     leader: u8,
-    rec: &[u8],
+    rec: &'a [u8],
     peers: &mut [u8],
-    index: &mut [u16],
-) -> Result<Decided, Refusal>
-    requires { index.old ≡ replicate 16386 0 }
+    index: &mut Index,
+) -> Result<Decided<'a>, Refusal>
+    requires { IsEmpty index.old }
     ensures { Decides book.now (offer_of schedule.now leader rec.now peers.old) result
         index.new peers.new }
 {
     let read = book_read::read_book(book, index).ok_or(Refusal::Book)?;
     let (conf, end) = read;
-    let spans = schedule::read_schedule(schedule).ok_or(Refusal::Schedule)?;
-    let info = point::read_point(rec).ok_or(Refusal::Record)?;
-    test_input(rec, info, leader, peers.len())?;
-    test_room(book, end, index, rec, info.id)?;
-    let input = Input { conf, spans, info };
-    judge_input(input, end, schedule, leader, rec, peers)
+    let peer_schedule = schedule::read_peer_schedule(schedule).ok_or(Refusal::Schedule)?;
+    let point = point::read_point(rec).ok_or(Refusal::Record)?;
+    test_input(point.info, leader, peers.len())?;
+    test_room(book, end, index, rec, point.info.id)?;
+    let input = Input {
+        conf,
+        schedule: peer_schedule,
+        point,
+    };
+    judge_input(&input, end, leader, peers)
 }

@@ -5,7 +5,7 @@ mod decide;
 
 ghost use Rattle.std.specs.Prelude.{◌≡◌, ◌+◌, ◌≤◌, length};
 ghost use Rattle.parts.specs.Limits.{tag33_length};
-ghost use Rattle.point.specs.Code.{point_of, Reads};
+ghost use Rattle.point.specs.Said.{said};
 ghost use Rattle.schedule.specs.Code.{settings_of};
 ghost use Rattle.reasons.specs.Code.{verdict_of};
 ghost use Rattle.reasons.specs.Refusal.{refused_number};
@@ -15,7 +15,9 @@ ghost use Rattle.books.specs.Calls.{open_number, open_bytes, offer_bytes};
 ghost use Rattle.books.specs.Offer.{offer_of};
 ghost use Rattle.book.specs.Code.{LeftAt, Marked, ListJudged};
 
+use book_judge::IndexedBook;
 use decide::{Decided, Needs};
+use id_index::Index;
 use point::PointId;
 use reasons::{Refusal, Verdict};
 
@@ -44,13 +46,12 @@ fn keep(book: &mut [u8], end: usize, rec: &[u8], verdict: Verdict)
 }
 
 // Marks the previous point, if the point names one, and what its certificate covers.
-fn mark_covered(book: &mut [u8], index: &[u16], rec: &[u8], needs: Needs)
-    requires read { IsRead book.old (settings_of needs.conf) needs.end index.now }
-    requires reads { Reads rec.now needs.info }
-    ensures { Marked (settings_of needs.conf) (point_of rec.now needs.info) book.old book.new }
+fn mark_covered(book: &mut [u8], index: &Index, needs: &Needs)
+    requires { IsRead book.old (settings_of needs.now.conf) needs.now.end index.now }
+    ensures { Marked (settings_of needs.now.conf) (said needs.now.point) book.old book.new }
 {
-    let own = needs.info.id;
-    if let Some(digest) = point::prev_digest(rec, needs.info) {
+    let own = needs.point.info.id;
+    if let Some(digest) = needs.point.prev_digest() {
         let prev = PointId {
             round: parts::rounds_back(own.round, 1),
             digest,
@@ -61,15 +62,15 @@ fn mark_covered(book: &mut [u8], index: &[u16], rec: &[u8], needs: Needs)
 }
 
 // Judges an offer whose list is needed, and keeps it. The marks are made first: the list is judged over the book as it then stands.
-fn judge_needed(book: &mut [u8], index: &[u16], rec: &[u8], needs: Needs) -> Verdict
-    requires read { IsRead book.old (settings_of needs.conf) needs.end index.now }
-    requires reads { Reads rec.now needs.info }
-    requires tag33length_in_bounds { needs.end + length rec.now + tag33_length ≤ length book.old }
-    ensures { ListJudged book.old index.now rec.now needs (verdict_of result) book.new }
+fn judge_needed(book: &mut [u8], index: &Index, needs: &Needs) -> Verdict
+    requires read { IsRead book.old (settings_of needs.now.conf) needs.now.end index.now }
+    requires tag33length_in_bounds { needs.now.end + length needs.now.point.rec.now + tag33_length ≤ length book.old }
+    ensures { ListJudged book.old index.now needs.now (verdict_of result) book.new }
 {
-    mark_covered(book, index, rec, needs);
-    let verdict = book_judge::judge_book(needs.conf, needs.required, rec, needs.info, book, index);
-    keep(book, needs.end, rec, verdict);
+    mark_covered(book, index, needs);
+    let indexed = IndexedBook { bytes: book, index };
+    let verdict = book_judge::judge_book(needs.conf, needs.required, &needs.point, &indexed);
+    keep(book, needs.end, needs.point.rec, verdict);
     verdict
 }
 
@@ -88,13 +89,13 @@ pub fn offer(
     ensures book_after { book.new ≡ (offer_bytes book.old
         (offer_of schedule.now leader rec.now peers.old)).after }
 {
-    let mut index = [0u16; id_index::LENGTH];
+    let mut index = Index::new();
     let decided = decide::decide(book, schedule, leader, rec, peers, &mut index)?;
     match decided {
         Decided::Judged(verdict, end) => {
             keep(book, end, rec, verdict);
             Ok(verdict)
         }
-        Decided::Needed(needs) => Ok(judge_needed(book, &index, rec, needs)),
+        Decided::Needed(needs) => Ok(judge_needed(book, &index, &needs)),
     }
 }

@@ -1,46 +1,54 @@
 -- What is reached in addition.
-use Prim.Native.Nat.{ℕ, ◌≤◌, ◌<◌}
+use Prim.Native.Nat.{ℕ, ◌<◌}
 use native.Mathlib.Omega.{arith}
 use native.Mathlib.Decide.{dec_lt, ℕ_discrete}
 use mathlib.Core.Path.{◌≡◌, refl, sym, ◌∙◌}
 use mathlib.Core.Logic.{◌⊎◌, inl, inr}
 use mathlib.Core.Bool.{Bool, true, false, ◌||◌}
 use mathlib.Core.List.{List}
-use lib.ListN.{length, set, length-set}
+use lib.ListN.{length, get_or, set}
 use lib.Seq.{get_or-set_same, get_or-set_other}
 use Rattle.base.proofs.Bool.{clash, or_first, or_second, or_cases}
 use Rattle.point.specs.Point.{PointId, same_id}
 use Rattle.point.proofs.Ids.{same_sym, same_eq, eq_same}
+use Rattle.id_index.specs.declared.Index.{Index}
 use Rattle.id_index.specs.Code.{count_of, id_in, IsAt, NoneIs, Once}
+use Rattle.book_certify.specs.declared.Walk.{Walk}
 use Rattle.book_certify.specs.Code.{Reached, Grown, Adds}
 
-pub grown-same : (w : List ℕ) → Grown w w
-grown-same w = record { sized = refl; links = λ q h. refl; kept = λ j h. h }
+pub grown-same : (w : Walk) → Grown w w
+grown-same w = record { links = refl; heads = refl; kept = λ j h. h }
 
-pub grown_then : {u v w : List ℕ} → Grown u v → Grown v w → Grown u w
-grown_then f g =
-    record {
-      sized = g.sized ∙ f.sized;
-      links = λ q h. g.links q h ∙ f.links q h;
-      kept = λ j h. g.kept j (f.kept j h);
-    }
+pub grown_then : {u v w : Walk} → Grown u v → Grown v w → Grown u w
+grown_then f g = record { links = g.links ∙ f.links; heads = g.heads ∙ f.heads; kept = λ j h. g.kept j (f.kept j h) }
 
-pub grown-set : (w : List ℕ) (j : ℕ) → j < 4096 → length w ≡ 8448 → Grown w (set w j 1)
-grown-set w j lt sized =
-    record {
-      sized = length-set w j 1;
-      links = λ q h. get_or-set_other w j q 1 0 (λ e. omega arith);
-      kept = λ i h. elim (ℕ_discrete i j) [
-        | yes e ↦ rw e (get_or-set_same w j 1 0 (omega arith))
-        | no d ↦ get_or-set_other w j i 1 0 d ∙ h
-      ];
-    }
+-- one entry more is reached
+abbrev pub with_entry : Walk → ℕ → Walk
+with_entry w j = record { reached = set w.reached j true; links = w.links; heads = w.heads }
 
-module _ {s x : List ℕ} where
-  pub adds_none : {test : PointId → Bool} (w : List ℕ) → ((j : ℕ) → j < count_of x → test (id_in s x j) ≡ false) → Adds s x test w w
+module _ (w : Walk) (j : ℕ) where
+  pub reached-here : j < length w.reached → Reached (with_entry w j) j
+  reached-here lt = get_or-set_same w.reached j true false lt
+
+  pub reached-other : (i : ℕ) → (i ≡ j → ⊥) → get_or (with_entry w j).reached i false ≡ get_or w.reached i false
+  reached-other i d = get_or-set_other w.reached j i true false d
+
+  pub grown-set : j < length w.reached → Grown w (with_entry w j)
+  grown-set lt =
+      record {
+        links = refl;
+        heads = refl;
+        kept = λ i h. elim (ℕ_discrete i j) [
+          | yes e ↦ rw e (reached-here lt)
+          | no d ↦ reached-other i d ∙ h
+        ];
+      }
+
+module _ {s : List ℕ} {x : Index} where
+  pub adds_none : {test : PointId → Bool} (w : Walk) → ((j : ℕ) → j < count_of x → test (id_in s x j) ≡ false) → Adds s x test w w
   adds_none {test} w f = record { grown = grown-same w; only = λ j lt h. inl h; all = λ j lt t. clash (test (id_in s x j)) t (f j lt) }
 
-  pub adds_as : {f g : PointId → Bool} {w v : List ℕ} → ((i : PointId) → f i ≡ g i) → Adds s x f w v → Adds s x g w v
+  pub adds_as : {f g : PointId → Bool} {w v : Walk} → ((i : PointId) → f i ≡ g i) → Adds s x f w v → Adds s x g w v
   adds_as {f} {g} {w} {v} e a = record {
     grown = a.grown;
     only = λ j lt h. either j (a.only j lt h);
@@ -51,7 +59,7 @@ module _ {s x : List ℕ} where
       either j (inl h) = inl h
       either j (inr t) = inr (sym (e (id_in s x j)) ∙ t)
 
-  pub adds_then : {f g : PointId → Bool} {u v w : List ℕ} → Adds s x f u v → Adds s x g v w → Adds s x (λ i. f i || g i) u w
+  pub adds_then : {f g : PointId → Bool} {u v w : Walk} → Adds s x f u v → Adds s x g v w → Adds s x (λ i. f i || g i) u w
   adds_then {f} {g} {u} {v} {w} a b = record {
     grown = grown_then a.grown b.grown;
     only = λ j lt h. first j lt (b.only j lt h);
@@ -71,7 +79,7 @@ module _ {s x : List ℕ} where
       last j lt (inr t) = b.all j lt t
 
   -- an id that is not kept
-  pub adds-absent : (w : List ℕ) (i : PointId) → NoneIs s x (count_of x) i → Adds s x (same_id i) w w
+  pub adds-absent : (w : Walk) (i : PointId) → NoneIs s x (count_of x) i → Adds s x (same_id i) w w
   adds-absent w i f = adds_none w (λ j lt. same_sym i (id_in s x j) ∙ f j lt)
 
   module _ (once : Once s x (count_of x)) (i : PointId) (j : ℕ) (f : IsAt s x (count_of x) i j) where
@@ -87,14 +95,13 @@ module _ {s x : List ℕ} where
           ]
         ]
 
-    pub adds-found : (w : List ℕ) → count_of x ≤ 4096 → length w ≡ 8448 → Adds s x (same_id i) w (set w j 1)
-    adds-found w few sized =
-        let lt : j < 4096 = omega (arith, f.within) in
+    pub adds-found : (w : Walk) → j < length w.reached → Adds s x (same_id i) w (with_entry w j)
+    adds-found w lt =
         record {
-          grown = grown-set w j lt sized;
+          grown = grown-set w j lt;
           only = λ k g h. elim (ℕ_discrete k j) [
             | yes e ↦ inr (rw e (same_sym i (id_in s x j) ∙ f.same))
-            | no d ↦ inl (sym (get_or-set_other w j k 1 0 d) ∙ h)
+            | no d ↦ inl (sym (reached-other w j k d) ∙ h)
           ];
-          all = λ k g t. rw (only_one k g t) (get_or-set_same w j 1 0 (omega arith));
+          all = λ k g t. rw (only_one k g t) (reached-here w j lt);
         }

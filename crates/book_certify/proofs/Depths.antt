@@ -9,9 +9,9 @@ use mathlib.Core.Bool.{Bool, true, false, ◌&&◌}
 use mathlib.Core.List.{List, [], ◌∷◌, Memᴰ}
 use lib.ListN.{get_or, drop}
 use lib.Seq.{drop-nil}
-use lib.Dec.{leb, eqb}
-use borrow.Author.Tests.{le-leb, eqb-true}
-use Rattle.base.proofs.Bool.{never, and_left, and_right, and_both, or_first, or_second, or_cases}
+use lib.Dec.{leb}
+use borrow.Author.Tests.{le-leb}
+use Rattle.base.proofs.Bool.{never, clash, and_left, and_right, and_both, or_first, or_second, or_cases}
 use Rattle.base.proofs.Impossible.{impossible}
 use Rattle.base.proofs.Option.{none-some}
 use Rattle.map.specs.Rows.{Pair}
@@ -19,6 +19,7 @@ use Rattle.point.specs.Point.{PointId, same_id}
 use Rattle.point.proofs.Ids.{same_fields, same_sym}
 use Rattle.schedule.specs.Settings.{Settings}
 use Rattle.rules.specs.Mismatch.{pair_id, is_among}
+use Rattle.id_index.specs.declared.Index.{Index}
 use Rattle.id_index.specs.Code.{count_of, id_in}
 use Rattle.books.specs.Kept.{Kept, Book, find_kept}
 use Rattle.books.specs.Spread.{has_deps, covers}
@@ -27,7 +28,10 @@ use Rattle.books.proofs.Find.{once-found}
 use Rattle.books.proofs.Shape.{Shape}
 use Rattle.books.proofs.Spread.{kept-least, leads-below, covers-leads}
 use Rattle.books.proofs.Walk.{any_kept, is_dependency, covers-by_rounds}
-use Rattle.book_certify.specs.Code.{book_in, map_back, passes, Reached, Grown, Adds, is_covered, Sound, Done, Passed, DepthReached}
+use Rattle.book_certify.specs.declared.Walk.{Walk}
+use Rattle.book_certify.specs.declared.spread.Deps.{Deps}
+use Rattle.book_certify.specs.declared.spread.Deps.TheVariants.{Includes, Witness}
+use Rattle.book_certify.specs.Code.{book_in, rounds_of, map_back, passes, Reached, Grown, Adds, is_covered, Sound, Done, Passed, DepthReached}
 use Rattle.book_certify.proofs.Adds.{grown_then, only_one}
 use Rattle.book_certify.proofs.Entries.{one_or_two, Stands, numbered, member, entry-id}
 
@@ -59,16 +63,16 @@ module _ (test : Kept → Bool) where
 
 -- ---- who passes a mark on
 
-module _ (c : Settings) (k : Kept) (back : ℕ) (i : PointId) (p : passes c k back i ≡ true) where
-  passed-deps : has_deps c k ≡ true
-  passed-deps = and_left (has_deps c k) _ p
+module _ (c : Settings) (k : Kept) where
+  passed-deps : (deps : Deps) (i : PointId) → passes c k deps i ≡ true → has_deps c k ≡ true
+  passed-deps deps i p = and_left (has_deps c k) _ p
 
-  passed-round : i.round ≡ k.point.id.round - back
-  passed-round = among-round (k.point.id.round - back) (map_back back k.point) i (and_right (has_deps c k) _ p)
+  passed-round : (deps : Deps) (i : PointId) → passes c k deps i ≡ true → i.round ≡ k.point.id.round - rounds_of deps
+  passed-round deps i p = among-round (k.point.id.round - rounds_of deps) (map_back deps k.point) i (and_right (has_deps c k) _ p)
 
-  passed_to : (back ≡ 1) ⊎ (back ≡ 2) → is_dependency k.point i ≡ true
-  passed_to (inl e) = or_first (is_among (k.point.id.round - 1) k.point.includes i) _ (rw e at (and_right (has_deps c k) _ p))
-  passed_to (inr e) = or_second (is_among (k.point.id.round - 1) k.point.includes i) _ (rw e at (and_right (has_deps c k) _ p))
+  passed_to : (deps : Deps) (i : PointId) → passes c k deps i ≡ true → is_dependency k.point i ≡ true
+  passed_to Includes i p = or_first (is_among (k.point.id.round - 1) k.point.includes i) _ (and_right (has_deps c k) _ p)
+  passed_to Witness i p = or_second (is_among (k.point.id.round - 1) k.point.includes i) _ (and_right (has_deps c k) _ p)
 
 -- an entry that passes its mark on to an id, covered itself
 record Giver (c : Settings) (s : List ℕ) (t i : PointId) : Type 0 where
@@ -80,7 +84,7 @@ record Giver (c : Settings) (s : List ℕ) (t i : PointId) : Type 0 where
   names : is_dependency kept.point i ≡ true
   covered : covers c (book_in s) (Some t) kept.point.id ≡ true
 
-module _ (c : Settings) {s : List ℕ} {end : ℕ} {x : List ℕ} (h : Stands s end x (book_in s)) (t : PointId) where
+module _ (c : Settings) {s : List ℕ} {end : ℕ} {x : Index} (h : Stands s end x (book_in s)) (t : PointId) where
   -- ---- the rule, forth and back
 
   covered-by : (i : PointId) → covers c (book_in s) (Some t) i ≡ true → (same_id t i ≡ true) ⊎ Giver c s t i
@@ -122,37 +126,37 @@ module _ (c : Settings) {s : List ℕ} {end : ℕ} {x : List ℕ} (h : Stands s 
 
   -- ---- what is reached is covered
 
-  module _ (depth back : ℕ) (deep : depth ≤ c.commit_history_rounds) (one : (back ≡ 1) ⊎ (back ≡ 2)) {w v : List ℕ} (j : ℕ) (k : Kept) (rest : Book) (e : drop j (book_in s) ≡ k ∷ rest)
-      (at : k.point.id.round + depth ≡ t.round + back) (a : Adds s x (λ i. eqb (get_or w j 0) 1 && passes c k back i) w v) where
+  module _ (depth : ℕ) (deps : Deps) (deep : depth ≤ c.commit_history_rounds) {w v : Walk} (j : ℕ) (k : Kept) (rest : Book) (e : drop j (book_in s) ≡ k ∷ rest)
+      (at : k.point.id.round + depth ≡ t.round + rounds_of deps) (a : Adds s x (λ i. get_or w.reached j false && passes c k deps i) w v) where
     pub sound_more : Sound c s x t w → Sound c s x t v
     sound_more sound i lt r = go (a.only i lt r)
       where
-        go : Reached w i ⊎ ((eqb (get_or w j 0) 1 && passes c k back (id_in s x i)) ≡ true) → is_covered c s x t i ≡ true
+        go : Reached w i ⊎ ((get_or w.reached j false && passes c k deps (id_in s x i)) ≡ true) → is_covered c s x t i ≡ true
         go (inl f) = sound i lt f
         go (inr f) =
-            let p = and_right (eqb (get_or w j 0) 1) _ f in
-            let q = sound j (numbered h j k rest e) (eqb-true (get_or w j 0) 1 (and_left (eqb (get_or w j 0) 1) _ f)) in
+            let p = and_right (get_or w.reached j false) _ f in
+            let q = sound j (numbered h j k rest e) (and_left (get_or w.reached j false) _ f) in
             covered-from (id_in s x i)
             (record {
               number = j;
               kept = k;
               rest = rest;
               there = e;
-              deps = passed-deps c k back (id_in s x i) p;
-              names = passed_to c k back (id_in s x i) p one;
+              deps = passed-deps c k deps (id_in s x i) p;
+              names = passed_to c k deps (id_in s x i) p;
               covered = rw (entry-id h j k rest e) at q;
             })
-            (omega (arith, passed-round c k back (id_in s x i) p, kept-least c (book_in s) h.shape k (member h j k rest e), one_or_two one))
+            (omega (arith, passed-round c k deps (id_in s x i) p, kept-least c (book_in s) h.shape k (member h j k rest e), one_or_two deps))
 
   -- ---- what is covered is reached
 
-  -- what the entries `back` above a depth pass their marks on to is reached
-  abbrev TakenFrom : ℕ → ℕ → List ℕ → List ℕ → Type 0
-  TakenFrom depth back w v =
-      (j : ℕ) (k : Kept) (rest : Book) → drop j (book_in s) ≡ k ∷ rest → k.point.id.round + depth ≡ t.round + back → Reached w j →
-      (i : ℕ) → i < count_of x → passes c k back (id_in s x i) ≡ true → Reached v i
+  -- what the entries above a depth pass their marks on to by a map is reached
+  abbrev TakenFrom : ℕ → Deps → Walk → Walk → Type 0
+  TakenFrom depth deps w v =
+      (j : ℕ) (k : Kept) (rest : Book) → drop j (book_in s) ≡ k ∷ rest → k.point.id.round + depth ≡ t.round + rounds_of deps → Reached w j →
+      (i : ℕ) → i < count_of x → passes c k deps (id_in s x i) ≡ true → Reached v i
 
-  module _ (depth : ℕ) (some-deep : 1 ≤ depth) {w v : List ℕ} (g : Grown w v) (one : TakenFrom depth 1 w v) (two : 2 ≤ depth → TakenFrom depth 2 w v) (done : Done c s x t depth w) where
+  module _ (depth : ℕ) (some-deep : 1 ≤ depth) {w v : Walk} (g : Grown w v) (one : TakenFrom depth Includes w v) (two : 2 ≤ depth → TakenFrom depth Witness w v) (done : Done c s x t depth w) where
     given-reached : (j : ℕ) → j < count_of x → (id_in s x j).round + depth ≡ t.round → Giver c s t (id_in s x j) → Reached v j
     given-reached j lt at f = go (or_cases (is_among (k.point.id.round - 1) k.point.includes (id_in s x j)) _ f.names)
       where
@@ -192,20 +196,20 @@ module _ (c : Settings) {s : List ℕ} {end : ℕ} {x : List ℕ} (h : Stands s 
   -- ---- one depth, in one pass or in two
 
   -- where all of the depth is reached, nothing is left to pass on
-  pub full-taken : (depth back : ℕ) (w v : List ℕ) → (back ≡ 1) ⊎ (back ≡ 2) → ((i : ℕ) → i < count_of x → (id_in s x i).round + depth ≡ t.round → Reached v i) → TakenFrom depth back w v
-  full-taken depth back w v one full j k rest e at r i lt p =
-      full i lt (omega (arith, passed-round c k back (id_in s x i) p, kept-least c (book_in s) h.shape k (member h j k rest e), one_or_two one))
+  pub full-taken : (depth : ℕ) (deps : Deps) (w v : Walk) → ((i : ℕ) → i < count_of x → (id_in s x i).round + depth ≡ t.round → Reached v i) → TakenFrom depth deps w v
+  full-taken depth deps w v full j k rest e at r i lt p =
+      full i lt (omega (arith, passed-round c k deps (id_in s x i) p, kept-least c (book_in s) h.shape k (member h j k rest e), one_or_two deps))
 
-  module _ (depth : ℕ) (some-deep : 1 ≤ depth) {w v : List ℕ} where
-    pub reached-full : Passed c s x t depth 1 w v true → DepthReached c s x t depth w v
+  module _ (depth : ℕ) (some-deep : 1 ≤ depth) {w v : Walk} where
+    pub reached-full : Passed c s x t depth Includes w v true → DepthReached c s x t depth w v
     reached-full p =
-        record { grown = p.grown; sound = p.sound; done = λ d. done_more depth some-deep p.grown p.taken (λ m. full-taken depth 2 w v (inr refl) (p.full refl)) d }
+        record { grown = p.grown; sound = p.sound; done = λ d. done_more depth some-deep p.grown p.taken (λ m. full-taken depth Witness w v (p.full refl)) d }
 
-    pub reached-first : {r : Bool} → depth < 2 → Passed c s x t depth 1 w v r → DepthReached c s x t depth w v
+    pub reached-first : {r : Bool} → depth < 2 → Passed c s x t depth Includes w v r → DepthReached c s x t depth w v
     reached-first m p =
         record { grown = p.grown; sound = p.sound; done = λ d. done_more depth some-deep p.grown p.taken (λ n. absurd (omega arith)) d }
 
-  pub reached-both : (depth : ℕ) → 1 ≤ depth → {u v w : List ℕ} {q r : Bool} → Passed c s x t depth 1 u v q → Passed c s x t depth 2 v w r → DepthReached c s x t depth u w
+  pub reached-both : (depth : ℕ) → 1 ≤ depth → {u v w : Walk} {q r : Bool} → Passed c s x t depth Includes u v q → Passed c s x t depth Witness v w r → DepthReached c s x t depth u w
   reached-both depth some-deep p q =
       let g = grown_then p.grown q.grown in
       record {
@@ -220,15 +224,15 @@ module _ (c : Settings) {s : List ℕ} {end : ℕ} {x : List ℕ} (h : Stands s 
 
   module _ (first : ℕ) (lt : first < count_of x) (same : same_id (id_in s x first) t ≡ true) where
     is-first : (j : ℕ) → j < count_of x → same_id t (id_in s x j) ≡ true → j ≡ first
-    is-first = only_one h.once t first (record { within = lt; same = same })
+    is-first = only_one {x = x} h.once t first (record { within = lt; same = same })
 
-    pub first-sound : (w : List ℕ) → ((j : ℕ) → j < count_of x → (j ≡ first → ⊥) → get_or w j 0 ≡ 0) → Sound c s x t w
+    pub first-sound : (w : Walk) → ((j : ℕ) → j < count_of x → (j ≡ first → ⊥) → get_or w.reached j false ≡ false) → Sound c s x t w
     first-sound w others j g r = elim (ℕ_discrete j first) [
       | yes e ↦ rw e (covered_self (id_in s x first) (same_sym t (id_in s x first) ∙ same))
-      | no d ↦ absurd (omega (arith, others j g d))
+      | no d ↦ clash (get_or w.reached j false) r (others j g d)
     ]
 
-    pub first_done : (w : List ℕ) → Reached w first → Done c s x t 1 w
+    pub first_done : (w : Walk) → Reached w first → Done c s x t 1 w
     first_done w r j g under e = go (covered-by (id_in s x j) e)
       where
         go : (same_id t (id_in s x j) ≡ true) ⊎ Giver c s t (id_in s x j) → Reached w j
@@ -243,7 +247,7 @@ module _ (c : Settings) {s : List ℕ} {end : ℕ} {x : List ℕ} (h : Stands s 
             higher (inl a) = omega (arith, four, below f.kept.point.id f.covered, among-round (f.kept.point.id.round - 1) f.kept.point.includes (id_in s x j) a)
             higher (inr a) = omega (arith, four, below f.kept.point.id f.covered, among-round (f.kept.point.id.round - 2) f.kept.point.witness (id_in s x j) a)
 
-  pub all_done : (w : List ℕ) (n : ℕ) → c.commit_history_rounds < n → Done c s x t n w → (j : ℕ) → j < count_of x → is_covered c s x t j ≡ true → Reached w j
+  pub all_done : (w : Walk) (n : ℕ) → c.commit_history_rounds < n → Done c s x t n w → (j : ℕ) → j < count_of x → is_covered c s x t j ≡ true → Reached w j
   all_done w n deep d j lt e = d j lt (omega (arith, (covers-leads c (book_in s) h.shape (id_in s x j) t e).1)) e
 
 -- ---- nothing is covered where the previous point is not kept

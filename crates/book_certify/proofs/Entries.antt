@@ -4,7 +4,6 @@ use native.Mathlib.Numerals.{add-one}
 use native.Mathlib.Omega.{arith}
 use native.Mathlib.Decide.{dec_lt}
 use mathlib.Core.Path.{◌≡◌, refl, ap, sym, ◌∙◌, subst}
-use mathlib.Core.Logic.{◌⊎◌, inl, inr}
 use mathlib.Core.Bool.{Bool, true, false, not}
 use mathlib.Core.List.{List, [], ◌∷◌, ◌++◌, Memᴰ}
 use lib.ListN.{length, get_or, take, drop, length-drop, take-append-drop}
@@ -22,7 +21,8 @@ use Rattle.point.specs.Point.{same_id}
 use Rattle.point.specs.Reading.{point_id_at}
 use Rattle.point.proofs.Laws.{parts-of}
 use Rattle.schedule.specs.Settings.{Settings}
-use Rattle.id_index.specs.Code.{count_of, place_in, field_id, id_in, Once, Index}
+use Rattle.id_index.specs.declared.Index.{Index}
+use Rattle.id_index.specs.Code.{count_of, place_in, field_id, id_in, Once, IsIndex}
 use Rattle.books.specs.Kept.{Status, Valid, TransInvalid, Invalid, IllFormed, Kept, Book}
 use Rattle.books.specs.Spread.{is_ill_formed, has_deps}
 use Rattle.books.specs.Offer.{used}
@@ -32,26 +32,28 @@ use Rattle.books.proofs.Canonical.{FrontOf, front-again, book-again}
 use Rattle.books.proofs.RoundTrip.{kept_split, kept-shaped}
 use Rattle.book_read.specs.Code.{Holds, IsRead}
 use Rattle.book_read.proofs.Laws.{standing, inside, twice-book}
-use Rattle.book_certify.specs.Code.{entries_of, book_in, end_in, map_back, rows_back}
+use Rattle.book_certify.specs.Code.{entries_of, book_in, end_in, rounds_of, map_back, rows_back}
+use Rattle.book_certify.specs.declared.spread.Deps.{Deps}
+use Rattle.book_certify.specs.declared.spread.Deps.TheVariants.{Includes, Witness}
 
-pub one_or_two : {n : ℕ} → (n ≡ 1) ⊎ (n ≡ 2) → n ≤ 2
-one_or_two (inl e) = omega arith
-one_or_two (inr e) = omega arith
+pub one_or_two : (deps : Deps) → (1 ≤ rounds_of deps) × (rounds_of deps ≤ 2)
+one_or_two Includes = (omega arith, omega arith)
+one_or_two Witness = (omega arith, omega arith)
 
-pub record Stands (s : List ℕ) (end : ℕ) (x : List ℕ) (b : Book) : Type 0 where
+pub record Stands (s : List ℕ) (end : ℕ) (x : Index) (b : Book) : Type 0 where
   pub holds : Holds s b x
   pub shape : Shape b
-  pub index : Index s x
+  pub index : IsIndex s x
   pub once : Once s x (count_of x)
   pub ends : end ≡ 47 + used b
   pub room : 47 + used b ≤ length s
   pub bytes : Bytes s
 
 -- no id stands twice in the index
-index-once : {s : List ℕ} {b : Book} {x : List ℕ} → Holds s b x → Once s x (count_of x)
+index-once : {s : List ℕ} {b : Book} {x : Index} → Holds s b x → Once s x (count_of x)
 index-once {s} {b} {x} h j k lt low = never (same_id (id_in s x j) (id_in s x k)) (λ t. clash _ (twice-book h.placed (record { first = j; second = k; after = lt; within = low; same = t })) h.once)
 
-pub stands : {s : List ℕ} {c : Settings} {end : ℕ} {x : List ℕ} → Bytes s → IsRead s c end x → Stands s end x (book_in s)
+pub stands : {s : List ℕ} {c : Settings} {end : ℕ} {x : Index} → Bytes s → IsRead s c end x → Stands s end x (book_in s)
 stands {s} {c} {end} {x} w h =
     let z = book-again s h.opened w h.read in
     subst (Stands s end x) (sym (ap entries_of h.read))
@@ -91,7 +93,7 @@ state_byte (TransInvalid d) c = refl
 state_byte (Invalid n) c = refl
 state_byte (IllFormed n) c = refl
 
-module _ {s : List ℕ} {end : ℕ} {x : List ℕ} {b : Book} (h : Stands s end x b) where
+module _ {s : List ℕ} {end : ℕ} {x : Index} {b : Book} (h : Stands s end x b) where
   pub entry_at : (j : ℕ) → j < count_of x → (k : Kept) × (rest : Book) × (drop j b ≡ k ∷ rest)
   entry_at j lt = standing b j (omega (arith, h.holds.placed.count))
 
@@ -174,12 +176,10 @@ module _ {s : List ℕ} {end : ℕ} {x : List ℕ} {b : Book} (h : Stands s end 
       unfolding content_of start_of
       witness-rows = ap (λ (n : ℕ). content_at (k.bytes ++ t) (next_at (k.bytes ++ t) n)) (sym includes-start) ∙ append-content k.bytes t shaped 3 (omega arith)
 
-    pub entry-rows : (back : ℕ) → (back ≡ 1) ⊎ (back ≡ 2) → pairs_of (rows_back back (drop place s)) ≡ map_back back k.point
-    entry-rows back (inl e) =
+    pub entry-rows : (deps : Deps) → pairs_of (rows_back deps (drop place s)) ≡ map_back deps k.point
+    entry-rows Includes =
         let r = record_there in
-        let p = parts-of k.bytes k.point kept-shape.read in
-        rw (e, r.1, includes-rows r.0 r.1) (sym p.includes)
-    entry-rows back (inr e) =
+        rw (r.1, includes-rows r.0 r.1) (sym (parts-of k.bytes k.point kept-shape.read).includes)
+    entry-rows Witness =
         let r = record_there in
-        let p = parts-of k.bytes k.point kept-shape.read in
-        rw (e, r.1, witness-rows r.0 r.1) (sym p.witness)
+        rw (r.1, witness-rows r.0 r.1) (sym (parts-of k.bytes k.point kept-shape.read).witness)

@@ -10,6 +10,8 @@ use Rattle.map.proofs.Laws.{peers_of-length, pairs_of-length, peers-pairs_of, pe
 use Rattle.point.specs.Point.{PointId, same_id}
 use Rattle.rules.specs.Mismatch.{pair_id, is_among}
 use Rattle.judge_mismatch.specs.Code.{no_pair}
+use Rattle.id_index.specs.declared.Index.{Index}
+use Rattle.book_certify.specs.declared.Walk.{Walk}
 use Rattle.book_certify.specs.Code.{Adds}
 use Rattle.book_certify.proofs.Adds.{adds_none, adds_then}
 
@@ -23,12 +25,12 @@ row_id s i round digest author h d a =
 pub row_count : (s : List ℕ) → length (peers_of 64 s) ≡ length (pairs_of s)
 row_count s = peers_of-length 64 s ∙ sym (pairs_of-length s)
 
-module _ {s x : List ℕ} (l : List Pair) (n round : ℕ) where
-  pub rows_next : n < length l → (i : PointId) → i ≡ pair_id round (get_or l n no_pair) → {u v w : List ℕ} →
+module _ {s : List ℕ} {x : Index} (l : List Pair) (n round : ℕ) where
+  pub rows_next : n < length l → (i : PointId) → i ≡ pair_id round (get_or l n no_pair) → {u v w : Walk} →
       Adds s x (same_id i) u v → Adds s x (is_among round (drop (n + 1) l)) v w → Adds s x (is_among round (drop n l)) u w
   unfolding is_among
   rows_next lt i e a b = rw (drop-cons l n no_pair lt) (adds_then (rw e at a) (rw (add-one n) at b))
 
-  pub rows_end : length l ≤ n → (w : List ℕ) → Adds s x (is_among round (drop n l)) w w
+  pub rows_end : length l ≤ n → (w : Walk) → Adds s x (is_among round (drop n l)) w w
   unfolding is_among
   rows_end h w = rw (drop_of_length-le l h) (adds_none w (λ j lt. refl))

@@ -1,36 +1,44 @@
 // Chains the entries by their depths.
-ghost use Rattle.std.specs.Prelude.{◌≡◌, ℕ, ◌+◌, ◌≤◌, ◌<◌, length, get_or};
+ghost use Rattle.std.specs.Prelude.{◌+◌, ◌<◌};
 ghost use Rattle.id_index.specs.Code.{count_of, Places};
-ghost use Rattle.book_certify.specs.Code.{Chained, SameReached};
+ghost use Rattle.book_certify.specs.Code.{IsFresh, Chained, SameReached};
 
-use crate::{HEADS, LINKS, entry};
+use crate::Walk;
+use crate::spread::Spread;
 
-// Chains one more entry, if it lies at or below the round of the previous point and within the history.
-fn chain_next(book: &[u8], index: &[u16], j: usize, top: u32, history: usize, walk: &mut [u16])
-    requires places { Places book.now index.now × ((j < count_of index.now) × (history < 256)) }
-    requires chained { Chained book.now index.now top history j walk.old }
-    ensures chained_2 { Chained book.now index.now top history (j + 1) walk.new }
-    ensures same_reached { SameReached walk.old walk.new }
-{
-    let round = entry::round_of(book, index, j);
-    if top < round {
-        return;
+impl Walk {
+    // Chains one more entry, if it lies at or below the round of the previous point and within the history.
+    fn chain_next(&mut self, by: &Spread, j: usize)
+        requires places { Places by.now.book.now by.now.index.now }
+        requires j_bound { j < count_of by.now.index.now }
+        requires chained { Chained by.now.book.now by.now.index.now by.now.prev.round
+            by.now.conf.commit_history_rounds j self.old }
+        ensures chained_2 { Chained by.now.book.now by.now.index.now by.now.prev.round
+            by.now.conf.commit_history_rounds (j + 1) self.new }
+        ensures same_reached { SameReached self.old self.new }
+    {
+        let top = by.prev.round;
+        let round = by.round_of(j);
+        if top < round {
+            return;
+        }
+        let depth = (top - round) as usize;
+        if usize::from(by.conf.commit_history_rounds) < depth {
+            return;
+        }
+        self.links[j] = self.heads[depth];
+        self.heads[depth] = (j + 1) as u16;
     }
-    let depth = (top - round) as usize;
-    if history < depth {
-        return;
-    }
-    walk[LINKS + j] = walk[HEADS + depth];
-    walk[HEADS + depth] = (j + 1) as u16;
-}
 
-pub fn chain_all(book: &[u8], index: &[u16], top: u32, history: usize, walk: &mut [u16])
-    requires places { Places book.now index.now × (history < 256) }
-    requires walk_len { (length walk.old ≡ 8448) × ((d : ℕ) → d ≤ history → get_or walk.old (8192 + d) 0 ≡ 0) }
-    ensures chained { Chained book.now index.now top history (count_of index.now) walk.new }
-    ensures same_reached { SameReached walk.old walk.new }
-{
-    for j in 0..id_index::count(index) {
-        chain_next(book, index, j, top, history, walk);
+    pub fn chain_all(&mut self, by: &Spread)
+        requires places { Places by.now.book.now by.now.index.now }
+        requires fresh { IsFresh self.old }
+        ensures chained { Chained by.now.book.now by.now.index.now by.now.prev.round
+            by.now.conf.commit_history_rounds (count_of by.now.index.now) self.new }
+        ensures same_reached { SameReached self.old self.new }
+    {
+        for j in 0..by.index.count() {
+            self.chain_next(by, j);
+        }
     }
 }

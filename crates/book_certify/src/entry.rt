@@ -1,24 +1,17 @@
-// What is asked of an entry by its number, without reading it again.
-ghost use Rattle.std.specs.Prelude.{◌≡◌, ◌≤◌, ◌<◌, length};
-ghost use Rattle.parts.specs.Limits.{most_kept};
-ghost use Rattle.id_index.specs.Code.{count_of, id_in, Places};
+// Where an entry ends, which is asked while the book is read and while it is written.
+ghost use Rattle.std.specs.Prelude.{◌≡◌, ◌<◌};
+ghost use Rattle.id_index.specs.Code.{count_of};
 ghost use Rattle.book_certify.specs.Code.{end_in};
 
-// The round of an entry's id.
-pub fn round_of(book: &[u8], index: &[u16], j: usize) -> u32
-    requires { Places book.now index.now × (j < count_of index.now) }
-    ensures { result ≡ (id_in book.now index.now j).round }
-{
-    parts::u32_at(book, id_index::place_at(index, j) + 3)
-}
+use id_index::Index;
 
 // Where an entry ends: where the next begins, or all of them end.
-pub fn end_of(index: &[u16], j: usize, end: usize) -> usize
-    requires { (length index.now ≡ 16386) × ((count_of index.now ≤ most_kept) × (j < count_of index.now)) }
+pub fn end_of(index: &Index, j: usize, end: usize) -> usize
+    requires { j < count_of index.now }
     ensures { result ≡ end_in index.now end j }
 {
-    if j + 1 < id_index::count(index) {
-        id_index::place_at(index, j + 1)
+    if j + 1 < index.count() {
+        index.place_at(j + 1)
     } else {
         end
     }

@@ -1,64 +1,64 @@
 // One depth of the walk.
-ghost use Rattle.std.specs.Prelude.{◌≡◌, ◌⊎◌, ◌≤◌, ◌<◌};
+ghost use Rattle.std.specs.Prelude.{◌≤◌, ◌<◌};
 ghost use Rattle.point.specs.Code.{point_id_of};
 ghost use Rattle.schedule.specs.Code.{settings_of};
 ghost use Rattle.id_index.specs.Code.{count_of};
-ghost use Rattle.book_read.specs.Code.{IsRead};
-ghost use Rattle.book_certify.specs.Code.{Chained, Passed, DepthReached};
+ghost use Rattle.book_certify.specs.Code.{rounds_of, Chained, Passed, DepthReached};
+ghost use Rattle.book_certify.specs.Spread.{IsReadBy};
 
-use crate::{HEADS, LINKS, Spread, take};
+use crate::Walk;
+use crate::spread::{Deps, Spread};
 
-// Reaches entries of a depth from those 1 or 2 above it, until all of it are reached or none is left to go on from. Says
-// whether all are.
-fn reach_from(
-    by: Spread,
-    book: &[u8],
-    index: &[u16],
-    depth: usize,
-    back: usize,
-    walk: &mut [u16],
-) -> bool
-    requires read { IsRead book.now (settings_of by.conf) by.end index.now
-        × Chained book.now index.now by.prev.round by.conf.commit_history_rounds (count_of index.now) walk.old }
-    requires fact { ((back ≡ 1) ⊎ (back ≡ 2)) × ((back ≤ depth) × (depth ≤ by.conf.commit_history_rounds)) }
-    ensures { Passed (settings_of by.conf) book.now index.now (point_id_of by.prev) depth back
-        walk.old walk.new result }
-{
-    let mut left = walk[HEADS + depth] as usize;
-    let mut k = walk[HEADS + depth - back] as usize;
-    while 0 < left {
-        let j = left - 1;
-        if walk[j] == 1 {
-            left = walk[LINKS + j] as usize;
-            continue;
+impl Walk {
+    // Reaches entries of a depth from those above it that name them in a map, until all of it are reached or none is left to go
+    // on from. Says whether all are. Two chains are followed, each at its own pace: a `while`, as no iterator says that.
+    fn reach_from(&mut self, by: &Spread, depth: usize, deps: Deps) -> bool
+        requires read { IsReadBy by.now }
+        requires chained { Chained by.now.book.now by.now.index.now by.now.prev.round
+            by.now.conf.commit_history_rounds (count_of by.now.index.now) self.old }
+        requires depth_least { rounds_of deps ≤ depth }
+        requires depth_bound { depth ≤ by.now.conf.commit_history_rounds }
+        requires in_heads { depth < 256 }
+        ensures { Passed (settings_of by.now.conf) by.now.book.now by.now.index.now
+            (point_id_of by.now.prev) depth deps self.old self.new result }
+    {
+        let mut left = self.heads[depth];
+        let mut above = self.heads[depth - deps.rounds()];
+        while let Some(j) = usize::from(left).checked_sub(1) {
+            if self.reached[j] {
+                left = self.links[j];
+                continue;
+            }
+            let Some(e) = usize::from(above).checked_sub(1) else {
+                return false;
+            };
+            self.take(by, e, deps);
+            above = self.links[e];
         }
-        if k == 0 {
-            return false;
-        }
-        let e = k - 1;
-        take::take(by, book, index, e, back, walk);
-        k = walk[LINKS + e] as usize;
+        true
     }
-    true
-}
 
-// Reaches the entries of a depth, if it has any: by the includes of those above it, and where some are left by the witness of
-// those two above.
-pub fn reach_depth(by: Spread, book: &[u8], index: &[u16], depth: usize, walk: &mut [u16])
-    requires read { IsRead book.now (settings_of by.conf) by.end index.now
-        × Chained book.now index.now by.prev.round by.conf.commit_history_rounds (count_of index.now) walk.old }
-    requires le_depth { (1 ≤ depth) × (depth ≤ by.conf.commit_history_rounds) }
-    ensures { DepthReached (settings_of by.conf) book.now index.now (point_id_of by.prev) depth
-        walk.old walk.new }
-{
-    if walk[HEADS + depth] == 0 {
-        return;
+    // Reaches the entries of a depth, if it has any: by the includes of those above it, and where some are left by the witness of
+    // those two above.
+    pub fn reach_depth(&mut self, by: &Spread, depth: usize)
+        requires read { IsReadBy by.now }
+        requires chained { Chained by.now.book.now by.now.index.now by.now.prev.round
+            by.now.conf.commit_history_rounds (count_of by.now.index.now) self.old }
+        requires depth_least { 1 ≤ depth }
+        requires depth_bound { depth ≤ by.now.conf.commit_history_rounds }
+        requires in_heads { depth < 256 }
+        ensures { DepthReached (settings_of by.now.conf) by.now.book.now by.now.index.now
+            (point_id_of by.now.prev) depth self.old self.new }
+    {
+        if self.heads[depth] == 0 {
+            return;
+        }
+        if self.reach_from(by, depth, Deps::Includes) {
+            return;
+        }
+        if depth < 2 {
+            return;
+        }
+        self.reach_from(by, depth, Deps::Witness);
     }
-    if reach_from(by, book, index, depth, 1, walk) {
-        return;
-    }
-    if depth < 2 {
-        return;
-    }
-    reach_from(by, book, index, depth, 2, walk);
 }

@@ -30,7 +30,8 @@ use Rattle.rules.specs.Mismatch.{pair_id, is_version, is_id}
 use Rattle.books.specs.Kept.{Kept, Book, find_kept}
 use Rattle.books.specs.Lists.{kept_entry, entry_with, lookup, lookups, versions, direct_list, target_entry, is_trigger_first, indirect_list}
 use Rattle.books.proofs.Clear.{lookup-id}
-use Rattle.book_judge.specs.Code.{over_book, shown, NoVersions}
+use Rattle.book_layout.specs.Code.{shown}
+use Rattle.book_judge.specs.Code.{over_book, NoVersions}
 
 -- ---- the entry of an id
 

@@ -11,16 +11,17 @@ use borrow.Author.Tests.{eqb-true}
 use Rattle.base.specs.Base.{pick}
 use Rattle.base.proofs.Bool.{and_left, and_right, clash}
 use Rattle.base.proofs.Option.{none-some}
-use Rattle.point.specs.Point.{PointId, PointInfo, same_id}
+use Rattle.point.specs.Point.{PointId, same_id}
 use Rattle.point.proofs.Ids.{same_sym, same_refl, eq_same, differ}
 use Rattle.schedule.specs.Settings.{Settings}
 use Rattle.rules.specs.DagPoint.{Entry, PointView}
 use Rattle.judge_step.specs.Code.{Judging, direct_step, direct_fold}
 use Rattle.rules.specs.Mismatch.{is_id}
-use Rattle.books.specs.Kept.{Status, Valid, TransInvalid, Invalid, IllFormed, Kept, Book, find_kept, is_twice}
-use Rattle.books.specs.Lists.{dag_point, is_valid, is_of, first_valid, kept_entry, versions}
+use Rattle.books.specs.Kept.{Kept, Book, find_kept, is_twice}
+use Rattle.books.specs.Lists.{is_valid, is_of, first_valid, kept_entry, versions}
 use Rattle.books.proofs.Find.{absent-first, once-first, once-rest}
-use Rattle.book_judge.specs.Code.{shown, is_valid_state, Versions, is_first, version_step}
+use Rattle.book_layout.specs.Code.{shown}
+use Rattle.book_judge.specs.Code.{Versions, is_first, version_step}
 
 -- over the entries of a book
 unfoldable pub versions_fold : Settings → Bool → PointView → Versions → List Kept → Versions
@@ -113,24 +114,16 @@ module _ (c : Settings) (required : Bool) (p : PointView) (b : Book) where
 
 -- ---- one entry of the book more
 
-valid-state : (q : PointInfo) (x : Status) → is_valid_state (dag_point q x) ≡ is_valid x
-valid-state q Valid = refl
-valid-state q (TransInvalid d) = refl
-valid-state q (Invalid n) = refl
-valid-state q (IllFormed n) = refl
-
 module _ (c : Settings) (required : Bool) (p : PointView) where
   pub version-other : (w : Versions) (k : Kept) → is_of (p.id.round - 1) p.id.author k ≡ false → w ≡ version_step c required p w k
   unfolding version_step
   version-other w k h = rw h
 
   pub version-own : (w : Versions) (k : Kept) (e : Entry) (first seen : Bool) (j : Judging) → is_of (p.id.round - 1) p.id.author k ≡ true →
-      e ≡ shown k first → first ≡ (is_valid_state e.state && not w.seen) → j ≡ direct_step c required p w.judging e → seen ≡ (w.seen || first) →
+      e ≡ shown k first → first ≡ is_first k w.seen → j ≡ direct_step c required p w.judging e → seen ≡ (w.seen || first) →
       record { judging = j; seen = seen } ≡ version_step c required p w k
   unfolding version_step
-  version-own w k e first seen j h d f g o =
-      let is : first ≡ is_first k w.seen = f ∙ ap (λ (t : Bool). t && not w.seen) (ap (λ (x : Entry). is_valid_state x.state) d ∙ valid-state k.point k.status) in
-      rw (h, g, o, d, is)
+  version-own w k e first seen j h d f g o = rw (h, g, o, d, f)
 
   -- the versions so far, over the entries from j on, give what all entries give
   abbrev pub VersionsLeft : Book → Versions → ℕ → Versions → Type 0

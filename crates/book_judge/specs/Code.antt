@@ -1,5 +1,5 @@
 -- Judging a point by the lists that a book builds of its entries, and what the code's values stand for.
-use Rattle.std.specs.Prelude.{ℕ, ◌-◌, ◌+◌, ◌<◌, ◌≡◌, Bool, true, false, not, ◌&&◌, ◌||◌, drop, Some, is_some}
+use Rattle.std.specs.Prelude.{ℕ, ◌-◌, ◌<◌, ◌≡◌, Bool, true, false, not, ◌&&◌, ◌||◌, drop, Some, is_some}
 use mathlib.Core.List.{List, Memᴰ}
 use Rattle.judge_valid.specs.Code.{point_view_of}
 use Rattle.base.specs.Base.{pick}
@@ -7,23 +7,24 @@ use Rattle.map.specs.Rows.{Pair, pairs_of}
 use Rattle.point.specs.Point.{PointInfo, PointId, AnchorLink, anchor_link, in_domain}
 use Rattle.schedule.specs.Settings.{Settings}
 use Rattle.reasons.specs.Verdict.{Verdict}
-use Rattle.rules.specs.DagPoint.{DagPoint, Valid, TransInvalid, Invalid, IllFormed, NotFound, Dropped, Entry, PointView, point_view}
+use Rattle.rules.specs.DagPoint.{Entry, PointView, point_view}
 use Rattle.rules.specs.Validate.{validate}
-use Rattle.judge_entries.specs.Code.{entry_of, part_of}
-use Rattle.judge_step.specs.Code.{Judging, direct_step, judging_of, start, direct_fold, indirect_fold}
+use Rattle.judge_entries.specs.Entry.{entry_of}
+use Rattle.judge_entries.specs.declared.entry.Entry as code-entry
+use Rattle.judge_step.specs.Code.{as_first, Judging, direct_step, judging_of, start, direct_fold, indirect_fold}
 use Rattle.rules.specs.Mismatch.{pair_id, is_version}
 use Rattle.books.specs.Kept.{Kept, Book}
-use Rattle.books.specs.Lists.{dag_point, is_valid, is_of, direct_list, indirect_list, lookup, lookups, versions, target_entry}
-use Rattle.id_index.specs.Code.{count_of, place_in, Index}
+use Rattle.books.specs.Lists.{is_valid, is_of, direct_list, indirect_list, lookup, lookups, versions, target_entry}
+use Rattle.id_index.specs.Code.{count_of, place_in, id_in, IsIndex}
+use Rattle.id_index.specs.declared.Index as code-index
+use Rattle.book_layout.specs.Code.{shown}
 use Rattle.book_read.specs.Code.{Holds}
 use Rattle.judge_valid.specs.declared.view.PointView as code_view
-use Rattle.book_judge.specs.declared.look.Looked as code-looked
 use Rattle.book_judge.specs.declared.direct.Versions as code-versions
 use Rattle.parts.specs.Code.{number}
-use Rattle.point.specs.Reading.{point_id_at}
 use Rattle.point.specs.Code.{point_of}
 use Rattle.point.specs.declared.data.AnchorStageRole.{AnchorStageRole}
-use Rattle.books.specs.Layout.{KeptFront, kept_front}
+use Rattle.books.specs.Layout.{kept_front}
 use Rattle.point.specs.declared.info.PointInfo as code-info
 
 -- the verdict over the lists that the book builds, its marks made before; all rounds are present
@@ -33,39 +34,28 @@ over_book c required p b = validate c required 3 p (direct_list b p) (indirect_l
 -- ---- for contracts between functions
 
 -- x is an index of the entries in the bytes s
-pub record Entries (s x : List ℕ) : Type 0 where
-  pub index : Index s x
+pub record Entries (s : List ℕ) (x : code-index.Index) : Type 0 where
+  pub index : IsIndex s x
   pub fronts : (j : ℕ) → j < count_of x → is_some (kept_front (drop (place_in x j) s)) ≡ true
 
 -- a book whose entries stand in the bytes, and the point that a view is of
-pub record Asked (s : List ℕ) (b : Book) (x : List ℕ) (v : code_view.PointView) (p : PointInfo) : Type 0 where
+pub record Asked (s : List ℕ) (b : Book) (x : code-index.Index) (v : code_view.PointView) (p : PointInfo) : Type 0 where
   pub holds : Holds s b x
   pub view : point_view_of v ≡ point_view p
 
--- what the judge is told of a kept point
-abbrev pub shown : Kept → Bool → Entry
-shown k first = record { state = dag_point k.point k.status; certified = k.certified; first_valid = first }
-
-abbrev pub looked_of : List ℕ → code-looked.Looked → Bool → Entry
-looked_of s x first = entry_of (part_of s x.place x.end) x.state x.certified first
+-- an entry, but for whether it is first valid
+abbrev pub looked_of : code-entry.Entry → Bool → Entry
+looked_of r first = as_first first (entry_of r)
 
 -- what was looked up is an entry, but for whether it is first valid
-abbrev pub Looks : List ℕ → code-looked.Looked → Entry → Type 0
-Looks s x e = looked_of s x e.first_valid ≡ e
+abbrev pub Looks : code-entry.Entry → Entry → Type 0
+Looks r e = looked_of r e.first_valid ≡ e
 
 -- none of these dependencies is a version of the author's point at r-1
 abbrev pub NoVersions : PointInfo → ℕ → List Pair → Type 0
 NoVersions p round l = (x : Pair) → Memᴰ x l → is_version p (pair_id round x) ≡ false
 
 -- ---- the versions of an author
-
-abbrev pub is_valid_state : DagPoint → Bool
-is_valid_state (Valid q) = true
-is_valid_state (TransInvalid q root n) = false
-is_valid_state (Invalid q n) = false
-is_valid_state (IllFormed i n) = false
-is_valid_state (NotFound i) = false
-is_valid_state Dropped = false
 
 -- what they have given so far; seen says that one was Valid
 pub record Versions : Type 0 where
@@ -91,51 +81,46 @@ version_step c required p w k =
 
 -- ---- what functions promise of the book whose bytes are s and whose index is x, and of a point whose view is v
 
--- what stands at a place, if it is an entry, is handed on as the judge is told of it
-abbrev pub KeptLooked : List ℕ → ℕ → code-looked.Looked → Type 0
-KeptLooked s place r =
-    (x : KeptFront) → kept_front (drop place s) ≡ Some x → (first : Bool) → looked_of s r first ≡ shown x.kept first
-
 -- what was looked up is what the book says of an id
-abbrev pub LookedUp : List ℕ → List ℕ → code_view.PointView → PointId → code-looked.Looked → Type 0
-LookedUp s x v i r = (b : Book) (p : PointInfo) → Asked s b x v p → Looks s r (lookup b p i)
+abbrev pub LookedUp : List ℕ → code-index.Index → code_view.PointView → PointId → code-entry.Entry → Type 0
+LookedUp s x v i r = (b : Book) (p : PointInfo) → Asked s b x v p → (r.first_valid ≡ false) × Looks r (lookup b p i)
 
 -- the dependencies that a map's rows name at a round were judged, none of which is a version
-abbrev pub MapJudged : Settings → Bool → code_view.PointView → ℕ → List ℕ → List ℕ → List ℕ → Judging → Judging → Type 0
+abbrev pub MapJudged : Settings → Bool → code_view.PointView → ℕ → List ℕ → List ℕ → code-index.Index → Judging → Judging → Type 0
 MapJudged c required v round rows s x old new =
     (b : Book) (p : PointInfo) → Asked s b x v p → NoVersions p round (pairs_of rows) →
     new ≡ direct_fold c required (point_view_of v) old (lookups b p round (pairs_of rows))
 
--- the entry at a place was judged, if it is a version
-abbrev pub VersionJudged : Settings → Bool → code_view.PointView → List ℕ → ℕ → Versions → Versions → Type 0
-VersionJudged c required v s place old new =
-    (x : KeptFront) → kept_front (drop place s) ≡ Some x → point_id_at s (place + 3) ≡ x.kept.point.id →
-    new ≡ version_step c required (point_view_of v) old x.kept
+-- entry j was judged, if it is a version
+abbrev pub VersionJudged : Settings → Bool → code_view.PointView → List ℕ → code-index.Index → ℕ → Versions → Versions → Type 0
+VersionJudged c required v s x j old new =
+    (k : Kept) (size : ℕ) → kept_front (drop (place_in x j) s) ≡ Some (record { kept = k; size = size }) → id_in s x j ≡ k.point.id →
+    new ≡ version_step c required (point_view_of v) old k
 
 -- the versions of the author's point at r-1 were judged, in the book's order
-abbrev pub VersionsJudged : Settings → Bool → code_view.PointView → List ℕ → List ℕ → Judging → Judging → Type 0
+abbrev pub VersionsJudged : Settings → Bool → code_view.PointView → List ℕ → code-index.Index → Judging → Judging → Type 0
 VersionsJudged c required v s x old new =
     (b : Book) → Holds s b x →
     new ≡ direct_fold c required (point_view_of v) old (versions b (v.id.round - 1) (number v.id.author) b)
 
 -- the direct list that the book builds for a point of this record was judged
-abbrev pub DirectListJudged : Settings → Bool → code_view.PointView → List ℕ → List ℕ → List ℕ → Judging → Type 0
+abbrev pub DirectListJudged : Settings → Bool → code_view.PointView → List ℕ → List ℕ → code-index.Index → Judging → Type 0
 DirectListJudged c required v rec s x new =
     (b : Book) (i : code-info.PointInfo) → Asked s b x v (point_of rec i) → in_domain (point_of rec i) ≡ true →
     new ≡ direct_fold c required (point_view_of v) start (direct_list b (point_of rec i))
 
 -- the target of a link was judged, if the link is indirect
-abbrev pub TargetJudged : Settings → code_view.PointView → AnchorStageRole → AnchorLink → List ℕ → List ℕ → Judging → Judging → Type 0
+abbrev pub TargetJudged : Settings → code_view.PointView → AnchorStageRole → AnchorLink → List ℕ → code-index.Index → Judging → Judging → Type 0
 TargetJudged c v role link s x old new =
     (b : Book) (p : PointInfo) → Asked s b x v p → link ≡ anchor_link role p →
     new ≡ indirect_fold c p old (target_entry b p role link)
 
 -- the indirect list that the book builds for a point was judged, whatever its record
-abbrev pub TargetsJudged : Settings → code_view.PointView → code-info.PointInfo → List ℕ → List ℕ → Judging → Judging → Type 0
+abbrev pub TargetsJudged : Settings → code_view.PointView → code-info.PointInfo → List ℕ → code-index.Index → Judging → Judging → Type 0
 TargetsJudged c v i s x old new =
     (b : Book) (rec : List ℕ) → Asked s b x v (point_of rec i) →
     new ≡ indirect_fold c (point_of rec i) old (indirect_list b (point_of rec i))
 
 -- a point in the domain was judged by the book
-abbrev pub BookJudged : Settings → Bool → PointInfo → List ℕ → List ℕ → Verdict → Type 0
+abbrev pub BookJudged : Settings → Bool → PointInfo → List ℕ → code-index.Index → Verdict → Type 0
 BookJudged c required p s x v = (b : Book) → Holds s b x → in_domain p ≡ true → v ≡ over_book c required p b

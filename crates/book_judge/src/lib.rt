@@ -6,7 +6,8 @@ mod direct;
 mod look;
 
 ghost use Rattle.std.specs.Prelude.{◌≡◌};
-ghost use Rattle.point.specs.Code.{link_of, point_of, Reads};
+ghost use Rattle.point.specs.Code.{link_of};
+ghost use Rattle.point.specs.Said.{said};
 ghost use Rattle.schedule.specs.Code.{settings_of};
 ghost use Rattle.reasons.specs.Code.{verdict_of};
 ghost use Rattle.judge_step.specs.Code.{judging_of};
@@ -14,45 +15,29 @@ ghost use Rattle.books.specs.Lists.{is_trigger_first};
 ghost use Rattle.book_judge.specs.Code.{Entries, TargetJudged, TargetsJudged, BookJudged};
 
 use judge_step::Judging;
-use judge_valid::PointView;
-use point::{AnchorLink, AnchorStageRole, PointInfo};
+use judge_valid::By;
+pub use look::IndexedBook;
+use point::{AnchorLink, AnchorStageRole, Point, PointInfo};
 use reasons::Verdict;
 use schedule::Settings;
 
-// What every entry is judged by: the settings, whether regular points are required, and the view of the point.
-#[derive(Clone, Copy)]
-struct By {
-    conf: Settings,
-    required: bool,
-    view: PointView,
-}
-
 // Judges the target of a link, if it is indirect.
 fn judge_target(
-    by: By,
+    by: &By,
     role: AnchorStageRole,
     link: AnchorLink,
-    book: &[u8],
-    index: &[u16],
+    book: &IndexedBook,
     so_far: Judging,
 ) -> Judging
-    requires { Entries book.now index.now }
-    ensures { TargetJudged (settings_of by.conf) by.view role (link_of link) book.now index.now (judging_of so_far) (judging_of result) }
+    requires { Entries book.now.bytes.now book.now.index.now }
+    ensures { TargetJudged (settings_of by.now.conf) by.now.view role (link_of link) book.now.bytes.now book.now.index.now (judging_of so_far) (judging_of result) }
 {
     let AnchorLink::Indirect(indirect) = link else {
         return so_far;
     };
-    let x = look::lookup(by.view, indirect.to, book, index);
-    let gives = judge_step::indirect_gives(
-        by.conf,
-        role,
-        indirect.through,
-        by.view,
-        &book[x.place..x.end],
-        x.state,
-        x.certified,
-    );
-    judge_step::with_indirect(so_far, gives)
+    let entry = book.lookup(&by.view, indirect.to);
+    let gives = judge_step::indirect_gives(by, role, indirect.through, &entry);
+    judge_step::with_indirect(so_far, &gives)
 }
 
 // Whether the trigger link's target has the higher round.
@@ -68,38 +53,30 @@ fn is_trigger_first(proof: AnchorLink, trigger: AnchorLink) -> bool
 }
 
 // Judges the indirect entries: the target with the higher round first, the proof's on a tie.
-fn judge_targets(by: By, info: PointInfo, book: &[u8], index: &[u16], so_far: Judging) -> Judging
-    requires { Entries book.now index.now }
-    ensures { TargetsJudged (settings_of by.conf) by.view info book.now index.now (judging_of so_far) (judging_of result) }
+fn judge_targets(by: &By, info: PointInfo, book: &IndexedBook, so_far: Judging) -> Judging
+    requires { Entries book.now.bytes.now book.now.index.now }
+    ensures { TargetsJudged (settings_of by.now.conf) by.now.view info book.now.bytes.now book.now.index.now (judging_of so_far) (judging_of result) }
 {
     let proof = info.anchor_proof;
     let trigger = info.anchor_trigger;
     if is_trigger_first(proof, trigger) {
-        let first = judge_target(by, AnchorStageRole::Trigger, trigger, book, index, so_far);
-        return judge_target(by, AnchorStageRole::Proof, proof, book, index, first);
+        let first = judge_target(by, AnchorStageRole::Trigger, trigger, book, so_far);
+        return judge_target(by, AnchorStageRole::Proof, proof, book, first);
     }
-    let first = judge_target(by, AnchorStageRole::Proof, proof, book, index, so_far);
-    judge_target(by, AnchorStageRole::Trigger, trigger, book, index, first)
+    let first = judge_target(by, AnchorStageRole::Proof, proof, book, so_far);
+    judge_target(by, AnchorStageRole::Trigger, trigger, book, first)
 }
 
 // Judges a point whose list is needed.
-pub fn judge_book(
-    conf: Settings,
-    required: bool,
-    rec: &[u8],
-    info: PointInfo,
-    book: &[u8],
-    index: &[u16],
-) -> Verdict
-    requires reads { Reads rec.now info }
-    requires entries { Entries book.now index.now }
-    ensures { BookJudged (settings_of conf) required (point_of rec.now info) book.now index.now (verdict_of result) }
+pub fn judge_book(conf: Settings, required: bool, point: &Point, book: &IndexedBook) -> Verdict
+    requires { Entries book.now.bytes.now book.now.index.now }
+    ensures { BookJudged (settings_of conf) required (said point.now) book.now.bytes.now book.now.index.now (verdict_of result) }
 {
     let by = By {
         conf,
         required,
-        view: judge_valid::point_view(rec, info),
+        view: judge_valid::point_view(point),
     };
-    let direct = direct::judge_direct_list(by, rec, info, book, index);
-    judge_list::verdict(judge_targets(by, info, book, index, direct))
+    let direct = direct::judge_direct_list(&by, point, book);
+    judge_list::verdict(judge_targets(&by, point.info, book, direct))
 }

@@ -1,51 +1,54 @@
 // What a book says of a dependency.
-ghost use Rattle.std.specs.Prelude.{◌≡◌, true, ◌≤◌, length, drop, is_some};
-ghost use Rattle.point.specs.Code.{point_id_of};
-ghost use Rattle.judge_entries.specs.Code.{EntryPlaced};
-ghost use Rattle.books.specs.Layout.{kept_front};
-ghost use Rattle.book_judge.specs.Code.{Entries, KeptLooked, LookedUp};
-
-use judge_entries::DagPoint;
+use book_layout::Kept;
+use id_index::Index;
+use judge_entries::{DagPoint, Entry};
 use judge_valid::PointView;
 use point::PointId;
 
-// An entry whose record stands from `place` to `end`.
+// A book's bytes with the index of its entries, which reading them has made. That the index is of these entries is asked in each
+// clause: it says where an id stands, and a fact with a value in it is none that a ghost field holds.
 #[derive(Clone, Copy)]
-pub struct Looked {
-    pub state: DagPoint,
-    pub certified: bool,
-    pub place: usize,
-    pub end: usize,
+pub struct IndexedBook<'a> {
+    pub bytes: &'a [u8],
+    pub index: &'a Index,
 }
 
-// The entry that starts at a place. Reading the book has tested it: it is not tested again.
-pub fn kept_at(book: &[u8], place: usize) -> Looked
-    requires { (place ≤ length book.now) × (is_some (kept_front (drop place book.now)) ≡ true) }
-    ensures entry_placed { EntryPlaced book.now result.state result.place result.end }
-    ensures kept_looked { KeptLooked book.now place result }
-{
-    let k = book_layout::known_kept(&book[place..]);
-    Looked {
-        state: book_layout::dag_point(k.info, k.status),
-        certified: k.certified,
-        place,
-        end: place + k.len,
+impl<'a> IndexedBook<'a> {
+    ghost use Rattle.std.specs.Prelude.{◌≡◌, ◌<◌, drop};
+    ghost use Rattle.point.specs.Code.{point_id_of};
+    ghost use Rattle.id_index.specs.Code.{count_of, place_in, id_in};
+    ghost use Rattle.book_layout.specs.Code.{KeptAt};
+    ghost use Rattle.book_judge.specs.Code.{Entries, LookedUp};
+
+    // The id of the entry with a number, without its record.
+    pub fn id(&self, j: usize) -> PointId
+        requires { Entries self.now.bytes.now self.now.index.now × (j < count_of self.now.index.now) }
+        ensures { point_id_of result ≡ id_in self.now.bytes.now self.now.index.now j }
+    {
+        point::point_id_at(self.bytes, self.index.place_at(j) + 3)
     }
-}
 
-// What the book says of an id. The previous point counts as certified even if it is not kept.
-pub fn lookup(p: PointView, id: PointId, book: &[u8], index: &[u16]) -> Looked
-    requires { Entries book.now index.now }
-    ensures entry_placed { EntryPlaced book.now result.state result.place result.end }
-    ensures looked_up { LookedUp book.now index.now p (point_id_of id) result }
-{
-    match id_index::find(book, index, id) {
-        Some(j) => kept_at(book, id_index::place_at(index, j)),
-        None => Looked {
-            state: DagPoint::NotFound(id),
-            certified: judge_list::is_prev(p, id),
-            place: 0,
-            end: 0,
-        },
+    // The entry with a number. Reading the book has tested it: it is not tested again.
+    pub fn kept(&self, j: usize) -> Kept<'a>
+        requires { Entries self.now.bytes.now self.now.index.now × (j < count_of self.now.index.now) }
+        ensures { KeptAt (drop (place_in self.now.index.now j) self.now.bytes.now) result }
+    {
+        book_layout::known_kept(&self.bytes[self.index.place_at(j)..])
+    }
+
+    // What the book says of an id. The previous point counts as certified even if it is not kept.
+    pub fn lookup(&self, p: &PointView, id: PointId) -> Entry<'a>
+        requires { Entries self.now.bytes.now self.now.index.now }
+        ensures { LookedUp self.now.bytes.now self.now.index.now p.now (point_id_of id) result }
+    {
+        let Some(j) = self.index.find(self.bytes, id) else {
+            return Entry {
+                rec: &[],
+                state: DagPoint::NotFound(id),
+                certified: judge_list::is_prev(p, id),
+                first_valid: false,
+            };
+        };
+        self.kept(j).entry(false)
     }
 }

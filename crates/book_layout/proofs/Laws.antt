@@ -1,81 +1,56 @@
 -- Laws of one entry: runs of zeros, the steps of reading it, and how its bytes are put together.
 use Rattle.std.specs.Prelude.{Option, None, Some, option_map, is_some}
 use Rattle.std.specs.Bool.{then_some}
-use Rattle.std.specs.List.{list_all}
-use Prim.Native.Nat.{ℕ, zero, suc, ◌+◌, ◌*◌, ◌-◌, ◌≤◌, ◌<◌}
+use Prim.Native.Nat.{ℕ, zero, suc, max, ◌+◌, ◌-◌, ◌≤◌, ◌<◌}
 use native.Mathlib.Omega.{arith}
 use native.Mathlib.Decide.{ℕ_discrete}
 use native.Mathlib.Numerals.{add-one}
 use mathlib.Core.Path.{◌≡◌, refl, ap, sym, ◌∙◌}
-use mathlib.Core.Bool.{Bool, true, false, ◌&&◌, and_assoc}
+use mathlib.Core.Bool.{Bool, true, false, ◌&&◌}
 use mathlib.Core.List.{List, [], ◌∷◌, ◌++◌, append_assoc}
-use lib.ListN.{length, get_or, take, drop, take-append-drop, length-take, length-drop}
-use lib.Seq.{drop-cons, take_all}
+use lib.ListN.{length, get_or, take, drop, length-take, length-drop}
+use lib.Seq.{drop-cons, length-take-le}
 use lib.Dec.{leb, eqb}
 use borrow.Author.Tests.{le-leb, lt-leb, eq-eqb, ne_eqb}
 use Rattle.base.specs.Base.{pick}
 use Rattle.base.proofs.Bool.{clash}
 use Rattle.base.proofs.Option.{picked, and_then_lem, some_of, unfound}
 use Rattle.base.proofs.Impossible.{impossible}
-use Rattle.parts.specs.Bytes.{little, little_at, little_bytes, big_bytes, put_at}
+use Rattle.parts.specs.Bytes.{little_bytes, big_bytes, put_at}
 use Rattle.parts.specs.Limits.{tag33_length}
 use Rattle.write.proofs.Laws.{put_three}
 use Rattle.record.specs.Record.{field_row, field_ok, record_end}
 use Rattle.record.proofs.Laws.{fitting}
 use Rattle.point.specs.Point.{PointId, Through, PointInfo, in_domain}
 use Rattle.point.specs.Reading.{point_id_at, read_point}
-use Rattle.point.specs.Code.{point_of, Reads}
-use Rattle.point.specs.declared.info.PointInfo as code-info
+use Rattle.point.specs.Said.{said}
 use Rattle.point.proofs.Known.{picked-some}
 use Rattle.reasons.specs.Invalid.{dag_round}
 use Rattle.rules.specs.List.{is_named, is_listable}
 use Rattle.books.specs.Kept.{Status, Valid, TransInvalid, Invalid, IllFormed, Kept}
 use Rattle.books.specs.Layout.{id_bytes, is_zeros, through_at, root_at, is_root_ok, read_status, is_keepable, read_kept, KeptFront, kept_front}
 use Rattle.book_layout.specs.Code.{status_of, KeptAt, EntryTo, KeptEnd}
-use Rattle.book_layout.specs.declared.status.Status as code-status
+use Rattle.book_layout.specs.declared.read.Kept as code-kept
 
 -- ---- zeros
 
-zeros-append : (l m : List ℕ) → is_zeros (l ++ m) ≡ (is_zeros l && is_zeros m)
+abbrev pub greatest : List ℕ → ℕ
+greatest [] = 0
+greatest (x ∷ l) = max x (greatest l)
+
+max_zero : (a b : ℕ) → eqb (max a b) 0 ≡ (eqb a 0 && eqb b 0)
+max_zero zero b = let e : max zero b ≡ b = omega arith in rw e
+max_zero (suc a) b = ne_eqb (max (suc a) b) 0 (λ e. omega arith) ∙ sym (rw (ne_eqb (suc a) 0 (λ e. omega arith)))
+
+-- the greatest of bytes is 0 exactly if all are
+pub zeros_greatest : (s : List ℕ) → eqb (greatest s) 0 ≡ is_zeros s
 unfolding is_zeros
-zeros-append [] m = refl
-zeros-append (x ∷ l) m = ap (λ b. eqb x 0 && b) (zeros-append l m) ∙ sym (and_assoc (eqb x 0) (is_zeros l) (is_zeros m))
-
--- bytes are zeros exactly if their number is 0
-little-zeros : (l : List ℕ) → eqb (little l) 0 ≡ is_zeros l
-unfolding little is_zeros
-little-zeros [] = refl
-little-zeros (zero ∷ l) = times_zero (little l) ∙ little-zeros l
-  where
-    times_zero : (n : ℕ) → eqb (0 + 256 * n) 0 ≡ eqb n 0
-    times_zero zero = refl
-    times_zero (suc n) = ne_eqb (0 + 256 * suc n) 0 (λ e. omega arith) ∙ sym (ne_eqb (suc n) 0 (λ e. omega arith))
-little-zeros (suc x ∷ l) = ne_eqb (suc x + 256 * little l) 0 (λ e. omega arith) ∙ sym (rw (ne_eqb (suc x) 0 (λ e. omega arith)))
-
--- the first n, and those after them
-zeros-split : (n : ℕ) (s : List ℕ) → is_zeros s ≡ (is_zeros (take n s) && is_zeros (drop n s))
-zeros-split n s = ap is_zeros (sym (take-append-drop n s)) ∙ zeros-append (take n s) (drop n s)
-
-module _ (n : ℕ) (s front : List ℕ) (e : front ≡ take n s) where
-  pub front_not : is_zeros front ≡ false → is_zeros s ≡ false
-  front_not f = zeros-split n s ∙ rw (← e, f)
-
-  pub front_zero : is_zeros front ≡ true → is_zeros (drop n s) ≡ is_zeros s
-  front_zero t = sym (zeros-split n s ∙ rw (← e, t))
-
--- eight bytes
-pub word_is : (s : List ℕ) (w : ℕ) → length s ≡ 8 → w ≡ little_at 8 s 0 → is_zeros s ≡ eqb w 0
-unfolding little_at
-word_is s w h e = sym (little-zeros s) ∙ rw (e, take_all 8 s (omega arith))
+zeros_greatest [] = refl
+zeros_greatest (x ∷ s) = max_zero x (greatest s) ∙ rw (zeros_greatest s)
 
 by_one : (s : List ℕ) (at : ℕ) → at < length s → is_zeros (drop at s) ≡ (eqb (get_or s at 0) 0 && is_zeros (drop (at + 1) s))
 unfolding is_zeros
 by_one s at h = rw (add-one, drop-cons s at 0)
-
-pub zeros_all : (s : List ℕ) → list_all (λ b. eqb b 0) s ≡ is_zeros s
-unfolding is_zeros
-zeros_all [] = refl
-zeros_all (x ∷ s) = ap (λ (b : Bool). eqb x 0 && b) (zeros_all s)
 
 -- ---- the status that tag 33 says
 
@@ -300,16 +275,16 @@ module _ (s : List ℕ) (h : is_some (kept_front s) ≡ true) where
           let k = known-entry q.0 q.1 in
           ap is_some (entry-parts part q.0 tag k.0 k.1).1
 
-      pub known_kept : (i : code-info.PointInfo) (x : code-status.Status) → Reads part i → read_status tag ≡ Some (status_of x) →
-          KeptAt s (record { info = i; status = x; certified = eqb (get_or tag 1 0) 1; len = n })
-      known_kept i x r t =
-          let k = known-entry (point_of part i) r.read in
-          let w = entry-parts part (point_of part i) tag k.0 k.1 in
-          let y : w.0 ≡ status_of x = let a = w.1 in cc in
+      pub known_kept : (k : code-kept.Kept) → k.point.rec.now ≡ part → read_status tag ≡ Some (status_of k.status) → k.certified ≡ eqb (get_or tag 1 0) 1 → KeptAt s k
+      known_kept k f t m =
+          let r : read_point part ≡ Some (said k.point) = rw (← f) k.point.reads.read in
+          let y = known-entry (said k.point) r in
+          let w = entry-parts part (said k.point) tag y.0 y.1 in
+          let x : w.0 ≡ status_of k.status = let a = w.1 in cc in
+          let z : length part ≡ n = rw p (length-take-le n s (omega (arith, known-inside))) in
           record {
-            front = front_read s part n e p (point_of part i) r.read known-tag tag g ∙ rw (k.1, w.2, y, p);
-            inside = known-inside;
-            read = rw (← p) r;
+            front = front_read s part n e p (said k.point) r known-tag tag g ∙ rw (y.1, w.2, x, f, m, z);
+            inside = omega (arith, known-inside, z, ap length f);
           }
 
 -- ---- an entry's bytes

@@ -1,10 +1,12 @@
 -- What the code's values of one entry stand for in the plain book.
-use Rattle.std.specs.Prelude.{ℕ, ◌+◌, ◌≤◌, ◌≡◌, List, [], ◌∷◌, length, take, None, Some, Option}
+use Rattle.std.specs.Prelude.{ℕ, ◌+◌, ◌≤◌, ◌≡◌, Bool, List, [], ◌∷◌, length, take, None, Some, Option}
 use Rattle.parts.specs.Limits.{tag33_length}
 use Rattle.point.specs.Point.{PointInfo}
 use Rattle.point.specs.Reading.{read_point}
-use Rattle.point.specs.Code.{point_of, Reads}
+use Rattle.point.specs.Said.{said}
 use Rattle.reasons.specs.Code.{dependency_of}
+use Rattle.rules.specs.DagPoint.{Entry}
+use Rattle.books.specs.Lists.{dag_point}
 use Rattle.books.specs.Kept.{Status, Valid, TransInvalid, Invalid, IllFormed, Kept}
 use Rattle.books.specs.Offer.{kept_as}
 use Rattle.books.specs.Layout.{kept_front}
@@ -23,16 +25,19 @@ abbrev pub left_of : List ℕ → PointInfo → Option code-status.Status → Li
 left_of bytes q (Some s) = kept_as bytes q (status_of s) ∷ []
 left_of bytes q None = []
 
--- an entry of the code has neither its record nor its point's maps
-abbrev pub kept_of : List ℕ → code-kept.Kept → Kept
-kept_of bytes k =
-    record { bytes = bytes; point = point_of bytes k.info; status = status_of k.status; certified = k.certified }
+-- the bytes of an entry's point are its record's
+abbrev pub kept_of : code-kept.Kept → Kept
+kept_of k =
+    record { bytes = k.point.rec.now; point = said k.point; status = status_of k.status; certified = k.certified }
 
--- an entry stands at the front of a slice, which holds its record and tag 33, and its point is what the record says
+-- what the judge is told of a kept point
+abbrev pub shown : Kept → Bool → Entry
+shown k first = record { state = dag_point k.point k.status; certified = k.certified; first_valid = first }
+
+-- an entry stands at the front of a slice, which holds its record and tag 33
 pub record KeptAt (s : List ℕ) (k : code-kept.Kept) : Type 0 where
-  pub front : kept_front s ≡ Some (record { kept = kept_of (take k.len s) k; size = k.len + tag33_length })
-  pub inside : k.len + tag33_length ≤ length s
-  pub read : Reads (take k.len s) k.info
+  pub front : kept_front s ≡ Some (record { kept = kept_of k; size = length k.point.rec.now + tag33_length })
+  pub inside : length k.point.rec.now + tag33_length ≤ length s
 
 -- the entry at the front of a slice, whose record takes n bytes
 pub record EntryTo (s : List ℕ) (n : ℕ) : Type 0 where

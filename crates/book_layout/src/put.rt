@@ -14,6 +14,7 @@ use crate::status::Status;
 use point::{PointId, Through};
 use reasons::InvalidDependency;
 
+// Each writes at a place of the book, as write's functions do, so each asks for its room there.
 #[tactic(auto, using(crate::proofs::Laws::put_right, crate::proofs::Laws::id_length))]
 fn put_point_id(out: &mut [u8], at: usize, id: PointId)
     requires { at + 68 ≤ length out.old }

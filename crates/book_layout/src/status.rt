@@ -21,6 +21,7 @@ pub enum Status {
     IllFormed(u8),
 }
 
+// No From, since Fail leaves nothing.
 pub fn of_verdict(verdict: Verdict) -> Option<Status>
     ensures { (s : List ℕ) (q : point.PointInfo) → left_of s q result ≡ left_by s q (verdict_of verdict) }
 {

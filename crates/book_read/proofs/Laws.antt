@@ -1,11 +1,11 @@
 -- What the index of a book's entries finds is what the plain book has.
 use Rattle.std.specs.Prelude.{None, Some, is_some}
-use Prim.Native.Nat.{ℕ, zero, suc, ◌≤◌, ◌<◌}
+use Prim.Native.Nat.{ℕ, zero, suc, ◌<◌}
 use native.Mathlib.Omega.{arith}
 use mathlib.Core.Path.{◌≡◌, refl, ap, sym, ◌∙◌}
 use mathlib.Core.Bool.{Bool, true, false, or-true}
 use mathlib.Core.List.{List, [], ◌∷◌, ◌++◌}
-use lib.ListN.{length, take, drop, take-append-drop}
+use lib.ListN.{length, get_or, take, drop, take-append-drop}
 use lib.Seq.{drop-nil}
 use Rattle.base.specs.Base.{pick}
 use Rattle.base.proofs.Impossible.{impossible}
@@ -13,6 +13,7 @@ use Rattle.point.specs.Point.{PointId, same_id}
 use Rattle.point.proofs.Ids.{same_sym}
 use Rattle.books.specs.Kept.{Kept, Book, find_kept, is_twice}
 use Rattle.books.proofs.Find.{find-after, once_around}
+use Rattle.id_index.specs.declared.Index.{Index}
 use Rattle.id_index.specs.Code.{FoundAt, Once, Twice, Built, count_of, place_in}
 use Rattle.book_read.specs.Code.{Placed, Holds}
 
@@ -39,7 +40,7 @@ unfolding find_kept
 not_found [] i h = refl
 not_found (k ∷ b) i h = rw (h 0 k b refl) (not_found b i (λ j. h (suc j)))
 
-module _ {s : List ℕ} {b : Book} {x : List ℕ} (h : Holds s b x) (i : PointId) where
+module _ {s : List ℕ} {b : Book} {x : Index} (h : Holds s b x) (i : PointId) where
   -- the entry that the index finds is the book's entry of the id
   pub found-kept : (j : ℕ) → FoundAt s x i (Some j) → KeptAt b i j
   unfolding find_kept
@@ -98,7 +99,7 @@ is-twice (z ∷ b) (suc j) zero x y p q lt e f t = absurd (omega arith)
 is-twice (z ∷ b) (suc j) (suc k) x y p q lt e f t =
     rw (is-twice b j k x y p q (omega arith) e f t) (or-true (is_some (find_kept b z.point.id)))
 
-module _ {s : List ℕ} {b : Book} {x : List ℕ} (h : Placed s b x) where
+module _ {s : List ℕ} {b : Book} {x : Index} (h : Placed s b x) where
   pub once-book : Once s x (count_of x) → is_twice b ≡ false
   once-book o = not_twice b (λ j k y z p q lt e f. rw (h.ids j y p e, h.ids k z q f) at (o j k lt (omega (arith, h.count, inside b k z q f))))
 
@@ -109,13 +110,12 @@ module _ {s : List ℕ} {b : Book} {x : List ℕ} (h : Placed s b x) where
       is-twice b t.first t.second u.0 v.0 u.1 v.1 t.after u.2 v.2 (rw (h.ids t.first u.0 u.1 u.2, h.ids t.second v.0 v.1 v.2) at t.same)
 
 -- the index that is made of the entries stands for them
-pub built-placed : {s : List ℕ} {b : Book} {y x : List ℕ} {r : Bool} → count_of y ≤ 4096 → Placed s b y → Built s y x r → Placed s b x
-built-placed {s} {b} {y} {x} few h u =
-    let p : (j : ℕ) (k : Kept) (rest : Book) → drop j b ≡ k ∷ rest → place_in x j ≡ place_in y j =
-    λ j k rest e. u.places j (omega (arith, h.count, inside b j k rest e)) in
+pub built-placed : {s : List ℕ} {b : Book} {y x : Index} {r : Bool} → Placed s b y → Built s y x r → Placed s b x
+built-placed {s} {b} {y} {x} h u =
+    let same : (j : ℕ) → place_in x j ≡ place_in y j = λ j. ap (λ (l : List ℕ). get_or l j 0) u.places in
     record {
       count = u.count ∙ h.count;
-      starts = λ j k rest e. p j k rest e ∙ h.starts j k rest e;
-      fronts = λ j k rest e. rw (p j k rest e) (h.fronts j k rest e);
-      ids = λ j k rest e. rw (p j k rest e) (h.ids j k rest e);
+      starts = λ j k rest e. same j ∙ h.starts j k rest e;
+      fronts = λ j k rest e. rw (same j) (h.fronts j k rest e);
+      ids = λ j k rest e. rw (same j) (h.ids j k rest e);
     }

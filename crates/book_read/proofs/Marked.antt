@@ -18,7 +18,8 @@ use Rattle.books.proofs.Shape.{KeptShape, Shape, mark-length, mark-shape}
 use Rattle.books.proofs.Bytes.{used-append, entries-append, mark-used}
 use Rattle.books.proofs.RoundTrip.{kept-length, kept_split, kept-front, entries-length, settings-length, book-length, book-after}
 use Rattle.books.proofs.Canonical.{BookOf, book-again}
-use Rattle.id_index.specs.Code.{count_of, place_in, id_in, Index}
+use Rattle.id_index.specs.declared.Index.{Index}
+use Rattle.id_index.specs.Code.{count_of, place_in, id_in, IsIndex}
 use Rattle.id_index.proofs.Laws.{same_index}
 use Rattle.book_layout.specs.Code.{EntryTo}
 use Rattle.book_read.specs.Code.{Holds}
@@ -90,7 +91,7 @@ module _ (settings : List ℕ) (len : ℕ) (l : length settings ≡ 47) (b : Boo
 -- ---- a book whose marks are written
 
 module _ {s : List ℕ} (w : Bytes s) {z : Opened} (r : read_book s ≡ Some z) (test : PointId → Bool)
-    {t : List ℕ} (e : t ≡ book_bytes z.bytes (length s) (mark test z.book)) {x : List ℕ} (h : Holds s z.book x) where
+    {t : List ℕ} (e : t ≡ book_bytes z.bytes (length s) (mark test z.book)) {x : Index} (h : Holds s z.book x) where
   again : BookOf s z
   again = book-again s z w r
 
@@ -133,5 +134,5 @@ module _ {s : List ℕ} (w : Bytes s) {z : Opened} (r : read_book s ≡ Some z) 
       let o = standing z.book j (omega (arith, h.placed.count)) in
       marked-holds.placed.ids j (mark_one test o.0) (mark test o.1) (marked-at j o.0 o.1 o.2) ∙ sym (h.placed.ids j o.0 o.1 o.2)
 
-  pub marked-index : Index s x → Index t x
+  pub marked-index : IsIndex s x → IsIndex t x
   marked-index = same_index (ap length e ∙ book-length z.bytes (length s) (mark test z.book) long fits) same_id_lem

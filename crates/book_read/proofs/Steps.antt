@@ -2,10 +2,10 @@
 use Rattle.std.specs.Prelude.{Option, None, Some, option_map}
 use Prim.Native.Nat.{ℕ, zero, suc, ◌+◌, ◌-◌, ◌≤◌, ◌<◌}
 use native.Mathlib.Omega.{arith}
-use mathlib.Core.Path.{◌≡◌, refl, ap, sym, subst, ◌∙◌}
+use mathlib.Core.Path.{◌≡◌, refl, ap, sym, ◌∙◌}
 use mathlib.Core.Bool.{Bool, true, false}
 use mathlib.Core.List.{List, [], ◌∷◌, ◌++◌, append-nil}
-use lib.ListN.{length, get_or, take, drop, replicate, length-append, length-take, length-drop}
+use lib.ListN.{length, get_or, take, drop, length-append, length-take, length-drop}
 use lib.Seq.{take-append-le, take-append_seam, drop-nil, drop-drop, get_or-drop, length-take-le}
 use lib.Dec.{leb, eqb}
 use borrow.Author.Tests.{le-leb, lt-leb, eq-eqb, ne_eqb}
@@ -23,8 +23,9 @@ use Rattle.books.specs.Kept.{Kept, Book}
 use Rattle.books.specs.Offer.{used}
 use Rattle.books.specs.Layout.{is_zeros, KeptFront, kept_front, entries_from, read_book}
 use Rattle.books.proofs.Bytes.{used-append}
-use Rattle.id_index.specs.Code.{count_of, place_in, id_in, added, Built}
-use Rattle.id_index.proofs.Laws.{added-count, added-old, added_new, added-noted, none-noted}
+use Rattle.id_index.specs.declared.Index.{Index}
+use Rattle.id_index.specs.Code.{count_of, place_in, id_in, Added, IsEmpty, Built}
+use Rattle.id_index.proofs.Laws.{added-old, added-noted, none-noted}
 use Rattle.book_layout.specs.Code.{EntryTo}
 use Rattle.book_read.specs.Code.{entries_before, Reading, opened_once, NoBook, IsRead}
 use Rattle.book_read.proofs.Laws.{inside, once-book, twice-book, built-placed}
@@ -84,7 +85,7 @@ module _ (s : List ℕ) (place : ℕ) (t : List ℕ) (e : t ≡ drop place s) (n
 -- ---- entries after those that are read
 
 -- an entry of a book stands where the index says
-record Stands (s : List ℕ) (b : Book) (x : List ℕ) (j : ℕ) (k : Kept) : Type 0 where
+record Stands (s : List ℕ) (b : Book) (x : Index) (j : ℕ) (k : Kept) : Type 0 where
   start : place_in x j ≡ 47 + used (take j b)
   front : kept_front (drop (place_in x j) s) ≡ Some (record { kept = k; size = length k.bytes + 108 })
   id : id_in s x j ≡ k.point.id
@@ -121,7 +122,7 @@ with_front : (m : ℕ) (t : List ℕ) → eqb (get_or t 0 0) 0 ≡ false → (o 
 unfolding entries_from
 with_front m t h o f = rw (h, f)
 
-module _ {s : List ℕ} {end : ℕ} {x : List ℕ} (r : Reading s end x) where
+module _ {s : List ℕ} {end : ℕ} {x : Index} (r : Reading s end x) where
   first : get_or (drop end s) 0 0 ≡ get_or s end 0
   first = let e : end + 0 ≡ end = omega arith in get_or-drop end s 0 0 ∙ ap (λ (m : ℕ). get_or s m 0) e
 
@@ -149,10 +150,7 @@ module _ {s : List ℕ} {end : ℕ} {x : List ℕ} (r : Reading s end x) where
       pub no_entry : kept_front (drop end s) ≡ None → NoBook s
       no_entry f = unread (one_left None f)
 
-      module _ (c : ℕ) (k : Kept) (w : EntryAt s end c k) where
-        abbrev more : List ℕ
-        more = added x end
-
+      module _ (c : ℕ) (k : Kept) (w : EntryAt s end c k) {more : Index} (a : Added x end more) where
         -- what is left to read after the entry
         after : entries_from 4096 (drop 47 s) ≡ entries_before (r.book ++ (k ∷ [])) (entries_from (4096 - (count_of x + 1)) (drop (end + c + 108) s))
         after =
@@ -170,7 +168,7 @@ module _ {s : List ℕ} {end : ℕ} {x : List ℕ} (r : Reading s end x) where
             go : Which r.book k j y → Stands s (r.book ++ (k ∷ [])) more j y
             go (old l d) =
                 let m = inside r.book j y l d in
-                let p = added-old x end r.noted.places.sized room j (omega (arith, r.placed.count)) in
+                let p = added-old a j (omega (arith, r.placed.count)) in
                 record {
                   start = p ∙ (r.placed.starts j y l d ∙ ap (λ (b : Book). 47 + used b) (sym (take-append-le j r.book (k ∷ []) (omega arith))));
                   front = rw p (r.placed.fronts j y l d);
@@ -178,17 +176,17 @@ module _ {s : List ℕ} {end : ℕ} {x : List ℕ} (r : Reading s end x) where
                 }
             go (new d f) =
                 let g : j ≡ count_of x = d ∙ sym r.placed.count in
-                let p : place_in more j ≡ end = ap (place_in more) g ∙ added_new x end r.noted.places.sized room in
+                let p : place_in more j ≡ end = ap (place_in more) g ∙ a.there in
                 record {
                   start = p ∙ (r.ends ∙ rw d (ap (λ (b : Book). 47 + used b) (sym (take-append_seam r.book (k ∷ [])))));
                   front = rw (p, f) w.front;
                   id = rw (p, f) w.id;
                 }
 
-        one_more : Reading s (end + c + 108) more
+        pub entry-added : Reading s (end + c + 108) more
         unfolding used
-        one_more =
-            let m = added-count x end r.noted.places.sized room in
+        entry-added =
+            let m = a.count in
             record {
               book = r.book ++ (k ∷ []);
               placed = record {
@@ -200,29 +198,25 @@ module _ {s : List ℕ} {end : ℕ} {x : List ℕ} (r : Reading s end x) where
               ends = omega (arith, r.ends, used-append r.book (k ∷ []), w.size);
               within = w.within;
               left = after ∙ ap (λ (n : ℕ). entries_before (r.book ++ (k ∷ [])) (entries_from (4096 - n) (drop (end + c + 108) s))) (sym m);
-              noted = added-noted x end r.noted.places.sized room w.room r.noted;
+              noted = added-noted a w.room r.noted;
             }
 
-        pub entry-added : (y : List ℕ) → y ≡ added x end → Reading s (end + c + 108) y
-        entry-added y e = subst (Reading s (end + c + 108)) (sym e) one_more
-
-pub none_read : {s x : List ℕ} → 47 ≤ length s → x ≡ replicate 16386 0 → Reading s 47 x
+pub none_read : {s : List ℕ} {x : Index} → 47 ≤ length s → IsEmpty x → Reading s 47 x
 unfolding used
 none_read {s} {x} l e =
-    let n = none-noted s x e in
     let no : (j : ℕ) (k : Kept) (rest : Book) → drop j [] ≡ k ∷ rest → ⊥ = λ j k rest e. omega (arith, inside [] j k rest e) in
     record {
       book = [];
       placed = record {
-        count = n.1;
+        count = e.none;
         starts = λ j k rest e. absurd (no j k rest e);
         fronts = λ j k rest e. absurd (no j k rest e);
         ids = λ j k rest e. absurd (no j k rest e);
       };
       ends = refl;
       within = l;
-      left = ap (λ (m : ℕ). entries_from (4096 - m) (drop 47 s)) (sym n.1);
-      noted = n.0;
+      left = ap (λ (m : ℕ). entries_from (4096 - m) (drop 47 s)) (sym e.none);
+      noted = none-noted s e;
     }
 
 -- ---- a book
@@ -247,7 +241,7 @@ module _ (s : List ℕ) where
         go None = refl
         go (Some c) = e c
 
-    module _ {end : ℕ} {y : List ℕ} (r : Reading s end y) (e : get_or s end 0 ≡ 0) where
+    module _ {end : ℕ} {y : Index} (r : Reading s end y) (e : get_or s end 0 ≡ 0) where
       pub no_zeros : is_zeros (drop end s) ≡ false → read_book s ≡ None
       no_zeros z = let b : entries_from 4096 (drop 47 s) ≡ None = all_read r e ∙ rw z in no_book (λ c. ap (λ o. and_then o (opened_once s c)) b)
 
@@ -255,14 +249,14 @@ module _ (s : List ℕ) where
         entries : entries_from 4096 (drop 47 s) ≡ Some r.book
         entries = all_read r e ∙ rw z
 
-        pub id-twice : {x : List ℕ} → Built s y x false → read_book s ≡ None
+        pub id-twice : {x : Index} → Built s y x false → read_book s ≡ None
         id-twice u =
-            let t = twice-book (built-placed r.noted.places.room r.placed u) u.index in
+            let t = twice-book (built-placed r.placed u) u.index in
             no_book (λ c. ap (λ o. and_then o (opened_once s c)) entries ∙ rw t)
 
-        pub book-read : {x : List ℕ} (c : Settings) → read_settings (take 47 s) ≡ Some c → Built s y x true → IsRead s c end x
+        pub book-read : {x : Index} (c : Settings) → read_settings (take 47 s) ≡ Some c → Built s y x true → IsRead s c end x
         book-read c f u =
-            let p = built-placed r.noted.places.room r.placed u in
+            let p = built-placed r.placed u in
             let o = once-book p u.index.1 in
             record {
               opened = record { bytes = take 47 s; settings = c; length = length s; book = r.book };

@@ -1,10 +1,12 @@
 // Reads a book: its settings, its entries and the zeros after them, and makes an index of the entries.
 #![tactic(auto)]
 
-ghost use Rattle.std.specs.Prelude.{◌≡◌, true, not, ◌≤◌, length, get_or, replicate, eqb};
+ghost use Rattle.std.specs.Prelude.{◌≡◌, true, not, ◌≤◌, length, get_or, eqb};
 ghost use Rattle.parts.specs.Limits.{entries_start, longest_book};
+ghost use Rattle.id_index.specs.Code.{IsEmpty};
 ghost use Rattle.book_read.specs.Code.{Reading, EntryRead, EntriesRead, BookRead};
 
+use id_index::Index;
 use schedule::Settings;
 
 // Whether an entry begins at a place: a 0 or the book's end ends the entries.
@@ -18,23 +20,24 @@ fn is_entry_at(book: &[u8], place: usize) -> bool
 }
 
 // Reads the entry at a place, and notes the place, unless there are too many.
-fn read_entry(book: &[u8], place: usize, index: &mut [u16]) -> Option<usize>
+fn read_entry(book: &[u8], place: usize, index: &mut Index) -> Option<usize>
     requires reading { Reading book.now place index.old }
     requires book_len_bound { (length book.now ≤ longest_book) × (not (eqb (get_or book.now place 0) 0) ≡ true) }
     ensures { EntryRead book.now place index.new result }
 {
-    if id_index::count(index) == parts::MOST_KEPT {
+    if index.count() == parts::MOST_KEPT {
         return None;
     }
     let size = book_layout::kept_end(&book[place..])?;
-    id_index::add(index, place);
+    index.add(place);
     let end = place + size + parts::TAG33_LENGTH;
     Some(end)
 }
 
-fn read_entries(book: &[u8], index: &mut [u16]) -> Option<usize>
+// A `while`, since no iterator yields the entries: each says where the next begins.
+fn read_entries(book: &[u8], index: &mut Index) -> Option<usize>
     requires entries_start_in_bounds { (entries_start ≤ length book.now) × (length book.now ≤ longest_book) }
-    requires index_value { index.old ≡ replicate 16386 0 }
+    requires index_value { IsEmpty index.old }
     ensures { EntriesRead book.now index.new result }
 {
     let mut end = parts::ENTRIES_START;
@@ -44,9 +47,10 @@ fn read_entries(book: &[u8], index: &mut [u16]) -> Option<usize>
     Some(end)
 }
 
-// The index is made last, of all entries: so whether an id stands twice is asked once.
-pub fn read_book(book: &[u8], index: &mut [u16]) -> Option<(Settings, usize)>
-    requires { index.old ≡ replicate 16386 0 }
+// The index is made last, of all entries: so whether an id stands twice is asked once. It is the caller's, since as a part of
+// the result its 32 KB would be moved.
+pub fn read_book(book: &[u8], index: &mut Index) -> Option<(Settings, usize)>
+    requires { IsEmpty index.old }
     ensures { BookRead book.now index.new result }
 {
     if book.len() < parts::ENTRIES_START {
@@ -60,7 +64,7 @@ pub fn read_book(book: &[u8], index: &mut [u16]) -> Option<(Settings, usize)>
     if !book_layout::is_zeros(book, end) {
         return None;
     }
-    if !id_index::build(book, index) {
+    if !index.build(book) {
         return None;
     }
     Some((conf, end))

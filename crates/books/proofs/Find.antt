@@ -1,5 +1,5 @@
 -- Laws of the entry of an id: where it is found, that no id stands twice, and what a mark changes.
-use Rattle.std.specs.Prelude.{option_map, unwrap_or, None, Some, is_some}
+use Rattle.std.specs.Prelude.{option_map, None, Some, is_some}
 use mathlib.Core.Path.{◌≡◌, refl, ap, sym, ◌∙◌, subst}
 use mathlib.Core.Logic.{◌⊎◌, inl, inr, ◌↔◌}
 use mathlib.Core.Bool.{Bool, true, false, ◌||◌}

@@ -16,13 +16,13 @@ use Rattle.schedule.specs.Schedule.{Schedule}
 use Rattle.reasons.specs.IllFormed.{ill_formed_number}
 use Rattle.reasons.specs.Invalid.{invalid_number}
 use Rattle.reasons.specs.Verdict as verdict
-use Rattle.reasons.specs.Verdict.{Verdict}
+use Rattle.reasons.specs.Verdict.{Verdict, of_error}
 use Rattle.reasons.specs.declared.ill_formed.VerifyError.{VerifyError}
 use Rattle.reasons.specs.declared.ill_formed.VerifyError.TheVariants as case-error
 use Rattle.rules.specs.Verify.{verify}
 use Rattle.rules.specs.DagPoint.{IndirectEntry, point_view}
 use Rattle.rules.specs.Validate.{validate}
-use Rattle.rules.specs.Judge.{Input, admitted, JudgeAnswer, Number, Given, of_error, Before, answered, needed, before_with, before}
+use Rattle.rules.specs.Judge.{Input, admitted, JudgeAnswer, Number, Given, Before, answered, needed, before_with, before}
 use Rattle.reasons.specs.declared.ill_formed.WaveChecked.{WaveChecked}
 use Rattle.reasons.specs.declared.ill_formed.WaveChecked.TheVariants as case-wave
 use Rattle.rules.specs.CheckIllFormed.{wave_checked}

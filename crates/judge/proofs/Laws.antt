@@ -1,25 +1,26 @@
 -- Laws of the call: the numbers and the verdict in their order.
 use Rattle.std.specs.Prelude.{Option, None, Some, is_some, Result, Err}
-use Prim.Native.Nat.{ℕ, ◌≤◌}
+use Prim.Native.Nat.{ℕ, ◌≤◌, ◌<◌}
 use native.Mathlib.Omega.{arith}
 use mathlib.Core.Path.{◌≡◌, refl, ap, sym, ◌∙◌}
 use mathlib.Core.Bool.{Bool, true, false, not, ◌&&◌}
 use mathlib.Core.List.{List}
 use lib.Dec.{eqb}
-use borrow.Author.Tests.{eq-eqb, ne_eqb, le-leb}
+use borrow.Author.Tests.{eq-eqb, ne_eqb, le-leb, lt-ltb, le-ltb}
 use Rattle.base.specs.Base.{pick, is_empty}
 use Rattle.base.proofs.Impossible.{impossible}
-use Rattle.point.specs.Point.{PointInfo, prev_id}
+use Rattle.parts.specs.Limits.{peers_room}
+use Rattle.point.specs.Point.{PointInfo, in_domain, prev_id}
 use Rattle.point.specs.declared.data.PointMap.TheVariants as case-map
 use Rattle.schedule.specs.Settings.{Settings}
 use Rattle.schedule.specs.Schedule.{Schedule}
 use Rattle.reasons.specs.Invalid.{NoRoundInDag}
-use Rattle.reasons.specs.Verdict.{Verdict, Invalid, Valid}
+use Rattle.reasons.specs.Verdict.{Verdict, Invalid, Valid, of_error}
 use Rattle.reasons.specs.declared.ill_formed.VerifyError.{VerifyError}
 use Rattle.rules.specs.Verify.{scheduled, verify, buffer_with}
 use Rattle.rules.specs.DagPoint.{Entry, IndirectEntry}
 use Rattle.rules.specs.Validate.{over_lists, validate}
-use Rattle.rules.specs.Judge.{Input, Tested, refused, admitted, verify_buffer, JudgeAnswer, Number, Given, of_error, Before, answered, needed, before_with, before, judge_from, over_list, judge_with}
+use Rattle.rules.specs.Judge.{Input, Tested, refused, admitted, tested_with, verify_buffer, JudgeAnswer, Number, Given, Before, answered, needed, before_with, before, judge_from, over_list, judge_with}
 use Rattle.rules.specs.CheckIllFormed.{wave_checked}
 use Rattle.reasons.specs.declared.ill_formed.WaveChecked.{WaveChecked}
 use Rattle.rules.specs.List.{Listed, read_list, directs, indirects}
@@ -143,6 +144,13 @@ pub buffered : (c : Settings) (s : Schedule) (p : PointInfo) (o : Option VerifyE
 buffered c s p o old new e b = rw (← e) b
 
 -- ---- the call's answer and the buffer, from what its input was tested for
+
+module _ (c : Settings) (s : Schedule) (p : PointInfo) (others : Bool) (size : ℕ) (h : (in_domain p && others) ≡ true) where
+  pub tested-short : size < peers_room → tested_with (Some c) (Some s) (Some p) others size ≡ refused 5
+  tested-short g = rw (h, lt-ltb size peers_room g)
+
+  pub tested-admitted : peers_room ≤ size → tested_with (Some c) (Some s) (Some p) others size ≡ admitted (record { settings = c; schedule = s; point = p })
+  tested-admitted g = rw (h, le-ltb size peers_room g)
 
 module _ (leader presence : ℕ) (list : List ℕ) where
   -- the answer stands for what was found, and the buffer holds what it should

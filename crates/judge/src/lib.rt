@@ -5,7 +5,7 @@ mod before;
 
 ghost use Rattle.std.specs.Prelude.{◌≡◌, not, ◌&&◌, ◌≤◌, length, eqb};
 ghost use Rattle.base.specs.Base.{is_empty};
-ghost use Rattle.point.specs.Code.{point_of, Reads};
+ghost use Rattle.point.specs.Said.{said};
 ghost use Rattle.point.specs.Point.{in_domain};
 ghost use Rattle.schedule.specs.Code.{settings_of};
 ghost use Rattle.reasons.specs.Invalid.{NoRoundInDag};
@@ -15,7 +15,7 @@ ghost use Rattle.rules.specs.List.{read_list};
 ghost use Rattle.judge.specs.Code.{judge_answer_of};
 
 pub use before::{Before, before_list};
-use point::{PointInfo, PointMap};
+use point::{Point, PointMap};
 use reasons::{InvalidReason, Refusal, Verdict};
 use schedule::Settings;
 
@@ -26,14 +26,11 @@ fn no_round(map: PointMap) -> Result<Verdict, Refusal>
 }
 
 // Whether the point has a witness whose round is not in the DAG.
-fn lacks_witness(presence: u8, rec: &[u8], info: PointInfo) -> bool
-    requires { Reads rec.now info }
-    ensures { result ≡ (eqb presence 2 && not (is_empty (point_of rec.now info).witness)) }
+#[tactic(auto, using(point::proofs::Maps::map_facts, base::proofs::Lists::filled))]
+fn lacks_witness(presence: u8, point: &Point) -> bool
+    ensures { result ≡ (eqb presence 2 && not (is_empty (said point.now).witness)) }
 {
-    if presence != 2 {
-        return false;
-    }
-    0 < map::count(point::witness(rec, info), 64)
+    presence == 2 && 0 < map::count(point.witness(), 64)
 }
 
 // Numbers 7 to 9, and the verdict over the list.
@@ -41,48 +38,45 @@ fn judge_over_list(
     conf: Settings,
     required: bool,
     presence: u8,
-    rec: &[u8],
-    info: PointInfo,
+    point: &Point,
     list: &[u8],
 ) -> Result<Verdict, Refusal>
-    requires reads { Reads rec.now info }
-    requires le_presence { 2 ≤ presence }
-    ensures { judge_answer_of result ≡ over_list (settings_of conf) required presence (point_of rec.now info) (read_list list.now) }
+    requires { 2 ≤ presence }
+    ensures { judge_answer_of result ≡ over_list (settings_of conf) required presence (said point.now) (read_list list.now) }
 {
-    let judged = judge_list::judge_list(conf, required, rec, info, list).ok_or(Refusal::Entries)?;
-    if judge_mismatch::is_mismatch(presence, rec, info, list) {
+    let judged = judge_list::judge_list(conf, required, point, list).ok_or(Refusal::Entries)?;
+    if judge_mismatch::is_mismatch(presence, point, list) {
         return Err(Refusal::Mismatch);
     }
     if judged.uncovered {
         return Err(Refusal::Uncovered);
     }
-    if lacks_witness(presence, rec, info) {
+    if lacks_witness(presence, point) {
         return no_round(PointMap::Witness);
     }
     Ok(judged.verdict)
 }
 
-// Judges a point that has no answer yet by how many of its rounds are in the DAG: with two or three its list is needed.
+// Judges a point that has no answer yet by how many of its rounds are in the DAG, a number of the call that is read here: with two
+// or three its list is needed.
 fn judge_needed(
     conf: Settings,
     required: bool,
     presence: u8,
-    rec: &[u8],
-    info: PointInfo,
+    point: &Point,
     list: &[u8],
 ) -> Result<Verdict, Refusal>
-    requires { Reads rec.now info }
-    ensures { judge_answer_of result ≡ judge_from (settings_of conf) presence (point_of rec.now info) list.now (needed required) }
+    ensures { judge_answer_of result ≡ judge_from (settings_of conf) presence (said point.now) list.now (needed required) }
 {
     match presence {
         0 => no_round(PointMap::Evidence),
         1 => no_round(PointMap::Includes),
-        _ => judge_over_list(conf, required, presence, rec, info, list),
+        _ => judge_over_list(conf, required, presence, point, list),
     }
 }
 
 // Numbers 1 to 5 in number order, then the judgement.
-#[tactic(auto, unfolding(rules::specs::Judge::tested, rules::specs::Judge::judge_with))]
+#[tactic(auto, unfolding(rules::specs::Judge::tested, rules::specs::Judge::judge_with), using(schedule::proofs::Said::schedule_read, point::proofs::Said::said_read))]
 pub fn judge(
     settings: &[u8],
     schedule: &[u8],
@@ -99,29 +93,23 @@ pub fn judge(
         peers.old }
 {
     let conf = schedule::read_settings(settings).ok_or(Refusal::Settings)?;
-    let spans = schedule::read_schedule(schedule).ok_or(Refusal::Schedule)?;
-    let info = point::read_point(rec).ok_or(Refusal::Record)?;
-    if !are_in_domain(rec, info, leader, presence) {
+    let schedule = schedule::read_peer_schedule(schedule).ok_or(Refusal::Schedule)?;
+    let point = point::read_point(rec).ok_or(Refusal::Record)?;
+    if !are_in_domain(&point, leader, presence) {
         return Err(Refusal::Domain);
     }
     if peers.len() < parts::PEERS_ROOM {
         return Err(Refusal::Short);
     }
-    match before::before_list(conf, schedule, spans, rec, info, leader == 1, peers)? {
+    match before::before_list(conf, &schedule, &point, leader == 1, peers)? {
         Before::Judged(verdict) => Ok(verdict),
-        Before::Needed(required) => judge_needed(conf, required, presence, rec, info, list),
+        Before::Needed(required) => judge_needed(conf, required, presence, &point, list),
     }
 }
 
 // Whether the point, the leader flag and the presence lie in the domain.
-fn are_in_domain(rec: &[u8], info: PointInfo, leader: u8, presence: u8) -> bool
-    ensures { result ≡ (in_domain (point_of rec.now info) && flags_ok leader presence) }
+fn are_in_domain(point: &Point, leader: u8, presence: u8) -> bool
+    ensures { result ≡ (in_domain (said point.now) && flags_ok leader presence) }
 {
-    if !point::is_in_domain(rec, info) {
-        return false;
-    }
-    if 1 < leader {
-        return false;
-    }
-    presence <= 3
+    point.info.is_in_domain() && leader <= 1 && presence <= 3
 }

@@ -25,8 +25,8 @@ pub fn direct_through(round: u32, id: PointId) -> Through
 }
 
 // Whether a root cause lies commit_history_rounds or more back from the round before.
-fn is_out_of_window(conf: Settings, round: u32, root: u32) -> bool
-    ensures { result ≡ leb (root + (settings_of conf).commit_history_rounds) (round - 1) }
+fn is_out_of_window(conf: &Settings, round: u32, root: u32) -> bool
+    ensures { result ≡ leb (root + (settings_of conf.now).commit_history_rounds) (round - 1) }
 {
     root as u64 + conf.commit_history_rounds as u64 <= parts::rounds_back(round, 1) as u64
 }
@@ -34,15 +34,15 @@ fn is_out_of_window(conf: Settings, round: u32, root: u32) -> bool
 // What a dependency that was reached through a peer would have recorded.
 #[tactic(auto, unfolding(rules::specs::Validate::record_of))]
 pub fn record_of(
-    conf: Settings,
+    conf: &Settings,
     round: u32,
     certified: bool,
     through: Through,
-    point: DagPoint,
+    state: &DagPoint,
 ) -> Option<InvalidDependency>
-    ensures { (s : List ℕ) → option_map dependency_of result ≡ record_of (settings_of conf) round certified (through_of through) (dag_point_of s point) }
+    ensures { (s : List ℕ) → option_map dependency_of result ≡ record_of (settings_of conf.now) round certified (through_of through) (dag_point_of s state.now) }
 {
-    match point {
+    match *state {
         DagPoint::TransInvalid(_, to, reason) => {
             if certified || is_out_of_window(conf, round, to.round) {
                 return None;

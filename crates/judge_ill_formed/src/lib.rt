@@ -3,41 +3,30 @@
 #![tactic(auto)]
 
 ghost use Rattle.std.specs.Prelude.{◌≡◌, List, ℕ};
-ghost use Rattle.point.specs.Code.{point_of, Reads};
+ghost use Rattle.point.specs.Said.{said};
 ghost use Rattle.schedule.specs.Code.{schedule_of};
-ghost use Rattle.rules.specs.CheckIllFormed.{is_regular, wave_checked};
+ghost use Rattle.rules.specs.CheckIllFormed.{wave_checked};
 
-use point::{PointInfo, PointRole};
+use point::{Point, PointRole};
 use reasons::{IllFormedReason, WaveChecked};
 use schedule::Schedule;
 
-fn is_regular(role: PointRole) -> bool
-    ensures { result ≡ is_regular role }
-{
-    matches!(role, PointRole::Regular)
-}
-
 // Either the role or the wave link is tested, never both.
 #[tactic(auto, unfolding(rules::specs::CheckIllFormed::wave_checked))]
-pub fn check_ill_formed(
-    spans: Schedule,
-    rec: &[u8],
-    info: PointInfo,
-    is_leader: bool,
-) -> WaveChecked
-    requires { Reads rec.now info }
-    ensures { (s : List ℕ) → result ≡ wave_checked (schedule_of s spans) is_leader (point_of rec.now info) }
+pub fn check_ill_formed(spans: Schedule, point: &Point, is_leader: bool) -> WaveChecked
+    ensures { (s : List ℕ) → result ≡ wave_checked (schedule_of s spans) is_leader (said point.now) }
 {
+    let info = &point.info;
     let Some(required) = schedule::require_regular_points(spans, info.id.round) else {
         return WaveChecked::Horizon;
     };
     if required {
-        if is_regular(info.role) {
+        if info.role == PointRole::Regular {
             return WaveChecked::Sound(true);
         }
         return WaveChecked::IllFormed(IllFormedReason::NotRegular);
     }
-    let has_prev_point = point::prev_digest(rec, info).is_some();
+    let has_prev_point = point.prev_digest().is_some();
     if info.is_wave_link_ok(is_leader, has_prev_point) {
         return WaveChecked::Sound(false);
     }

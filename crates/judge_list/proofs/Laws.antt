@@ -1,11 +1,10 @@
 -- Laws of judging over a list: the previous point, and the walk.
 use Rattle.std.specs.Prelude.{Option, None, Some, option_map, is_some}
-use Prim.Native.Nat.{ℕ, zero, suc, ◌+◌, ◌-◌, ◌<◌}
+use Prim.Native.Nat.{ℕ, zero, suc, ◌-◌, ◌<◌}
 use mathlib.Core.Path.{◌≡◌, refl, ap, sym, ◌∙◌}
 use mathlib.Core.Bool.{Bool, true, false, not, ◌||◌, and-true, and-false, or-false}
 use mathlib.Core.List.{List, ◌∷◌}
-use lib.ListN.{length, drop, length-drop}
-use lib.Seq.{drop-drop}
+use lib.ListN.{length, drop}
 use lib.Dec.{eqb}
 use borrow.Author.Tests.{eqb-true, eq-eqb, ne_eqb}
 use Rattle.base.specs.Base.{and_then}
@@ -26,9 +25,9 @@ use Rattle.point.specs.declared.data.AnchorStageRole.TheVariants.{Proof, Trigger
 use Rattle.judge_valid.specs.Code.{point_view_of}
 use Rattle.judge_valid.specs.declared.view.PointView as code_view
 use Rattle.judge_entries.proofs.Order.{list_then}
-use Rattle.judge_entries.specs.Code.{entry_of, EntryPlaced, ListedPlaced}
-use Rattle.judge_entries.specs.declared.DagPoint as code-point
-use Rattle.judge_entries.specs.declared.Listed as code-listed
+use Rattle.judge_entries.specs.Entry.{entry_of, listed_of}
+use Rattle.judge_entries.specs.declared.entry.Entry as code-entry
+use Rattle.judge_entries.specs.declared.entry.Listed as code-listed
 use Rattle.judge_list.specs.Code.{Walk, Viewed, viewed, step_as, prev_of, prev_in, walk_step, walk_fold, walk_with, viewed_of, with_listed, ListedGives}
 
 -- ---- the previous point
@@ -46,11 +45,9 @@ prev-digest i j d h =
     rw (eq-eqb (i.round - 1) j.round (sym r), eq-eqb i.author j.author (sym a), and-true (eqb d j.digest))
 
 -- an entry that passed the quick test doesn't leave the previous point uncovered
-covers : {c : Settings} (p : PointView) (s : List ℕ) (d : code-point.DagPoint) → Passed c p s d → (certified first : Bool) →
-    uncovers (prev_in p) (entry_of s d certified first) ≡ false
+covers : {c : Settings} (p : PointView) (e : code-entry.Entry) → Passed c p e → uncovers (prev_in p) (entry_of e) ≡ false
 unfolding uncovers
-covers p s d k certified first =
-    rw (k.is-valid, prev-other p.id (point_id_of k.info.id) p.prev_digest k.gives.other) (and-false (not certified))
+covers p e k = rw (k.is-valid, prev-other p.id (point_id_of k.info.id) p.prev_digest k.gives.other) (and-false (not e.certified))
 
 nothing-listed : (target : Bool) (j : Judging) (g : Gives) → is_nothing g ≡ true → with_listed target j g ≡ j
 nothing-listed true j g h = nothing-indirect j g h
@@ -108,23 +105,17 @@ module _ (c : Settings) (required : Bool) (p : Viewed) where
       rw g (turn w n indirect_seen s (Some x) h e ∙ rw o (then_walked w x (list_from n (is_some x.aim) (drop x.size s))))
 
   -- the walk over what is left, after an entry that was read
-  pub goes_on : (w v : Walk) (left n : ℕ) (indirect_seen seen : Bool) (at size : ℕ) (s : List ℕ) (x : Listed) (all : Option Walk) → at < length s → left ≡ suc n →
-      read_entry (drop at s) ≡ Some x → is_in_order indirect_seen x.aim ≡ true → seen ≡ is_some x.aim → size ≡ x.size → v ≡ walk_step c required p w x →
-      walk_with c required p w (list_from left indirect_seen (drop at s)) ≡ all →
-      walk_with c required p v (list_from n seen (drop (at + size) s)) ≡ all
-  goes_on w v left n indirect_seen seen at size s x all h g e o k m f inv =
-      rw (k, m, f, sym (drop-drop x.size at s)) (sym (turn-read w left n indirect_seen (drop at s) x (omega (arith, length-drop at s)) g e o) ∙ inv)
+  pub goes_on : (w v : Walk) (left n : ℕ) (indirect_seen seen : Bool) (s t : List ℕ) (x : Listed) (all : Option Walk) → 0 < length s → left ≡ suc n →
+      read_entry s ≡ Some x → is_in_order indirect_seen x.aim ≡ true → seen ≡ is_some x.aim → t ≡ drop x.size s → v ≡ walk_step c required p w x →
+      walk_with c required p w (list_from left indirect_seen s) ≡ all →
+      walk_with c required p v (list_from n seen t) ≡ all
+  goes_on w v left n indirect_seen seen s t x all h g e o k m f inv = rw (k, m, f) (sym (turn-read w left n indirect_seen s x h g e o) ∙ inv)
 
 -- a view that was read is the point's
 pub viewed_by : (v : code_view.PointView) (i : code-info.PointInfo) (s : List ℕ) → point_view_of v ≡ point_view (point_of s i) →
     viewed_of v i ≡ viewed (point_of s i)
 unfolding viewed
 viewed_by v i s e = rw e
-
--- where an entry that was read stands
-pub placed-listed : (s : List ℕ) (x : code-listed.Listed) (r : Option code-listed.Listed) → r ≡ Some x → ListedPlaced s r →
-    (0 < x.end) × EntryPlaced s x.state x.place x.end
-placed-listed s x r g q = rw g at q
 
 -- what an entry gives that is for a dependency or for an indirect link's target, after a dropped one or not
 module _ (c : Settings) (required : Bool) (v : code_view.PointView) (i : code-info.PointInfo) (e : Entry) where
@@ -144,12 +135,11 @@ module _ (c : Settings) (required : Bool) (v : code_view.PointView) (i : code-in
 
 module _ (c : Settings) (required : Bool) (p : Viewed) (w : Walk) where
   -- one that passed the quick test changes nothing
-  pub walked-quiet : (aim : Option AnchorStageRole) (s : List ℕ) (d : code-point.DagPoint) (certified first : Bool) (size : ℕ) → aim ≡ None → Passed c p.view s d →
-      w ≡ walk_step c required p w (record { aim = aim; entry = entry_of s d certified first; size = size })
-  walked-quiet aim s d certified first size e k =
-      walked c required p w (record { aim = aim; entry = entry_of s d certified first; size = size }) w.judging false w.uncovered
-      (rw e (sym (passed-step c required p.view s d k certified first w.judging)))
-      (sym (covers p.view s d k certified first))
+  pub walked-quiet : (x : code-listed.Listed) → x.aim ≡ None → Passed c p.view x.entry → w ≡ walk_step c required p w (listed_of x)
+  walked-quiet x e k =
+      walked c required p w (listed_of x) w.judging false w.uncovered
+      (rw e (sym (passed-step c required p.view x.entry k w.judging)))
+      (sym (covers p.view x.entry k))
       (sym (or-false w.uncovered))
 
   -- one that gives nothing, and any other

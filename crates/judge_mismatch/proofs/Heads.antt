@@ -11,7 +11,7 @@ use lib.Dec.{leb, eqb}
 use borrow.Author.Tests.{eq-eqb, ne_eqb}
 use Rattle.base.specs.Base.{pick, and_then}
 use Rattle.base.proofs.Bool.{and_left}
-use Rattle.base.proofs.Option.{picked, some_of, none-some, map-eq-some_iff}
+use Rattle.base.proofs.Option.{picked, some_of, none-some, some-none, map-eq-some_iff}
 use Rattle.base.proofs.Lists.{rest}
 use Rattle.base.proofs.Impossible.{impossible}
 use Rattle.record.specs.Record.{field_row, field_ok, rows, row_of, next_at, content_at, start_of, content_of, record_end}
@@ -19,7 +19,6 @@ use Rattle.record.proofs.Laws.{fitting, front-field, end-within, front-content}
 use Rattle.point.specs.Point.{PointId, PointInfo}
 use Rattle.point.specs.Reading.{point_id_at}
 use Rattle.point.specs.declared.data.AnchorStageRole.{AnchorStageRole}
-use Rattle.point.specs.declared.data.AnchorStageRole.TheVariants.{Trigger}
 use Rattle.point.proofs.Ids.{id-front, id_shift}
 use Rattle.point.proofs.Laws.{parts-of}
 use Rattle.rules.specs.DagPoint.{DagPoint, Valid, TransInvalid, Invalid, IllFormed, NotFound, Dropped, entry_id, is_dropped}
@@ -27,7 +26,7 @@ use Rattle.rules.specs.List.{RecordFront, Stated, Listed, record_front, record_a
 use Rattle.reasons.specs.Invalid.{dag_round}
 use Rattle.judge_entries.proofs.Order.{list_then, Parted, parted, in_order_lem, after-target}
 use Rattle.judge_entries.proofs.Laws.{listed_as, fronted}
-use Rattle.judge_mismatch.specs.Code.{Head, head_of, head_from, flags_at, aim_at, id_place, id_after, placed_at, end_in, entry_end, listed}
+use Rattle.judge_mismatch.specs.Code.{Head, head_of, id_of, head_from, flags_at, aim_at, id_place, id_after, placed_at, end_in, entry_end, listed}
 
 -- ---- the record at the front
 
@@ -62,9 +61,8 @@ front-is s x h =
 -- ---- what stands after the flags, which end at k
 
 record StateIs (s : List ℕ) (k state : ℕ) (y : Stated) : Type 0 where
-  dropped : is_dropped y.point ≡ eqb state 5
   id-room : (state ≡ 5 → ⊥) → k + id_place state + 68 ≤ length s
-  id : entry_id y.point ≡ id_after state k s
+  id : id_of y.point ≡ id_after state k s
   end : entry_end state k s ≡ Some (k + y.size)
   small : k + y.size ≤ length s
 
@@ -103,66 +101,62 @@ id_17 state s k y h =
 
 -- states 0 and 2: a record
 record_state : (state : ℕ) (of : PointInfo → DagPoint) (s : List ℕ) (k : ℕ) (y : Stated) →
-    ((q : PointInfo) → (is_dropped (of q) ≡ eqb state 5) × (entry_id (of q) ≡ q.id)) → eqb state 5 ≡ false → eqb state 1 ≡ false →
+    ((q : PointInfo) → id_of (of q) ≡ Some q.id) → eqb state 5 ≡ false → eqb state 1 ≡ false →
     entry_end state k s ≡ end_in k s → record_at of 0 (drop k s) ≡ Some y → StateIs s k state y
 unfolding id_after
 record_state state of s k y told d one e h =
     let p = stated of 0 (drop k s) y h in
     let r = recorded s k p.0 p.1 in
     record {
-      dropped = ap is_dropped p.2 ∙ (told p.0.point).0;
       id-room = λ z. rw one (omega (arith, r.room));
-      id = ap entry_id p.2 ∙ ((told p.0.point).1 ∙ rw (d, one) r.id);
+      id = ap id_of p.2 ∙ (told p.0.point ∙ rw (d, one) (ap Some r.id));
       end = e ∙ (r.end ∙ ap Some (omega (arith, p.3)));
       small = omega (arith, r.small, p.3);
     }
 
 -- state 1: a record after a root cause
 root-state : (of : PointInfo → DagPoint) (s : List ℕ) (k : ℕ) (y : Stated) →
-    ((q : PointInfo) → (is_dropped (of q) ≡ false) × (entry_id (of q) ≡ q.id)) → record_at of 72 (drop k s) ≡ Some y → StateIs s k 1 y
+    ((q : PointInfo) → id_of (of q) ≡ Some q.id) → record_at of 72 (drop k s) ≡ Some y → StateIs s k 1 y
 unfolding id_after entry_end
 root-state of s k y told h =
     let p = stated of 72 (drop k s) y h in
     let r = recorded s (k + 72) p.0 (ap record_front (sym (drop-drop 72 k s)) ∙ p.1) in
     record {
-      dropped = ap is_dropped p.2 ∙ (told p.0.point).0;
       id-room = λ z. omega (arith, r.room);
-      id = ap entry_id p.2 ∙ ((told p.0.point).1 ∙ (r.id ∙ ap (point_id_at s) (omega arith)));
+      id = ap id_of p.2 ∙ (told p.0.point ∙ ap Some (r.id ∙ ap (point_id_at s) (omega arith)));
       end = r.end ∙ ap Some (omega (arith, p.3));
       small = omega (arith, r.small, p.3);
     }
 
 -- states 3 and 4: an id
 id-state : (state : ℕ) (of : PointId → DagPoint) (s : List ℕ) (k : ℕ) (y : Stated) →
-    ((i : PointId) → (is_dropped (of i) ≡ eqb state 5) × (entry_id (of i) ≡ i)) → eqb state 5 ≡ false → eqb state 1 ≡ false →
+    ((i : PointId) → id_of (of i) ≡ Some i) → eqb state 5 ≡ false → eqb state 1 ≡ false →
     entry_end state k s ≡ Some (k + 71) → id_at17 of (drop k s) ≡ Some y → StateIs s k state y
 unfolding id_after
 id-state state of s k y told d one e h =
     let p = id_17 of s k y h in
     record {
-      dropped = ap is_dropped p.1 ∙ (told (point_id_at s (k + 3))).0;
       id-room = λ z. rw one (omega (arith, p.0));
-      id = ap entry_id p.1 ∙ ((told (point_id_at s (k + 3))).1 ∙ rw (d, one));
+      id = ap id_of p.1 ∙ (told (point_id_at s (k + 3)) ∙ rw (d, one));
       end = e ∙ ap Some (omega (arith, p.2));
       small = omega (arith, p.0, p.2);
     }
 
 state-is : (state reason : ℕ) (s : List ℕ) (k : ℕ) (y : Stated) → k ≤ length s → read_state state reason (drop k s) ≡ Some y → StateIs s k state y
 unfolding read_state id_after entry_end
-state-is zero reason s k y g h = record_state 0 Valid s k y (λ q. (refl, refl)) refl refl refl (picked (eqb reason 0) _ y h).1
+state-is zero reason s k y g h = record_state 0 Valid s k y (λ q. refl) refl refl refl (picked (eqb reason 0) _ y h).1
 state-is (suc zero) reason s k y g h =
-    root-state (λ q. TransInvalid q (point_id_at (drop k s) 3) (get_or (drop k s) 71 0)) s k y (λ q. (refl, refl)) (picked (eqb reason 0 && is_root (drop k s)) _ y h).1
-state-is (suc (suc zero)) reason s k y g h = record_state 2 (λ q. Invalid q reason) s k y (λ q. (refl, refl)) refl refl refl (picked (is_some (dag_round reason)) _ y h).1
-state-is (suc (suc (suc zero))) reason s k y g h = id-state 3 (λ i. IllFormed i reason) s k y (λ i. (refl, refl)) refl refl refl (picked (leb 1 reason && leb reason 16) _ y h).1
-state-is (suc (suc (suc (suc zero)))) reason s k y g h = id-state 4 NotFound s k y (λ i. (refl, refl)) refl refl refl (picked (eqb reason 0) _ y h).1
+    root-state (λ q. TransInvalid q (point_id_at (drop k s) 3) (get_or (drop k s) 71 0)) s k y (λ q. refl) (picked (eqb reason 0 && is_root (drop k s)) _ y h).1
+state-is (suc (suc zero)) reason s k y g h = record_state 2 (λ q. Invalid q reason) s k y (λ q. refl) refl refl refl (picked (is_some (dag_round reason)) _ y h).1
+state-is (suc (suc (suc zero))) reason s k y g h = id-state 3 (λ i. IllFormed i reason) s k y (λ i. refl) refl refl refl (picked (leb 1 reason && leb reason 16) _ y h).1
+state-is (suc (suc (suc (suc zero)))) reason s k y g h = id-state 4 NotFound s k y (λ i. refl) refl refl refl (picked (eqb reason 0) _ y h).1
 state-is (suc (suc (suc (suc (suc zero))))) reason s k y g h =
     let p = (picked (eqb reason 0) _ y h).1 in
     let point : y.point ≡ Dropped = cc in
     let size : y.size ≡ 0 = cc in
     record {
-      dropped = ap is_dropped point;
       id-room = λ z. absurd (z refl);
-      id = ap entry_id point;
+      id = ap id_of point;
       end = ap Some (omega arith);
       small = omega arith;
     }
@@ -178,9 +172,8 @@ state-is (suc (suc (suc (suc (suc (suc n)))))) reason s k y g h =
 pub record EntryIs (aim : Option AnchorStageRole) (f : ℕ) (s : List ℕ) (x : Listed) : Type 0 where
   pub room : f + 7 ≤ length s
   pub for : x.aim ≡ aim
-  pub dropped : is_dropped x.entry.state ≡ eqb (get_or s (f + 3) 0) 5
   pub id-room : (get_or s (f + 3) 0 ≡ 5 → ⊥) → f + 7 + id_place (get_or s (f + 3) 0) + 68 ≤ length s
-  pub id : entry_id x.entry.state ≡ id_after (get_or s (f + 3) 0) (f + 7) s
+  pub id : id_of x.entry.state ≡ id_after (get_or s (f + 3) 0) (f + 7) s
   pub end : entry_end (get_or s (f + 3) 0) (f + 7) s ≡ Some x.size
   pub least : 7 ≤ x.size
   pub small : x.size ≤ length s
@@ -200,9 +193,8 @@ entry-is aim f s x h =
     record {
       room = room;
       for = ap (λ (z : Listed). z.aim) (sym q.2);
-      dropped = ap is_dropped state ∙ st.dropped;
       id-room = st.id-room;
-      id = ap entry_id state ∙ st.id;
+      id = ap id_of state ∙ st.id;
       end = st.end ∙ ap Some (omega (arith, size));
       least = omega (arith, size);
       small = omega (arith, size, st.small);
@@ -230,50 +222,61 @@ end-inside at s h = inside (record_end (drop at s)) refl h
     inside None e g = impossible (cc)
     inside (Some n) e g = omega (arith, length-drop at s, (first_field (drop at s) n (sym e)).0)
 
--- a record that ends stands there
-pub end-there : (at : ℕ) (s : List ℕ) → is_some (end_in at s) ≡ true → is_some (record_end (drop at s)) ≡ true
-unfolding end_in
-end-there at s h = go (record_end (drop at s)) refl h
+module _ (at : ℕ) (s : List ℕ) where
+  -- a record that ends stands there
+  pub end-there : is_some (end_in at s) ≡ true → is_some (record_end (take (length s - at) (drop at s))) ≡ true
+  unfolding end_in
+  end-there h = rw (rest at s) (go (record_end (drop at s)) refl h)
+    where
+      go : (o : Option ℕ) → o ≡ record_end (drop at s) → is_some (placed_at at o) ≡ true → is_some o ≡ true
+      go None e g = g
+      go (Some n) e g = refl
+
+  -- where a record ends is known where `known_end` says it
+  module _ (n : ℕ) (e : record_end (take (length s - at) (drop at s)) ≡ Some n) where
+    ends : record_end (drop at s) ≡ Some n
+    ends = rw (rest at s) at e
+
+    pub end_known : end_in at s ≡ Some (at + n)
+    unfolding end_in
+    end_known = ap (placed_at at) ends
+
+    pub end_within : at + n ≤ length s
+    end_within = omega (arith, length-drop at s, end-within (drop at s) n ends, (first_field (drop at s) n ends).0)
+
+pub ruleset end_facts = (end-inside, end-there, end_known, end_within)
+
+head_made : (s : List ℕ) (x : Listed) (aim : Option AnchorStageRole) (id : Option PointId) (size : ℕ) → read_entry s ≡ Some x →
+    aim ≡ x.aim → id ≡ id_of x.entry.state → size ≡ x.size →
+    Some (record { aim = aim; id = id; size = size }) ≡ head_from (read_entry s)
+head_made s x aim id size e a i z = same a i z ∙ ap head_from (sym e)
   where
-    go : (o : Option ℕ) → o ≡ record_end (drop at s) → is_some (placed_at at o) ≡ true → is_some o ≡ true
-    go None e g = g
-    go (Some n) e g = refl
+    same : aim ≡ x.aim → id ≡ id_of x.entry.state → size ≡ x.size → Some (record { aim = aim; id = id; size = size }) ≡ Some (head_of x)
+    same a i z = rw (a, i, z)
 
--- where a record ends is known where `known_end` says it
-pub end_known : (at : ℕ) (s : List ℕ) (n : ℕ) → record_end (drop at s) ≡ Some n → (end_in at s ≡ Some (at + n)) × (at + n ≤ length s)
-unfolding end_in
-end_known at s n h = (ap (placed_at at) h, omega (arith, length-drop at s, end-within (drop at s) n h, (first_field (drop at s) n h).0))
+-- what the code asks of an entry that can be read, and what it makes of it
+module _ (s : List ℕ) (r : is_some (read_entry s) ≡ true) where
+  read-is : EntryIs (aim_at s) (flags_at s) s (some_of (read_entry s) r).0
+  read-is = head-is s (some_of (read_entry s) r).0 (some_of (read_entry s) r).1
 
--- where an entry ends, by its state
-module _ (state at : ℕ) (s : List ℕ) where
-  pub end-dropped : state ≡ 5 → entry_end state at s ≡ Some at
-  unfolding entry_end
-  end-dropped e = rw e
+  module _ (f : ℕ) (e : f ≡ flags_at s) where
+    pub entry-room : f + 7 ≤ length s
+    entry-room = rw e read-is.room
 
-  pub end-ill-formed : state ≡ 3 → entry_end state at s ≡ Some (at + 71)
-  unfolding entry_end
-  end-ill-formed e = rw e
+    pub entry-id-room : (state : ℕ) → state ≡ get_or s (f + 3) 0 → (state ≡ 5 → ⊥) → f + 7 + id_place state + 68 ≤ length s
+    entry-id-room state g d = rw (g, e) (read-is.id-room (rw (← e, ← g) d))
 
-  pub end_not_found : state ≡ 4 → entry_end state at s ≡ Some (at + 71)
-  unfolding entry_end
-  end_not_found e = rw e
+    pub entry-ends : is_some (entry_end (get_or s (f + 3) 0) (f + 7) s) ≡ true
+    entry-ends = rw e (ap is_some read-is.end)
 
-  pub end-root : state ≡ 1 → entry_end state at s ≡ end_in (at + 72) s
-  unfolding entry_end
-  end-root e = rw e
+    pub entry-head : (aim : Option AnchorStageRole) (id : Option PointId) (size : ℕ) → aim ≡ aim_at s → id ≡ id_after (get_or s (f + 3) 0) (f + 7) s →
+        entry_end (get_or s (f + 3) 0) (f + 7) s ≡ Some size → Some (record { aim = aim; id = id; size = size }) ≡ head_from (read_entry s)
+    entry-head aim id size a i z =
+        let h : EntryIs (aim_at s) f s (some_of (read_entry s) r).0 = rw e read-is in
+        let g = h.end in
+        head_made s (some_of (read_entry s) r).0 aim id size (some_of (read_entry s) r).1 (a ∙ sym h.for) (i ∙ sym h.id) (cc)
 
-  pub end_record : (state ≡ 5 → ⊥) → (state ≡ 3 → ⊥) → (state ≡ 4 → ⊥) → (state ≡ 1 → ⊥) → entry_end state at s ≡ end_in at s
-  unfolding entry_end
-  end_record a b c d = rw (ne_eqb state 5 a, ne_eqb state 3 b, ne_eqb state 4 c, ne_eqb state 1 d)
-
-pub head_made : (s : List ℕ) (x : Listed) (aim : Option AnchorStageRole) (dropped : Bool) (id : PointId) (size : ℕ) → read_entry s ≡ Some x →
-    aim ≡ x.aim → dropped ≡ is_dropped x.entry.state → id ≡ entry_id x.entry.state → size ≡ x.size →
-    Some (record { aim = aim; dropped = dropped; id = id; size = size }) ≡ head_from (read_entry s)
-head_made s x aim dropped id size e a d i z = same a d i z ∙ ap head_from (sym e)
-  where
-    same : aim ≡ x.aim → dropped ≡ is_dropped x.entry.state → id ≡ entry_id x.entry.state → size ≡ x.size →
-        Some (record { aim = aim; dropped = dropped; id = id; size = size }) ≡ Some (head_of x)
-    same a d i z = rw (a, d, i, z)
+pub ruleset head_facts = (entry-room, entry-id-room, entry-ends, entry-head)
 
 -- ---- lists that read
 
@@ -391,8 +394,7 @@ pub record Front (s : List ℕ) (h : Head) : Type 0 where
   pub first : Listed
   pub next : Next s first
   pub for : h.aim ≡ first.aim
-  pub dropped : h.dropped ≡ is_dropped first.entry.state
-  pub id : h.id ≡ entry_id first.entry.state
+  pub id : h.id ≡ id_of first.entry.state
   pub size : h.size ≡ first.size
   pub least : 7 ≤ h.size
   pub small : h.size ≤ length s
@@ -406,7 +408,6 @@ front_with_lem s h x n e =
       first = x;
       next = n;
       for = cc;
-      dropped = cc;
       id = cc;
       size = size;
       least = omega (arith, i.least);
@@ -415,6 +416,28 @@ front_with_lem s h x n e =
 
 front_of : (s : List ℕ) (h : Head) → is_some (read_list s) ≡ true → 0 < length s → Some h ≡ head_from (read_entry s) → Front s h
 front_of s h r g e = let n = next_of s r g in front_with_lem s h n.0 n.1 e
+
+-- an entry has an id exactly if it was not dropped
+kept : (d : DagPoint) (i : PointId) → Some i ≡ id_of d → (is_dropped d ≡ false) × (i ≡ entry_id d)
+kept d i h = by (is_dropped d) refl h
+  where
+    by : (b : Bool) → b ≡ is_dropped d → Some i ≡ pick b None (Some (entry_id d)) → (is_dropped d ≡ false) × (i ≡ entry_id d)
+    by true e h = some-none h
+    by false e h = (sym e, cc)
+
+gone : (d : DagPoint) → None ≡ id_of d → is_dropped d ≡ true
+gone d h = by (is_dropped d) refl h
+  where
+    by : (b : Bool) → b ≡ is_dropped d → None ≡ pick b None (Some (entry_id d)) → is_dropped d ≡ true
+    by true e h = sym e
+    by false e h = none-some h
+
+module _ {s : List ℕ} {h : Head} (f : Front s h) where
+  pub front_kept : (i : PointId) → h.id ≡ Some i → (is_dropped f.first.entry.state ≡ false) × (i ≡ entry_id f.first.entry.state)
+  front_kept i e = kept f.first.entry.state i (sym e ∙ f.id)
+
+  pub front_dropped : h.id ≡ None → is_dropped f.first.entry.state ≡ true
+  front_dropped e = gone f.first.entry.state (sym e ∙ f.id)
 
 -- `head` may be called at the front of a list that reads
 head-reads : (s : List ℕ) → is_some (read_list s) ≡ true → 0 < length s → is_some (read_entry s) ≡ true
@@ -469,7 +492,3 @@ module _ (s : List ℕ) (at : ℕ) where
 
 pub reads-start : (s : List ℕ) → is_some (read_list s) ≡ true → Reads s 0
 reads-start s h = record { within = omega arith; left = h }
-
-pub role-later : (n : ℕ) → (n ≡ 0 → ⊥) → role_of n ≡ Trigger
-role-later zero d = absurd (d refl)
-role-later (suc n) d = refl

@@ -1,5 +1,6 @@
 -- Laws of the versions of the author's point at the round before: their ids, which of them stand twice, and an index of a block of them.
 use Rattle.std.specs.Prelude.{Option, None, Some, is_some}
+use Rattle.std.specs.Bool.{then_some}
 use Prim.Native.Nat.{ℕ, zero, suc, ◌+◌, ◌-◌, ◌≤◌, ◌<◌}
 use native.Mathlib.Omega.{arith}
 use native.Mathlib.Decide.{dec_lt, ℕ_discrete}
@@ -7,28 +8,28 @@ use mathlib.Core.Path.{◌≡◌, refl, ap, sym, ◌∙◌}
 use mathlib.Core.Logic.{◌⊎◌, inl, inr, ⊎_elim}
 use mathlib.Core.Bool.{Bool, true, false, not, ◌&&◌, ◌||◌}
 use mathlib.Core.List.{List, [], ◌∷◌, ◌++◌, append_assoc}
-use lib.ListN.{length, get_or, take, drop, replicate, length-append, length-drop, get_or-append}
+use lib.ListN.{length, get_or, take, drop, length-append, length-drop, get_or-append}
 use lib.Seq.{get_or-append_seam, drop-drop}
 use lib.Dec.{eqb}
 use borrow.Author.Tests.{eqb-false, not-true}
 use Rattle.base.specs.Base.{pick}
 use Rattle.base.proofs.Bool.{clash, never, and_left, and_right, or_left, or_right, or_first, or_second, or_none, or_rest}
-use Rattle.base.proofs.Option.{some_of}
+use Rattle.base.proofs.Option.{some_of, unfound}
 use Rattle.base.proofs.Lists.{rest}
 use Rattle.point.specs.Point.{PointId, PointInfo, no_point, prev_digest, same_id}
 use Rattle.point.specs.Reading.{point_id_at}
 use Rattle.point.specs.declared.data.AnchorStageRole.{AnchorStageRole}
 use Rattle.point.proofs.Ids.{same_sym, same_eq, id_shift}
-use Rattle.id_index.specs.Code.{count_of, field_id, id_in, added, Places, Noted, IsAt, NoneIs, Once, Twice, Built, FoundAt}
-use Rattle.id_index.proofs.Laws.{added-count, added-old, added_new, added-noted, none-noted}
+use Rattle.id_index.specs.Code.{count_of, field_id, id_in, Added, IsEmpty, Noted, IsAt, NoneIs, Once, Twice, Built, FoundAt}
+use Rattle.id_index.specs.declared.Index.{Index}
+use Rattle.id_index.proofs.Laws.{added-old, added-noted, none-noted}
 use Rattle.rules.specs.DagPoint.{Entry, entry_id, is_dropped, is_by}
 use Rattle.rules.specs.List.{read_entry, read_list, directs}
 use Rattle.rules.specs.Mismatch.{has_id, ids_of, is_version}
-use Rattle.judge_mismatch.specs.Code.{Head, head_of, head_from, flags_at, id_place, id_after, listed, is_own, own_ids, own_in, is_twice_in, any_in, is_version_twice, is_new_version}
-use Rattle.judge_mismatch.specs.Code.{field_at, IsVersionAt, VersionAt, HasRoom, HasIds, NotedTo, Meets, BlockRead}
+use Rattle.judge_mismatch.specs.Code.{Head, head_of, head_from, flags_at, id_place, id_after, id_of, is_own_id, is_own, own_ids, own_in, is_twice_in, any_in, is_version_twice, is_new_version}
+use Rattle.judge_mismatch.specs.Code.{field_at, IsPlace, VersionAt, HasRoom, HasIds, NotedTo, Meets, BlockEnds, BlockRead}
 use Rattle.judge_mismatch.specs.declared.versions.Version as code-version
-use Rattle.judge_mismatch.specs.declared.versions.Block as code-block
-use Rattle.judge_mismatch.proofs.Heads.{Front, Reads, head-is, reads-start, reads-front, reads-next, reads_end, directs-next, directs-last}
+use Rattle.judge_mismatch.proofs.Heads.{Front, front_kept, front_dropped, Reads, head-is, reads-start, reads-front, reads-next, reads_end, directs-next, directs-last}
 
 -- ---- ids in two parts
 
@@ -108,10 +109,10 @@ lt_or_le j n = elim (dec_lt j n) [
   | no b ↦ inr (omega arith)
 ]
 
-pub ids-start : (s x : List ℕ) → x ≡ replicate 16386 0 → HasIds s x []
-ids-start s x e = record { count = (none-noted s x e).1; ids = λ j h. absurd (omega arith) }
+pub ids-start : (s : List ℕ) (x : Index) → IsEmpty x → HasIds s x []
+ids-start s x e = record { count = e.none; ids = λ j h. absurd (omega arith) }
 
-module _ {s x : List ℕ} {l : List PointId} (h : HasIds s x l) where
+module _ {s : List ℕ} {x : Index} {l : List PointId} (h : HasIds s x l) where
   pub ids-found : (i : PointId) (j : ℕ) → IsAt s x (count_of x) i j → has_id l i ≡ true
   ids-found i j a =
       let g : j < length l = omega (arith, a.within, h.count) in
@@ -132,31 +133,28 @@ module _ {s x : List ℕ} {l : List PointId} (h : HasIds s x l) where
       (λ j k g f. rw (← h.ids j (omega arith), ← h.ids k f) (o j k g (omega (arith, h.count))))
 
   -- building keeps them
-  pub ids-built : {y : List ℕ} {r : Bool} → Places s x → Built s x y r → HasIds s y l
-  ids-built p b = record {
-    count = b.count ∙ h.count;
-    ids = λ j g. ap (field_id s) (b.places j (omega (arith, p.room, h.count))) ∙ h.ids j g;
-  }
+  pub ids-built : {y : Index} {r : Bool} → Built s x y r → HasIds s y l
+  ids-built b = record { count = b.count ∙ h.count; ids = λ j g. ap (λ (q : List ℕ). field_id s (get_or q j 0)) b.places ∙ h.ids j g }
 
   -- one more
-  module _ (place : ℕ) (i : PointId) (p : Places s x) (room : count_of x < 4096) (e : field_id s place ≡ i) where
-    old_id : (j : ℕ) → j < length l → id_in s (added x place) j ≡ get_or (l ++ (i ∷ [])) j no_point
+  module _ {y : Index} (place : ℕ) (i : PointId) (p : Added x place y) (e : field_id s place ≡ i) where
+    old_id : (j : ℕ) → j < length l → id_in s y j ≡ get_or (l ++ (i ∷ [])) j no_point
     old_id j b =
-        ap (field_id s) (added-old x place p.sized room j (omega (arith, h.count)))
+        ap (field_id s) (added-old p j (omega (arith, h.count)))
         ∙ (h.ids j b ∙ sym (get_or-append l (i ∷ []) no_point j b))
 
-    new-id : id_in s (added x place) (length l) ≡ get_or (l ++ (i ∷ [])) (length l) no_point
+    new-id : id_in s y (length l) ≡ get_or (l ++ (i ∷ [])) (length l) no_point
     new-id =
-        ap (λ (n : ℕ). id_in s (added x place) n) (sym h.count)
-        ∙ (ap (field_id s) (added_new x place p.sized room) ∙ (e ∙ sym (get_or-append_seam l i [] no_point)))
+        ap (λ (n : ℕ). id_in s y n) (sym h.count)
+        ∙ (ap (field_id s) p.there ∙ (e ∙ sym (get_or-append_seam l i [] no_point)))
 
-    pub ids-added : HasIds s (added x place) (l ++ (i ∷ []))
+    pub ids-added : HasIds s y (l ++ (i ∷ []))
     ids-added = record {
-      count = omega (arith, added-count x place p.sized room, h.count, length-append l (i ∷ []));
+      count = omega (arith, p.count, h.count, length-append l (i ∷ []));
       ids = λ j g. by j (⊎_elim (λ b. inl b) (λ b. inr (omega (arith, g, b, length-append l (i ∷ [])))) (lt_or_le j (length l)));
     }
       where
-        by : (j : ℕ) → (j < length l) ⊎ (j ≡ length l) → id_in s (added x place) j ≡ get_or (l ++ (i ∷ [])) j no_point
+        by : (j : ℕ) → (j < length l) ⊎ (j ≡ length l) → id_in s y j ≡ get_or (l ++ (i ∷ [])) j no_point
         by j (inl b) = old_id j b
         by j (inr b) = rw b new-id
 
@@ -181,36 +179,27 @@ unfolding is_twice_in
 twice-next i l = refl
 
 module _ (own : PointId) (s : List ℕ) (at : ℕ) (h : Head) (f : Front (drop at s) h) where
-  after : List Entry
-  after = directs (listed (drop (at + h.size) s))
-
   -- an entry that is a version stands first, any other is passed over
-  own_with : (o : Option AnchorStageRole) → h.aim ≡ o → (b : Bool) → is_own own h ≡ b →
-      own_in own (drop at s) ≡ pick b (h.id ∷ own_ids own after) (own_ids own after)
-  unfolding is_own after
-  own_with None a b e = rw (directs-next s at h f a) (go b (rw (a, f.dropped, f.id) at e))
-    where
-      go : (b : Bool) → (not (is_dropped f.first.entry.state) && is_by (own.round - 1) own.author (entry_id f.first.entry.state)) ≡ b →
-          own_ids own (f.first.entry ∷ directs (listed (drop (at + h.size) s)))
-          ≡ pick b (h.id ∷ own_ids own (directs (listed (drop (at + h.size) s)))) (own_ids own (directs (listed (drop (at + h.size) s))))
-      go true t = own-here own f.first.entry _ (dropped_not (is_dropped f.first.entry.state) (and_left _ _ t)) (and_right (not (is_dropped f.first.entry.state)) _ t) ∙ ap (λ (i : PointId). i ∷ own_ids own (directs (listed (drop (at + h.size) s)))) (sym f.id)
-        where
-          dropped_not : (d : Bool) → not d ≡ true → d ≡ false
-          dropped_not true g = sym g
-          dropped_not false g = refl
-      go false t = own-passed own f.first.entry _ t
-  own_with (Some g) a true e = clash (is_own own h) e (rw a)
-  own_with (Some g) a false e =
-      let d = directs-last s at h f (ap is_some a) in
-      rw (d.0, d.1)
-
-  pub own-next : is_own own h ≡ true → own_in own (drop at s) ≡ h.id ∷ own_in own (drop (at + h.size) s)
-  unfolding after
-  own-next e = own_with h.aim refl true e
+  pub own-next : (i : PointId) → h.id ≡ Some i → is_own own h ≡ true → own_in own (drop at s) ≡ i ∷ own_in own (drop (at + h.size) s)
+  unfolding is_own
+  own-next i e o =
+      let k = front_kept f i e in
+      let direct = unfound h.aim (not-true (is_some h.aim) (and_left (not (is_some h.aim)) _ o)) in
+      let by_own : is_by (own.round - 1) own.author i ≡ true = rw e at (and_right (not (is_some h.aim)) _ o) in
+      ap (own_ids own) (directs-next s at h f direct) ∙ (own-here own f.first.entry _ k.0 (ap (is_by (own.round - 1) own.author) (sym k.1) ∙ by_own)
+      ∙ ap (λ (j : PointId). j ∷ own_in own (drop (at + h.size) s)) (sym k.1))
 
   pub other-next : is_own own h ≡ false → own_in own (drop at s) ≡ own_in own (drop (at + h.size) s)
-  unfolding after
-  other-next e = own_with h.aim refl false e
+  unfolding is_own
+  other-next o = by_aim h.aim refl
+    where
+      by_id : (i : Option PointId) → h.id ≡ i → h.aim ≡ None → (not (is_dropped f.first.entry.state) && is_by (own.round - 1) own.author (entry_id f.first.entry.state)) ≡ false
+      by_id None e a = rw (front_dropped f e)
+      by_id (Some i) e a = let k = front_kept f i e in rw (k.0, ← k.1) (rw (a, e) at o)
+
+      by_aim : (g : Option AnchorStageRole) → h.aim ≡ g → own_in own (drop at s) ≡ own_in own (drop (at + h.size) s)
+      by_aim None a = ap (own_ids own) (directs-next s at h f a) ∙ own-passed own f.first.entry _ (by_id h.id refl a)
+      by_aim (Some g) a = let d = directs-last s at h f (ap is_some a) in ap (own_ids own) (d.0 ∙ sym d.1)
 
 -- ---- versions that stand once
 
@@ -269,81 +258,70 @@ field-near s = go (eqb (get_or s 0 0) 19) (λ f. eqb (get_or s (f + 3) 0) 1)
         by true = omega arith
         by false = omega arith
 
-after_kept : (s : List ℕ) (state at : ℕ) → eqb state 5 ≡ false → id_after state at s ≡ point_id_at s (at + id_place state)
+after_dropped : (s : List ℕ) (state at : ℕ) → eqb state 5 ≡ true → id_after state at s ≡ None
+unfolding id_after
+after_dropped s state at g = rw g
+
+after_kept : (s : List ℕ) (state at : ℕ) → eqb state 5 ≡ false → id_after state at s ≡ Some (point_id_at s (at + id_place state))
 unfolding id_after
 after_kept s state at g = rw g
 
 -- the field of a version's id
 own-field : (own : PointId) (s : List ℕ) (h : Head) → is_some (read_entry s) ≡ true → Some h ≡ head_from (read_entry s) → is_own own h ≡ true →
-    (field_at s + 71 ≤ length s) × (point_id_at s (field_at s + 3) ≡ h.id)
+    (field_at s + 71 ≤ length s) × (Some (point_id_at s (field_at s + 3)) ≡ h.id)
 unfolding is_own
 own-field own s h r e o =
     let x = some_of (read_entry s) r in
     let i = head-is s x.0 x.1 in
     let same : Some h ≡ Some (head_of x.0) = e ∙ ap head_from x.1 in
-    let dropped : h.dropped ≡ is_dropped x.0.entry.state = cc in
-    let id : h.id ≡ entry_id x.0.entry.state = cc in
+    let id : h.id ≡ id_of x.0.entry.state = cc in
     let state = get_or s (flags_at s + 3) 0 in
-    let kept : h.dropped ≡ false = not-true h.dropped (and_left (not h.dropped) _ (and_right (not (is_some h.aim)) _ o)) in
-    let five : eqb state 5 ≡ false = sym i.dropped ∙ (sym dropped ∙ kept) in
-    go (flags_at s) (eqb state 1) (i.id-room (eqb-false state 5 five)) (id ∙ (i.id ∙ after_kept s state (flags_at s + 7) five))
+    let there : h.id ≡ id_after state (flags_at s + 7) s = id ∙ i.id in
+    let five : eqb state 5 ≡ false = never (eqb state 5) (λ t. clash (is_own_id own h.id) (and_right (not (is_some h.aim)) _ o) (ap (is_own_id own) (there ∙ after_dropped s state (flags_at s + 7) t))) in
+    go (flags_at s) (eqb state 1) (i.id-room (eqb-false state 5 five)) (there ∙ after_kept s state (flags_at s + 7) five)
   where
-    go : (f : ℕ) (b : Bool) → f + 7 + pick b 75 3 + 68 ≤ length s → h.id ≡ point_id_at s (f + 7 + pick b 75 3) →
-        (pick b (f + 79) (f + 7) + 71 ≤ length s) × (point_id_at s (pick b (f + 79) (f + 7) + 3) ≡ h.id)
-    go f true g i = (omega arith, ap (point_id_at s) (omega arith) ∙ sym i)
-    go f false g i = (omega arith, ap (point_id_at s) (omega arith) ∙ sym i)
+    go : (f : ℕ) (b : Bool) → f + 7 + pick b 75 3 + 68 ≤ length s → h.id ≡ Some (point_id_at s (f + 7 + pick b 75 3)) →
+        (pick b (f + 79) (f + 7) + 71 ≤ length s) × (Some (point_id_at s (pick b (f + 79) (f + 7) + 3)) ≡ h.id)
+    go f true g i = (omega arith, ap Some (ap (point_id_at s) (omega arith)) ∙ sym i)
+    go f false g i = (omega arith, ap Some (ap (point_id_at s) (omega arith)) ∙ sym i)
 
 pub version-is : (own : PointId) (s : List ℕ) (h : Head) (v : code-version.Version) → is_some (read_entry s) ≡ true → Some h ≡ head_from (read_entry s) →
-    v.size ≡ h.size → v.is_own ≡ is_own own h → v.place ≡ field_at s → VersionAt own s v
-version-is own s h v r e size told place = (
-  h,
-  e,
-  record {
-    size = size;
-    told = told;
-    near = rw place (field-near s);
-    inside = λ t. rw place (own-field own s h r e (sym told ∙ t)).0;
-    id = λ t. rw place (own-field own s h r e (sym told ∙ t)).1;
-  },
-)
+    v.size ≡ h.size → v.place ≡ then_some (is_own own h) (field_at s) → VersionAt own s v
+version-is own s h v r e size place = (h, e, size, rw place (by (is_own own h) refl))
+  where
+    by : (b : Bool) → b ≡ is_own own h → IsPlace own s h (then_some b (field_at s))
+    by true t = let f = own-field own s h r e (sym t) in (sym t, field-near s, f.0, f.1)
+    by false t = sym t
 
 -- the entry at a place of a list that reads
 pub record Met (own : PointId) (s : List ℕ) (at : ℕ) (v : code-version.Version) : Type 0 where
   pub next : Reads s (at + v.size)
   pub least : 7 ≤ v.size
-  pub near : v.place ≤ 83
-  pub own_first : v.is_own ≡ true →
-      (at + v.place + 71 ≤ length s) × (own_in own (drop at s) ≡ point_id_at s (at + v.place + 3) ∷ own_in own (drop (at + v.size) s))
-  pub passed : v.is_own ≡ false → own_in own (drop at s) ≡ own_in own (drop (at + v.size) s)
+  pub own_first : (place : ℕ) → v.place ≡ Some place →
+      (place ≤ 83) × (at + place + 71 ≤ length s) × (own_in own (drop at s) ≡ point_id_at s (at + place + 3) ∷ own_in own (drop (at + v.size) s))
+  pub passed : v.place ≡ None → own_in own (drop at s) ≡ own_in own (drop (at + v.size) s)
 
 pub met : (own : PointId) (s : List ℕ) (at : ℕ) (v : code-version.Version) → Reads s at → at < length s →
     VersionAt own (take (length s - at) (drop at s)) v → Met own s at v
 met own s at v r g a =
     let h = a.0 in
     let f = reads-front s at r g h a.1 in
-    let i : IsVersionAt own (drop at s) h v = rw (← rest at s) a.2 in
+    let size : v.size ≡ h.size = a.2 in
+    let i : IsPlace own (drop at s) h v.place = rw (← rest at s) a.3 in
     record {
-      next = rw i.size (reads-next s at h f r);
-      least = rw i.size f.least;
-      near = i.near;
-      own_first = λ t. (
-        omega (arith, i.inside t, length-drop at s),
-        rw i.size (own-next own s at h f (sym i.told ∙ t) ∙ ap (λ (z : PointId). z ∷ own_in own (drop (at + h.size) s)) (sym (i.id t) ∙ (id_shift at (v.place + 3) s ∙ ap (point_id_at s) (omega arith)))),
+      next = rw size (reads-next s at h f r);
+      least = rw size f.least;
+      own_first = λ place e. let p : IsPlace own (drop at s) h (Some place) = rw e at i in (
+        p.1,
+        omega (arith, p.2, length-drop at s),
+        rw size (own-next own s at h f (point_id_at (drop at s) (place + 3)) (sym p.3) p.0 ∙ ap (λ (z : PointId). z ∷ own_in own (drop (at + h.size) s)) (id_shift at (place + 3) s ∙ ap (point_id_at s) (omega arith))),
       );
-      passed = λ t. rw i.size (other-next own s at h f (sym i.told ∙ t));
+      passed = λ e. let p : IsPlace own (drop at s) h None = rw e at i in rw size (other-next own s at h f p);
     }
 
 -- ---- a block is noted
 
-pub room-there : (n at : ℕ) (r : Bool) → HasRoom n at r → not r ≡ false → HasRoom n at true
-room-there n at true h e = h
-room-there n at false h e = clash true refl e
-
-pub room_not : (n at : ℕ) (r : Bool) → HasRoom n at r → not r ≡ true → HasRoom n at false
-room_not n at true h e = clash false e refl
-room_not n at false h e = h
-
-pub record Noting (own : PointId) (s x : List ℕ) (at : ℕ) : Type 0 where
+pub record Noting (own : PointId) (s : List ℕ) (x : Index) (at : ℕ) : Type 0 where
   pub block : List PointId
   pub has : HasIds s x block
   pub noted : Noted s x
@@ -351,17 +329,17 @@ pub record Noting (own : PointId) (s x : List ℕ) (at : ℕ) : Type 0 where
   pub left : own_in own s ≡ block ++ own_in own (drop at s)
   pub begun : at ≡ 0 → count_of x ≡ 0
 
-pub noting_start : (own : PointId) (s x : List ℕ) → x ≡ replicate 16386 0 → is_some (read_list s) ≡ true → Noting own s x 0
+pub noting_start : (own : PointId) (s : List ℕ) (x : Index) → IsEmpty x → is_some (read_list s) ≡ true → Noting own s x 0
 noting_start own s x e r = record {
   block = [];
   has = ids-start s x e;
-  noted = (none-noted s x e).0;
+  noted = none-noted s e;
   reads = reads-start s r;
   left = refl;
-  begun = λ z. (none-noted s x e).1;
+  begun = λ z. e.none;
 }
 
-module _ {own : PointId} {s x : List ℕ} {at : ℕ} (n : Noting own s x at) where
+module _ {own : PointId} {s : List ℕ} {x : Index} {at : ℕ} (n : Noting own s x at) where
   pub noting_full : HasRoom (count_of x) at false → NotedTo own s x at
   noting_full h = record {
     block = n.block;
@@ -388,20 +366,19 @@ module _ {own : PointId} {s x : List ℕ} {at : ℕ} (n : Noting own s x at) whe
   }
 
   module _ (v : code-version.Version) (m : Met own s at v) where
-    pub noting_own : v.is_own ≡ true → count_of x < 4096 → Noting own s (added x (at + v.place)) (at + v.size)
-    noting_own t g =
-        let p = n.noted.places in
-        let i = point_id_at s (at + v.place + 3) in
+    pub noting_own : {y : Index} (place : ℕ) → v.place ≡ Some place → Added x (at + place) y → Noting own s y (at + v.size)
+    noting_own place t g =
+        let i = point_id_at s (at + place + 3) in
         record {
           block = n.block ++ (i ∷ []);
-          has = ids-added n.has (at + v.place) i p g refl;
-          noted = added-noted x (at + v.place) p.sized g (m.own_first t).0 n.noted;
+          has = ids-added n.has (at + place) i g refl;
+          noted = added-noted g (m.own_first place t).1 n.noted;
           reads = m.next;
-          left = n.left ∙ (ap (λ (l : List PointId). n.block ++ l) (m.own_first t).1 ∙ sym (append_assoc n.block (i ∷ []) (own_in own (drop (at + v.size) s))));
+          left = n.left ∙ (ap (λ (l : List PointId). n.block ++ l) (m.own_first place t).2 ∙ sym (append_assoc n.block (i ∷ []) (own_in own (drop (at + v.size) s))));
           begun = λ z. absurd (omega (arith, m.least));
         }
 
-    pub noting_other : v.is_own ≡ false → Noting own s x (at + v.size)
+    pub noting_other : v.place ≡ None → Noting own s x (at + v.size)
     noting_other t = record {
       block = n.block;
       has = n.has;
@@ -421,63 +398,57 @@ any-end : (a : List PointId) (own : PointId) (s : List ℕ) (at : ℕ) → lengt
 unfolding any_in own_ids directs
 any-end a own s at h = rw (reads_end s at h)
 
-pub found-is : (s x : List ℕ) (i k : PointId) (p : Option ℕ) (j : ℕ) → p ≡ Some j → i ≡ k → FoundAt s x i p → IsAt s x (count_of x) k j
+pub found-is : (s : List ℕ) (x : Index) (i k : PointId) (p : Option ℕ) (j : ℕ) → p ≡ Some j → i ≡ k → FoundAt s x i p → IsAt s x (count_of x) k j
 found-is s x i k p j e g f = rw (e, g) at f
 
-pub absent-is : (s x : List ℕ) (i k : PointId) (p : Option ℕ) → p ≡ None → i ≡ k → FoundAt s x i p → NoneIs s x (count_of x) k
+pub absent-is : (s : List ℕ) (x : Index) (i k : PointId) (p : Option ℕ) → p ≡ None → i ≡ k → FoundAt s x i p → NoneIs s x (count_of x) k
 absent-is s x i k p e g f = rw (e, g) at f
 
 -- what is left of the list meets the index exactly if the whole of it does
-pub record Meeting (own : PointId) (s : List ℕ) (from : ℕ) (x : List ℕ) (at : ℕ) : Type 0 where
+pub record Meeting (own : PointId) (s : List ℕ) (from : ℕ) (x : Index) (at : ℕ) : Type 0 where
   pub reads : Reads s at
   pub left : (block : List PointId) → HasIds s x block → any_in block (own_in own (drop at s)) ≡ any_in block (own_in own (drop from s))
 
-pub meeting_start : (own : PointId) (s x : List ℕ) (from : ℕ) → from ≤ length s → is_some (read_list (drop from s)) ≡ true → Meeting own s from x from
+pub meeting_start : (own : PointId) (s : List ℕ) (x : Index) (from : ℕ) → from ≤ length s → is_some (read_list (drop from s)) ≡ true → Meeting own s from x from
 meeting_start own s x from w r = record { reads = record { within = w; left = r }; left = λ block b. refl }
 
-module _ {own : PointId} {s x : List ℕ} {from at : ℕ} (n : Meeting own s from x at) where
+module _ {own : PointId} {s : List ℕ} {x : Index} {from at : ℕ} (n : Meeting own s from x at) where
   pub meeting_end : length s ≤ at → Meets own s from x false
   meeting_end h block b = sym (sym (n.left block b) ∙ any-end block own s at h)
 
   module _ (v : code-version.Version) (m : Met own s at v) where
-    pub meeting_found : v.is_own ≡ true → (j : ℕ) → IsAt s x (count_of x) (point_id_at s (at + v.place + 3)) j → Meets own s from x true
-    meeting_found t j a block b =
-        let i = point_id_at s (at + v.place + 3) in
-        sym (sym (n.left block b) ∙ (ap (any_in block) (m.own_first t).1 ∙ (any_here block i _ ∙ or_first _ _ (ids-found b i j a))))
+    pub meeting_found : (place : ℕ) → v.place ≡ Some place → (j : ℕ) → IsAt s x (count_of x) (point_id_at s (at + place + 3)) j → Meets own s from x true
+    meeting_found place t j a block b =
+        let i = point_id_at s (at + place + 3) in
+        sym (sym (n.left block b) ∙ (ap (any_in block) (m.own_first place t).2 ∙ (any_here block i _ ∙ or_first _ _ (ids-found b i j a))))
 
-    pub meeting_absent : v.is_own ≡ true → NoneIs s x (count_of x) (point_id_at s (at + v.place + 3)) → Meeting own s from x (at + v.size)
-    meeting_absent t a =
-        let i = point_id_at s (at + v.place + 3) in
-        record { reads = m.next; left = λ block b. sym (ap (any_in block) (m.own_first t).1 ∙ (any_here block i _ ∙ or_rest _ _ (ids-absent b i a))) ∙ n.left block b }
+    pub meeting_absent : (place : ℕ) → v.place ≡ Some place → NoneIs s x (count_of x) (point_id_at s (at + place + 3)) → Meeting own s from x (at + v.size)
+    meeting_absent place t a =
+        let i = point_id_at s (at + place + 3) in
+        record { reads = m.next; left = λ block b. sym (ap (any_in block) (m.own_first place t).2 ∙ (any_here block i _ ∙ or_rest _ _ (ids-absent b i a))) ∙ n.left block b }
 
-    pub meeting_other : v.is_own ≡ false → Meeting own s from x (at + v.size)
+    pub meeting_other : v.place ≡ None → Meeting own s from x (at + v.size)
     meeting_other t = record { reads = m.next; left = λ block b. ap (any_in block) (sym (m.passed t)) ∙ n.left block b }
 
-pub built_not : (s y x : List ℕ) (r : Bool) → Built s y x r → not r ≡ true → Built s y x false
-built_not s y x true b e = clash false e refl
-built_not s y x false b e = b
-
-pub built-all : (s y x : List ℕ) (r : Bool) → Built s y x r → not r ≡ false → Built s y x true
-built-all s y x true b e = b
-built-all s y x false b e = clash true refl e
-
-module _ {own : PointId} {s y : List ℕ} {end : ℕ} (n : NotedTo own s y end) where
+module _ {own : PointId} {s : List ℕ} {y : Index} {end : ℕ} (n : NotedTo own s y end) where
   all-twice : is_twice_in (own_in own s) ≡ (is_twice_in n.block || (any_in n.block (own_in own (drop end s)) || is_twice_in (own_in own (drop end s))))
   all-twice = ap is_twice_in n.left ∙ twice-append n.block (own_in own (drop end s))
 
-  block_with : (b : code-block.Block) → b.end ≡ end → (b.is_twice || is_twice_in (own_in own (drop end s))) ≡ is_twice_in (own_in own s) → BlockRead own s b
-  block_with b e h = record { within = rw e n.within; more = rw e n.more; reads = rw e n.reads; left = rw e h }
+  pub block-twice : (x : Index) → Built s y x false → BlockRead own s None
+  block-twice x h = all-twice ∙ or_first _ _ (ids-twice (ids-built n.has h) h.index)
 
-  pub block-twice : (x : List ℕ) (b : code-block.Block) → b.end ≡ end → b.is_twice ≡ true → Built s y x false → BlockRead own s b
-  block-twice x b e t h =
-      block_with b e
-      (rw t (sym (all-twice ∙ or_first _ _ (ids-twice (ids-built n.has n.noted.places h) h.index))))
+  pub block-met : (x : Index) (b : Bool) → Built s y x true → Meets own s end x b → BlockRead own s (then_some (not b) end)
+  block-met x b h m = by b (m n.block has)
+    where
+      has : HasIds s x n.block
+      has = ids-built n.has h
 
-  pub block-met : (x : List ℕ) (b : code-block.Block) → b.end ≡ end → Built s y x true → Meets own s end x b.is_twice → BlockRead own s b
-  block-met x b e h m =
-      let has = ids-built n.has n.noted.places h in
-      block_with b e
-      (rw (m n.block has) (sym (all-twice ∙ or_rest _ _ (ids-once has h.index.1))))
+      left : is_twice_in (own_in own s) ≡ (any_in n.block (own_in own (drop end s)) || is_twice_in (own_in own (drop end s)))
+      left = all-twice ∙ or_rest _ _ (ids-once has h.index.1)
+
+      by : (b : Bool) → b ≡ any_in n.block (own_in own (drop end s)) → BlockRead own s (then_some (not b) end)
+      by true e = left ∙ or_first _ _ (sym e)
+      by false e = record { within = n.within; more = n.more; reads = n.reads; left = sym (left ∙ or_rest _ _ (sym e)) }
 
 -- ---- block by block
 
@@ -496,27 +467,26 @@ module _ {own : PointId} {s : List ℕ} {at : ℕ} (n : Blocks own s at) where
   pub blocks_end : length s ≤ at → false ≡ is_twice_in (own_in own s)
   blocks_end h = sym (sym n.left ∙ twice-end own s at h)
 
-  module _ (b : code-block.Block) (r : BlockRead own (take (length s - at) (drop at s)) b) where
-    block_here : BlockRead own (drop at s) b
-    block_here = rw (← rest at s) r
+  pub blocks_twice : (r : Option ℕ) → r ≡ None → BlockRead own (take (length s - at) (drop at s)) r → true ≡ is_twice_in (own_in own s)
+  blocks_twice r e b =
+      let t : is_twice_in (own_in own (drop at s)) ≡ true = rw (e, rest at s) at b in
+      sym t ∙ n.left
 
-    past-block : drop b.end (drop at s) ≡ drop (at + b.end) s
-    past-block = drop-drop b.end at s
+  module _ (r : Option ℕ) (end : ℕ) (e : r ≡ Some end) (b : BlockRead own (take (length s - at) (drop at s)) r) where
+    block_here : BlockEnds own (drop at s) end
+    block_here = rw (e, rest at s) at b
 
-    left_here : (b.is_twice || is_twice_in (own_in own (drop (at + b.end) s))) ≡ is_twice_in (own_in own s)
-    left_here = ap (λ (t : List ℕ). b.is_twice || is_twice_in (own_in own t)) (sym past-block) ∙ (block_here.left ∙ n.left)
+    past-block : drop end (drop at s) ≡ drop (at + end) s
+    past-block = drop-drop end at s
 
-    pub blocks_more : at < length s → 0 < b.end
+    pub blocks_more : at < length s → 0 < end
     blocks_more g = block_here.more (omega (arith, length-drop at s))
 
-    pub blocks_within : at + b.end ≤ length s
+    pub blocks_within : at + end ≤ length s
     blocks_within = omega (arith, block_here.within, length-drop at s, n.reads.within)
 
-    pub blocks_twice : b.is_twice ≡ true → true ≡ is_twice_in (own_in own s)
-    blocks_twice t = sym (or_first _ _ t) ∙ left_here
-
-    pub blocks_next : b.is_twice ≡ false → Blocks own s (at + b.end)
-    blocks_next t = record {
+    pub blocks_next : Blocks own s (at + end)
+    blocks_next = record {
       reads = record { within = blocks_within; left = ap (λ (k : List ℕ). is_some (read_list k)) (sym past-block) ∙ block_here.reads };
-      left = sym (or_rest _ _ t) ∙ left_here;
+      left = ap (λ (k : List ℕ). is_twice_in (own_in own k)) (sym past-block) ∙ (block_here.left ∙ n.left);
     }

@@ -1,6 +1,7 @@
 -- Laws of ids, of the rows of a map that have them, and of versions.
-use Rattle.std.specs.Prelude.{Option, None, Some, is_some}
-use Prim.Native.Nat.{ℕ, zero, suc, ◌-◌, ◌≤◌, ◌<◌}
+use Rattle.std.specs.Prelude.{None, Some}
+use Rattle.std.specs.Bool.{then_some}
+use Prim.Native.Nat.{ℕ, zero, suc, ◌≤◌, ◌<◌}
 use native.Mathlib.Omega.{arith}
 use native.Mathlib.Decide.{dec_lt}
 use mathlib.Core.Path.{◌≡◌, refl, ap, sym, ◌∙◌}
@@ -8,17 +9,16 @@ use mathlib.Core.Bool.{Bool, true, false, not, ◌&&◌, ◌||◌, or-true}
 use mathlib.Core.List.{List, [], ◌∷◌}
 use lib.ListN.{length, get_or}
 use lib.Dec.{eqb}
+use borrow.Author.Tests.{eqb-true, eqb-false}
 use Rattle.base.specs.Base.{pick}
-use Rattle.base.proofs.Bool.{never, clash, last-false}
-use Rattle.base.proofs.Option.{some-none, none-some}
-use Rattle.map.specs.Rows.{Pair, peers_of, pairs_of, rising, find, peers, digests}
-use Rattle.map.proofs.Laws.{peers-pairs_of, peers-length, peers-at, digests-at, rising-less, find-some, find_none, find-rising}
-use Rattle.point.specs.Point.{PointId, PointInfo, prev_digest, same_id}
-use Rattle.point.proofs.Laws.{MapOf, Readable}
+use Rattle.base.proofs.Bool.{never, clash}
+use Rattle.map.specs.Rows.{Pair, rising, find, peers, digests}
+use Rattle.map.proofs.Laws.{peers-length, peers-at, digests-at, rising-less, find-some, find_none, find-rising}
+use Rattle.point.specs.Point.{PointId, PointInfo, same_id}
+use Rattle.point.proofs.Laws.{Readable}
 use Rattle.point.proofs.Ids.{same_fields, fields_same}
-use Rattle.rules.specs.DagPoint.{is_by}
-use Rattle.rules.specs.Mismatch.{has_id, pair_id, is_among, is_version}
-use Rattle.judge_mismatch.specs.Code.{round_in, pairs_in, map_in, maps_in, no_pair, IsRow}
+use Rattle.rules.specs.Mismatch.{has_id, pair_id, is_among}
+use Rattle.judge_mismatch.specs.Code.{round_in, pairs_in, maps_in, no_pair, IsRow}
 
 -- whether an id is a dependency of the first maps
 unfoldable pub among_to : ℕ → PointInfo → PointId → Bool
@@ -104,14 +104,11 @@ module _ (round : ℕ) (l : List Pair) (i : PointId) where
         d (ap (λ (j : ℕ). get_or (digests l) j 0) (sym same)
         ∙ (digests-at l k no_pair h ∙ (same_fields (pair_id round (get_or l k no_pair)) i t).1))))
 
-pub row_some : (round : ℕ) (l : List Pair) (i : PointId) (o : Option ℕ) (k : ℕ) → o ≡ Some k → IsRow round l i o →
-    (k < length l) × (same_id (pair_id round (get_or l k no_pair)) i ≡ true)
-row_some round l i None k e h = none-some e
-row_some round l i (Some n) k e h = let same : n ≡ k = cc in rw same at h
-
-pub row_none : (round : ℕ) (l : List Pair) (i : PointId) (o : Option ℕ) → o ≡ None → IsRow round l i o → is_among round l i ≡ false
-row_none round l i None e h = h
-row_none round l i (Some n) e h = some-none e
+-- one whose author has a row has that row, or none
+pub row_is : (round : ℕ) (l : List Pair) (i : PointId) (n : ℕ) (b : Bool) → find (peers l) i.author ≡ Some n → i.round ≡ round → rising (peers l) ≡ true →
+    b ≡ eqb (get_or (digests l) n 0) i.digest → IsRow round l i (then_some b n)
+row_is round l i n true e r g d = (row_inside round l i n e, row_here round l i n e r (eqb-true _ _ (sym d)))
+row_is round l i n false e r g d = row_other round l i n e g (eqb-false _ _ (sym d))
 
 -- in a rising map an id has one row
 pub row_once : (round : ℕ) (l : List Pair) (i : PointId) (j k : ℕ) → rising (peers l) ≡ true → j < length l → k < length l → (j ≡ k → ⊥) →
@@ -135,24 +132,16 @@ pub record Maps (p : PointInfo) : Type 0 where
   pub few : (m : ℕ) → length (pairs_in p m) ≤ 255
   pub rise : (m : ℕ) → rising (peers (pairs_in p m)) ≡ true
 
-pub map_at : (s : List ℕ) (p : PointInfo) → Readable s p → (m : ℕ) → MapOf (map_in s m) (pairs_in p m)
-map_at s p r zero = r.includes
-map_at s p r (suc m) = r.witness
-
 pub maps_of : (s : List ℕ) (p : PointInfo) → Readable s p → Maps p
-maps_of s p r = record { few = λ m. (map_at s p r m).few; rise = λ m. (map_at s p r m).rise }
+maps_of s p r = record { few = few; rise = rise }
+  where
+    few : (m : ℕ) → length (pairs_in p m) ≤ 255
+    few zero = r.includes.few
+    few (suc m) = r.witness.few
 
-pub map_same : (s t : List ℕ) (l : List Pair) → s ≡ t → MapOf t l → MapOf s l
-map_same s t l e m = rw e m
-
-pub rows-count : (s t : List ℕ) (l : List Pair) → s ≡ t → MapOf t l → length (peers_of 64 s) ≡ length l
-rows-count s t l e m =
-    let n = map_same s t l e m in
-    ap length (sym (peers-pairs_of s)) ∙ (peers-length (pairs_of s) ∙ ap length (sym n.are))
-
-pub later : (m : ℕ) → (m ≡ 0 → ⊥) → (k : ℕ) × (m ≡ suc k)
-later zero d = absurd (d refl)
-later (suc m) d = (m, refl)
+    rise : (m : ℕ) → rising (peers (pairs_in p m)) ≡ true
+    rise zero = r.includes.rise
+    rise (suc m) = r.witness.rise
 
 pub maps_few : (presence : ℕ) → maps_in presence ≤ 2
 maps_few presence = few (eqb presence 3)
@@ -161,13 +150,4 @@ maps_few presence = few (eqb presence 3)
     few true = omega arith
     few false = omega arith
 
--- ---- versions
-
-module _ (p : PointInfo) (i : PointId) where
-  pub version-other : is_by (p.id.round - 1) p.id.author i ≡ false → is_version p i ≡ false
-  unfolding is_version
-  version-other h = last-false (not (is_some (prev_digest p))) _ h
-
-  pub version-is : is_by (p.id.round - 1) p.id.author i ≡ true → prev_digest p ≡ None → is_version p i ≡ true
-  unfolding is_version
-  version-is b h = ap (λ (o : Option ℕ). not (is_some o) && is_by (p.id.round - 1) p.id.author i) h ∙ b
+pub ruleset row_facts = (row_round, row_nowhere, row_inside, row_here, row_other)

@@ -1,36 +1,39 @@
 -- What the code's values stand for, and what its functions promise each other.
-use Rattle.std.specs.Prelude.{ℕ, ◌+◌, zero, suc, ◌-◌, ◌*◌, ◌≤◌, ◌<◌, Bool, true, false, not, ◌&&◌, ◌||◌, List, [], ◌∷◌, ◌++◌, get_or, drop, length, eqb, ◌≡◌, Option, None, Some, is_some}
+use Rattle.std.specs.Prelude.{ℕ, ◌+◌, zero, suc, ◌-◌, ◌≤◌, ◌<◌, Bool, true, false, not, ◌&&◌, ◌||◌, List, [], ◌∷◌, ◌++◌, get_or, take, drop, length, filter, eqb, ◌≡◌, Option, None, Some, is_some, option_map}
 use Rattle.base.specs.Base.{pick}
 use Rattle.parts.specs.Limits.{most_kept}
-use Rattle.record.specs.Record.{record_end, content_of}
+use Rattle.record.specs.Record.{record_end}
 use Rattle.point.specs.Point.{PointId, no_point, AnchorLink, Direct, Indirect, PointInfo, prev_digest, same_id}
 use Rattle.point.specs.Reading.{point_id_at}
 use Rattle.point.specs.Code.{point_id_of}
 use Rattle.point.specs.declared.data.AnchorStageRole.{AnchorStageRole}
-use Rattle.rules.specs.DagPoint.{entry_id, is_dropped, is_by, Entry}
-use Rattle.rules.specs.List.{Listed, role_of, read_entry, read_list, directs, indirects}
+use Rattle.rules.specs.DagPoint.{DagPoint, entry_id, is_dropped, is_by, Entry}
+use Rattle.rules.specs.List.{Listed, role_of, read_entry, read_list, directs}
 use Rattle.judge_mismatch.specs.declared.head.Head as code-head
 use Rattle.judge_mismatch.specs.declared.versions.Version as code-version
-use Rattle.judge_mismatch.specs.declared.versions.Block as code-block
+use Rattle.id_index.specs.declared.Index.{Index}
 use Rattle.id_index.specs.Code.{count_of, id_in, Noted}
 use Rattle.map.specs.Rows.{Pair}
-use Rattle.rules.specs.Mismatch.{has_id, pair_id, is_among, is_version, all_placed, ids_of, dropped_in}
+use Rattle.rules.specs.Mismatch.{has_id, pair_id, is_among, is_version, ids_of}
 
+-- an entry without its point; a dropped one has no id
 pub record Head : Type 0 where
   pub aim : Option AnchorStageRole
-  pub dropped : Bool
-  pub id : PointId
+  pub id : Option PointId
   pub size : ℕ
 
+abbrev pub id_of : DagPoint → Option PointId
+id_of d = pick (is_dropped d) None (Some (entry_id d))
+
 abbrev pub head_of : Listed → Head
-head_of x = record { aim = x.aim; dropped = is_dropped x.entry.state; id = entry_id x.entry.state; size = x.size }
+head_of x = record { aim = x.aim; id = id_of x.entry.state; size = x.size }
 
 abbrev pub head_from : Option Listed → Option Head
 head_from None = None
 head_from (Some x) = Some (head_of x)
 
 abbrev pub code_head_of : code-head.Head → Head
-code_head_of x = record { aim = x.aim; dropped = x.is_dropped; id = point_id_of x.id; size = x.size }
+code_head_of x = record { aim = x.aim; id = option_map point_id_of x.id; size = x.size }
 
 -- ---- where an entry's parts stand
 
@@ -46,8 +49,8 @@ abbrev pub id_place : ℕ → ℕ
 id_place state = pick (eqb state 1) 75 3
 
 -- the id that stands after the flags, which end at a place
-unfoldable pub id_after : ℕ → ℕ → List ℕ → PointId
-id_after state at s = pick (eqb state 5) no_point (point_id_at s (at + id_place state))
+unfoldable pub id_after : ℕ → ℕ → List ℕ → Option PointId
+id_after state at s = pick (eqb state 5) None (Some (point_id_at s (at + id_place state)))
 
 abbrev pub placed_at : ℕ → Option ℕ → Option ℕ
 placed_at at None = None
@@ -85,10 +88,6 @@ abbrev pub pairs_in : PointInfo → ℕ → List Pair
 pairs_in p zero = p.includes
 pairs_in p (suc m) = p.witness
 
-abbrev pub map_in : List ℕ → ℕ → List ℕ
-map_in s zero = content_of s 2
-map_in s (suc m) = content_of s 3
-
 -- how many maps have their round in the DAG
 abbrev pub maps_in : ℕ → ℕ
 maps_in presence = pick (eqb presence 3) 2 1
@@ -103,9 +102,14 @@ IsRow round l i (Some k) = (k < length l) × (same_id (pair_id round (get_or l k
 
 -- ---- the versions of the author's point at the round before
 
+-- the id of an entry, if it is of the author at the round before
+abbrev pub is_own_id : PointId → Option PointId → Bool
+is_own_id own None = false
+is_own_id own (Some i) = is_by (own.round - 1) own.author i
+
 -- a direct entry that has an id, of the author at the round before
 unfoldable pub is_own : PointId → Head → Bool
-is_own own h = not (is_some h.aim) && (not h.dropped && is_by (own.round - 1) own.author h.id)
+is_own own h = not (is_some h.aim) && is_own_id own h.id
 
 -- the ids of these, in order
 unfoldable pub own_ids : PointId → List Entry → List PointId
@@ -141,28 +145,26 @@ is_new_version p es i = is_version p i && not (has_id (ids_of es) i)
 abbrev pub field_at : List ℕ → ℕ
 field_at s = pick (eqb (get_or s (flags_at s + 3) 0) 1) (flags_at s + 79) (flags_at s + 7)
 
--- an entry: whether it is a version, where its id's field stands, and its size
-pub record IsVersionAt (own : PointId) (s : List ℕ) (h : Head) (v : code-version.Version) : Type 0 where
-  pub size : v.size ≡ h.size
-  pub told : v.is_own ≡ is_own own h
-  pub near : v.place ≤ 83
-  pub inside : v.is_own ≡ true → v.place + 71 ≤ length s
-  pub id : v.is_own ≡ true → point_id_at s (v.place + 3) ≡ h.id
+-- where the field of an entry's id stands, if it is a version
+abbrev pub IsPlace : PointId → List ℕ → Head → Option ℕ → Type 0
+IsPlace own s h None = is_own own h ≡ false
+IsPlace own s h (Some place) = (is_own own h ≡ true) × (place ≤ 83) × (place + 71 ≤ length s) × (Some (point_id_at s (place + 3)) ≡ h.id)
 
+-- an entry: where its id's field stands if it is a version, and its size
 abbrev pub VersionAt : PointId → List ℕ → code-version.Version → Type 0
-VersionAt own s v = (h : Head) × (Some h ≡ head_from (read_entry s)) × IsVersionAt own s h v
+VersionAt own s v = (h : Head) × (Some h ≡ head_from (read_entry s)) × (v.size ≡ h.size) × IsPlace own s h v.place
 
 abbrev pub HasRoom : ℕ → ℕ → Bool → Type 0
 HasRoom n at true = (n < most_kept) × (at < 4000000000)
 HasRoom n at false = n < most_kept → at < 4000000000 → ⊥
 
 -- the index has these ids, in order
-pub record HasIds (s x : List ℕ) (l : List PointId) : Type 0 where
+pub record HasIds (s : List ℕ) (x : Index) (l : List PointId) : Type 0 where
   pub count : count_of x ≡ length l
   pub ids : (j : ℕ) → j < length l → id_in s x j ≡ get_or l j no_point
 
 -- the versions up to a place are noted; what stands after it is left to test
-pub record NotedTo (own : PointId) (s x : List ℕ) (end : ℕ) : Type 0 where
+pub record NotedTo (own : PointId) (s : List ℕ) (x : Index) (end : ℕ) : Type 0 where
   pub block : List PointId
   pub has : HasIds s x block
   pub noted : Noted s x
@@ -172,52 +174,31 @@ pub record NotedTo (own : PointId) (s x : List ℕ) (end : ℕ) : Type 0 where
   pub more : 0 < length s → 0 < end
 
 -- whether a version that stands after a place is among the ids of an index
-abbrev pub Meets : PointId → List ℕ → ℕ → List ℕ → Bool → Type 0
+abbrev pub Meets : PointId → List ℕ → ℕ → Index → Bool → Type 0
 Meets own s from x r = (block : List PointId) → HasIds s x block → r ≡ any_in block (own_in own (drop from s))
 
--- a block of versions was tested, among themselves and with all after it; what stands after it is left to test among itself
-pub record BlockRead (own : PointId) (s : List ℕ) (b : code-block.Block) : Type 0 where
-  pub within : b.end ≤ length s
-  pub more : 0 < length s → 0 < b.end
-  pub reads : is_some (read_list (drop b.end s)) ≡ true
-  pub left : (b.is_twice || is_twice_in (own_in own (drop b.end s))) ≡ is_twice_in (own_in own s)
-
--- ---- the room of marks
-
--- the rows of a map that these ids stand for are marked by 1, the others by 0
-abbrev pub Marked : PointInfo → ℕ → List PointId → List ℕ → Type 0
-Marked p m ids seen =
-    (i : ℕ) → i < length (pairs_in p m) → get_or seen (255 * m + i) 0 ≡ pick (has_id ids (pair_id (round_in p m) (get_or (pairs_in p m) i no_pair))) 1 0
-
--- how many of n marks are 0, the first at a place
-unfoldable pub zeros_in : ℕ → ℕ → List ℕ → ℕ
-zeros_in zero at seen = zero
-zeros_in (suc n) at seen = pick (eqb (get_or seen at 0) 0) (suc (zeros_in n (suc at) seen)) (zeros_in n (suc at) seen)
-
--- what the marks say lacks
-unfoldable pub zeros : ℕ → PointInfo → List ℕ → ℕ
-zeros presence p seen =
-    zeros_in (length p.includes) 0 seen + pick (eqb presence 3) (zeros_in (length p.witness) 255 seen) zero
-
--- ---- what the walk over the direct entries finds
-
--- every entry has its place: then the walk counted the dropped ones, marked the rows and ended where the indirect entries begin
-pub record AllPlaced (presence : ℕ) (p : PointInfo) (s seen : List ℕ) (dropped end : ℕ) : Type 0 where
-  pub placed : all_placed presence p [] (directs (listed s)) ≡ true
-  pub count : dropped ≡ dropped_in (directs (listed s))
-  pub marks : (m : ℕ) → m < maps_in presence → Marked p m (ids_of (directs (listed s))) seen
+-- a block of versions was tested, among themselves and with all after it: one stands twice, or what stands after the block is left
+-- to test among itself
+pub record BlockEnds (own : PointId) (s : List ℕ) (end : ℕ) : Type 0 where
   pub within : end ≤ length s
-  pub left : is_some (read_list (drop end s)) ≡ true
-  pub after : directs (listed (drop end s)) ≡ []
-  pub targets : indirects (listed (drop end s)) ≡ indirects (listed s)
+  pub more : 0 < length s → 0 < end
+  pub reads : is_some (read_list (drop end s)) ≡ true
+  pub left : is_twice_in (own_in own (drop end s)) ≡ is_twice_in (own_in own s)
 
-abbrev pub DirectsFound : ℕ → PointInfo → List ℕ → List ℕ → Bool → ℕ → ℕ → Type 0
-DirectsFound presence p s seen true dropped end = all_placed presence p [] (directs (listed s)) ≡ false
-DirectsFound presence p s seen false dropped end = AllPlaced presence p s seen dropped end
+abbrev pub BlockRead : PointId → List ℕ → Option ℕ → Type 0
+BlockRead own s None = is_twice_in (own_in own s) ≡ true
+BlockRead own s (Some end) = BlockEnds own s end
+
+-- ---- the marks
+
+-- how many of the first marks are not set
+abbrev pub unmarked : ℕ → List Bool → ℕ
+unmarked n seen = length (filter not (take n seen))
 
 -- ---- the indirect entries
 
 -- `is_target_of` of an entry without its point
-abbrev pub is_target_with : AnchorLink → Bool → PointId → Bool
-is_target_with (Direct t) dropped i = false
-is_target_with (Indirect to t) dropped i = dropped || same_id i to
+abbrev pub is_target_with : AnchorLink → Option PointId → Bool
+is_target_with (Direct t) i = false
+is_target_with (Indirect to t) None = true
+is_target_with (Indirect to t) (Some i) = same_id i to

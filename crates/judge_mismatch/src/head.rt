@@ -1,17 +1,16 @@
 // An entry of a list that can be read, without its point.
-ghost use Rattle.std.specs.Prelude.{◌≡◌, true, ◌+◌, ◌≤◌, ◌<◌, length, Some, is_some};
+ghost use Rattle.std.specs.Prelude.{◌≡◌, true, ◌+◌, ◌≤◌, ◌<◌, length, Some, is_some, option_map};
 ghost use Rattle.point.specs.Code.{point_id_of};
 ghost use Rattle.rules.specs.List.{read_entry};
 ghost use Rattle.judge_mismatch.specs.Code.{head_from, code_head_of, flags_at, aim_at, id_place, id_after, end_in, entry_end};
 
 use point::{AnchorStageRole, PointId};
 
-// An entry without its point.
+// An entry without its point: what it is for, its id, which a dropped one has not, and its size.
 #[derive(Clone, Copy)]
 pub struct Head {
     pub aim: Option<AnchorStageRole>,
-    pub is_dropped: bool,
-    pub id: PointId,
+    pub id: Option<PointId>,
     pub size: usize,
 }
 
@@ -23,35 +22,35 @@ pub fn flags_at(s: &[u8]) -> usize
     if s[0] == 19 { 4 } else { 0 }
 }
 
-// What an entry that can be read is for.
+// What an entry that can be read is for: the tag and the role are bytes of the format, and are read here.
 fn aim(s: &[u8]) -> Option<AnchorStageRole>
     requires { 3 < length s.now }
     ensures { result ≡ aim_at s.now }
 {
-    if s[0] != 19 {
-        return None;
+    match (s[0], s[3]) {
+        (19, 0) => Some(AnchorStageRole::Proof),
+        (19, _) => Some(AnchorStageRole::Trigger),
+        _ => None,
     }
-    if s[3] == 0 {
-        return Some(AnchorStageRole::Proof);
-    }
-    Some(AnchorStageRole::Trigger)
 }
 
 // The id that stands after an entry's flags, which end at a place.
-fn id_after(s: &[u8], state: u8, at: usize) -> PointId
+#[tactic(auto, using(std::proofs::lemmas::Bool::Decides::nat_tests), unfolding(crate::specs::Code::id_after))]
+fn id_after(s: &[u8], state: u8, at: usize) -> Option<PointId>
     requires { (state ≡ 5 → ⊥) → at + id_place state + 68 ≤ length s.now }
-    ensures { point_id_of result ≡ id_after state at s.now }
+    ensures { option_map point_id_of result ≡ id_after state at s.now }
 {
     if state == 5 {
-        return point::NO_POINT;
+        return None;
     }
     if state == 1 {
-        return point::point_id_at(s, at + 75);
+        return Some(point::point_id_at(s, at + 75));
     }
-    point::point_id_at(s, at + 3)
+    Some(point::point_id_at(s, at + 3))
 }
 
 // Where an entry's record ends, which starts at a place: reading the entry has tested it.
+#[tactic(auto, using(crate::proofs::Heads::end_facts))]
 fn end_of_record(s: &[u8], at: usize) -> usize
     requires { is_some (end_in at s.now) ≡ true }
     ensures { end_in at s.now ≡ Some result }
@@ -59,7 +58,8 @@ fn end_of_record(s: &[u8], at: usize) -> usize
     at + record::known_end(&s[at..])
 }
 
-// Where an entry ends, whose flags end at a place.
+// Where an entry ends, whose flags end at a place. The state is a byte of the format, and is read here.
+#[tactic(auto, using(std::proofs::lemmas::Bool::Decides::nat_tests), unfolding(crate::specs::Code::entry_end))]
 fn entry_end(s: &[u8], state: u8, at: usize) -> usize
     requires at_in_bounds { at ≤ length s.now }
     requires s_value { is_some (entry_end state at s.now) ≡ true }
@@ -67,14 +67,14 @@ fn entry_end(s: &[u8], state: u8, at: usize) -> usize
 {
     match state {
         5 => at,
-        3 => at + 71,
-        4 => at + 71,
+        3 | 4 => at + 71,
         1 => end_of_record(s, at + 72),
         _ => end_of_record(s, at),
     }
 }
 
 // An entry that can be read, without its point: no map of its record is read again.
+#[tactic(auto, using(crate::proofs::Heads::head_facts))]
 pub fn head_of(s: &[u8]) -> Head
     requires { is_some (read_entry s.now) ≡ true }
     ensures { Some (code_head_of result) ≡ head_from (read_entry s.now) }
@@ -84,7 +84,6 @@ pub fn head_of(s: &[u8]) -> Head
     let at = flags + 7;
     Head {
         aim: aim(s),
-        is_dropped: state == 5,
         id: id_after(s, state, at),
         size: entry_end(s, state, at),
     }

@@ -1,90 +1,74 @@
-// The point's maps by their numbers, 0 the includes and 1 the witness, and which of their rows lack.
-ghost use Rattle.std.specs.Prelude.{◌≡◌, List, ℕ, ◌+◌, ◌≤◌, length};
-ghost use Rattle.point.specs.Code.{point_id_of, point_of, Reads};
+// The point's maps whose rounds are in the DAG, and which of their rows lack.
+ghost use Rattle.std.specs.Prelude.{◌≡◌, true, false, ◌≤◌, length, replicate};
+ghost use Rattle.map.specs.Rows.{peers_of, pairs_of, rising};
+ghost use Rattle.point.specs.Code.{point_id_of};
+ghost use Rattle.point.specs.Said.{said};
 ghost use Rattle.rules.specs.Mismatch.{is_version};
-ghost use Rattle.judge_mismatch.specs.Code.{round_in, pairs_in, map_in, maps_in, IsRow, zeros_in, zeros};
+ghost use Rattle.judge_mismatch.specs.Code.{maps_in, IsRow, unmarked};
 
-use point::{PointId, PointInfo};
+use point::{Point, PointId};
 
-// The rows of a map that an entry stood for are marked in one half of a room of twice as many bytes.
-pub const HALF: usize = 255;
+// The most rows of a map.
+const MOST: usize = 255;
 
+// A map of the point: the round of its points, its rows, and which of these an entry stood for.
+#[derive(Clone, Copy)]
+pub struct MarkedMap<'a> {
+    pub round: u32,
+    pub rows: &'a [u8],
+    pub seen: [bool; MOST],
+    pub ghost rises: { rising (peers_of 64 rows.now) ≡ true },
+    pub ghost few: { length (peers_of 64 rows.now) ≤ 255 },
+}
+
+impl<'a> MarkedMap<'a> {
+    pub fn new(round: u32, rows: &'a [u8]) -> Self
+        requires rises { rising (peers_of 64 rows.now) ≡ true }
+        requires few { length (peers_of 64 rows.now) ≤ 255 }
+        ensures round { result.round ≡ round }
+        ensures rows { result.rows.now ≡ rows.now }
+        ensures seen { result.seen ≡ replicate 255 false }
+    {
+        MarkedMap {
+            round,
+            rows,
+            seen: [false; MOST],
+        }
+    }
+
+    // The row that has this id.
+    #[tactic(auto, using(point::proofs::Maps::map_facts, crate::proofs::Rows::row_facts))]
+    pub fn row_of(&self, id: PointId) -> Option<usize>
+        ensures { IsRow self.now.round (pairs_of self.now.rows.now) (point_id_of id) result }
+    {
+        if id.round != self.round {
+            return None;
+        }
+        let i = map::search(self.rows, 64, id.author)? as usize;
+        parts::same(map::digest_at(self.rows, i), id.digest).then_some(i)
+    }
+
+    // How many rows no entry stood for.
+    pub fn lacking(&self) -> usize
+        ensures same { result ≡ unmarked (length (peers_of 64 self.now.rows.now)) self.now.seen }
+        ensures few { result ≤ 255 }
+    {
+        let seen = &self.seen[..map::count(self.rows, 64)];
+        seen.iter().filter(|seen| !**seen).count()
+    }
+}
+
+// How many of the point's maps have their round in the DAG: with presence 2 the includes alone.
 pub fn maps_in_dag(presence: u8) -> usize
     ensures { result ≡ maps_in presence }
 {
     if presence == 3 { 2 } else { 1 }
 }
 
-// The round of the points of a map: includes are at r-1, witness at r-2.
-fn round_of(info: PointInfo, m: usize) -> u32
-    ensures { (s : List ℕ) → result ≡ round_in (point_of s info) m }
-{
-    if m == 0 {
-        return parts::rounds_back(info.id.round, 1);
-    }
-    parts::rounds_back(info.id.round, 2)
-}
-
-// The includes, or the witness.
-fn map_of(rec: &[u8], info: PointInfo, m: usize) -> &[u8]
-    requires { Reads rec.now info }
-    ensures { result.now ≡ map_in rec.now m }
-{
-    if m == 0 {
-        return point::includes(rec, info);
-    }
-    point::witness(rec, info)
-}
-
-// The row of a map that has this id.
-pub fn row_of(rec: &[u8], info: PointInfo, m: usize, id: PointId) -> Option<u16>
-    requires { Reads rec.now info }
-    ensures { IsRow (round_in (point_of rec.now info) m) (pairs_in (point_of rec.now info) m) (point_id_of id) result }
-{
-    if id.round != round_of(info, m) {
-        return None;
-    }
-    let map = map_of(rec, info, m);
-    let i = map::search(map, 64, id.author)?;
-    if parts::same(map::digest_at(map, i as usize), id.digest) {
-        return Some(i);
-    }
-    None
-}
-
 // Whether an id is a version of the author's point at the round before, of which the point references none.
 #[tactic(auto, unfolding(rules::specs::Mismatch::is_version))]
-pub fn is_version(rec: &[u8], info: PointInfo, id: PointId) -> bool
-    requires { Reads rec.now info }
-    ensures { result ≡ is_version (point_of rec.now info) (point_id_of id) }
+pub fn is_version(point: &Point, id: PointId) -> bool
+    ensures { result ≡ is_version (said point.now) (point_id_of id) }
 {
-    judge_entries::is_own_before(info.id, id) && point::prev_digest(rec, info).is_none()
-}
-
-// How many of n marks are 0, the first at a place.
-fn count_lacking(seen: &[u8], from: usize, n: usize) -> usize
-    requires { from + n ≤ length seen.now }
-    ensures { result ≡ zeros_in n from seen.now }
-{
-    let mut lacking = 0;
-    for i in 0..n {
-        if seen[from + i] != 0 {
-            continue;
-        }
-        lacking += 1;
-    }
-    lacking
-}
-
-// How many rows of the maps no entry stood for; with presence 2 only includes can lack.
-pub fn lacking(presence: u8, rec: &[u8], info: PointInfo, seen: &[u8]) -> usize
-    requires reads { Reads rec.now info }
-    requires seen_len { length seen.now ≡ 510 }
-    ensures { result ≡ zeros presence (point_of rec.now info) seen.now }
-{
-    let includes = count_lacking(seen, 0, map::count(point::includes(rec, info), 64));
-    if presence == 3 {
-        return includes + count_lacking(seen, HALF, map::count(point::witness(rec, info), 64));
-    }
-    includes
+    judge_entries::is_own_before(point.info.id, id) && point.prev_digest().is_none()
 }

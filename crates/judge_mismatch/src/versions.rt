@@ -1,36 +1,31 @@
 // Whether a version of the author's point at the round before stands twice among the direct entries of a list. Versions have no
 // row to mark, so they are looked up in an index of their ids, block by block: those of a block among themselves, then all that
 // stand after it.
-ghost use Rattle.std.specs.Prelude.{◌≡◌, true, ◌≤◌, length, drop, replicate, is_some};
-ghost use Rattle.id_index.specs.Code.{count_of, Index};
-ghost use Rattle.point.specs.Code.{point_id_of, point_of, Reads};
+ghost use Rattle.std.specs.Prelude.{◌≡◌, true, ◌≤◌, length, drop, is_some};
+ghost use Rattle.id_index.specs.Code.{count_of, IsEmpty, IsIndex};
+ghost use Rattle.point.specs.Code.{point_id_of};
+ghost use Rattle.point.specs.Said.{said};
 ghost use Rattle.rules.specs.List.{read_entry, read_list, directs};
 ghost use Rattle.judge_mismatch.specs.Code.{code_head_of, listed, field_at, is_own, VersionAt, HasRoom, NotedTo, Meets, BlockRead};
 ghost use Rattle.judge_mismatch.specs.Code.{own_in, is_twice_in, is_version_twice};
 
 use crate::head;
 use crate::head::Head;
-use point::{PointId, PointInfo};
+use id_index::Index;
+use point::{Point, PointId};
 
 // A block ends before its places pass what an index holds.
 const FARTHEST: usize = 4000000000;
 
-// An entry: whether it is a version, where the field of its id stands, and its size.
+// An entry: where the field of its id stands if it is a version, and its size.
 #[derive(Clone, Copy)]
 struct Version {
-    is_own: bool,
-    place: usize,
+    place: Option<usize>,
     size: usize,
 }
 
-// What a block of versions gives: whether one of them stands twice, and where it ends.
-#[derive(Clone, Copy)]
-struct Block {
-    is_twice: bool,
-    end: usize,
-}
-
 // Where the field of an entry's id stands: in state 1 after the root cause.
+#[tactic(auto, using(crate::proofs::Heads::head_facts))]
 fn id_field(s: &[u8]) -> usize
     requires { is_some (read_entry s.now) ≡ true }
     ensures { result ≡ field_at s.now }
@@ -46,7 +41,10 @@ fn id_field(s: &[u8]) -> usize
 fn is_own(own: PointId, head: Head) -> bool
     ensures { result ≡ is_own (point_id_of own) (code_head_of head) }
 {
-    head.aim.is_none() && !head.is_dropped && judge_entries::is_own_before(own, head.id)
+    head.aim.is_none()
+        && head
+            .id
+            .is_some_and(|id| judge_entries::is_own_before(own, id))
 }
 
 // The entry at the front of a list.
@@ -56,80 +54,70 @@ fn version_at(own: PointId, s: &[u8]) -> Version
 {
     let head = head::head_of(s);
     Version {
-        is_own: is_own(own, head),
-        place: id_field(s),
+        place: is_own(own, head).then_some(id_field(s)),
         size: head.size,
     }
 }
 
-fn has_room(index: &[u16], at: usize) -> bool
-    requires { length index.now ≡ 16386 }
+fn has_room(index: &Index, at: usize) -> bool
     ensures { HasRoom (count_of index.now) at result }
 {
-    at < FARTHEST && id_index::count(index) < parts::MOST_KEPT
+    at < FARTHEST && index.count() < parts::MOST_KEPT
 }
 
 // Notes the versions of a list, up to the first for which there is no room, and says where they end.
-fn note(own: PointId, list: &[u8], index: &mut [u16]) -> usize
+fn note(own: PointId, list: &[u8], index: &mut Index) -> usize
     requires list_value { is_some (read_list list.now) ≡ true }
-    requires index_value { index.old ≡ replicate 16386 0 }
+    requires index_value { IsEmpty index.old }
     ensures { NotedTo (point_id_of own) list.now index.new result }
 {
     let mut at = 0;
+    // By hand: where an entry ends says where the next begins.
     while at < list.len() {
         let v = version_at(own, &list[at..]);
-        if v.is_own {
+        if let Some(place) = v.place {
             if !has_room(index, at) {
                 return at;
             }
-            id_index::add(index, at + v.place);
-            at += v.size;
-        } else {
-            at += v.size;
+            index.add(at + place);
         }
+        at += v.size;
     }
     at
 }
 
 // Whether a version that stands after a place is in the index.
-fn meets(own: PointId, list: &[u8], from: usize, index: &[u16]) -> bool
+fn meets(own: PointId, list: &[u8], from: usize, index: &Index) -> bool
     requires from_in_bounds { (from ≤ length list.now) × (is_some (read_list (drop from list.now)) ≡ true) }
-    requires index { Index list.now index.now }
+    requires index { IsIndex list.now index.now }
     ensures { Meets (point_id_of own) list.now from index.now result }
 {
     let mut at = from;
+    // By hand, as in `note`.
     while at < list.len() {
         let v = version_at(own, &list[at..]);
-        if v.is_own {
-            let id = point::point_id_at(list, at + v.place + 3);
-            if id_index::find(list, index, id).is_some() {
+        if let Some(place) = v.place {
+            let id = point::point_id_at(list, at + place + 3);
+            if index.find(list, id).is_some() {
                 return true;
             }
-            at += v.size;
-        } else {
-            at += v.size;
         }
+        at += v.size;
     }
     false
 }
 
-// Tests the first block of a list.
-fn read_block(own: PointId, list: &[u8]) -> Block
+// Where the first block of a list ends, if no version of it stands twice.
+fn read_block(own: PointId, list: &[u8]) -> Option<usize>
     requires { is_some (read_list list.now) ≡ true }
     ensures { BlockRead (point_id_of own) list.now result }
 {
-    let mut index = [0u16; id_index::LENGTH];
+    let mut index = Index::new();
     let end = note(own, list, &mut index);
-    if !id_index::build(list, &mut index) {
-        return Block {
-            is_twice: true,
-            end,
-        };
+    if !index.build(list) {
+        return None;
     }
-    Block {
-        is_twice: meets(own, list, end, &index),
-        end,
-    }
+    (!meets(own, list, end, &index)).then_some(end)
 }
 
 fn own_twice(own: PointId, list: &[u8]) -> bool
@@ -137,25 +125,21 @@ fn own_twice(own: PointId, list: &[u8]) -> bool
     ensures { result ≡ is_twice_in (own_in (point_id_of own) list.now) }
 {
     let mut at = 0;
+    // By hand: where a block ends says where the next begins.
     while at < list.len() {
-        let block = read_block(own, &list[at..]);
-        if block.is_twice {
+        let Some(end) = read_block(own, &list[at..]) else {
             return true;
-        }
-        at += block.end;
+        };
+        at += end;
     }
     false
 }
 
 // Whether a version stands twice, of which there are none where the point has a previous digest.
 #[tactic(auto, unfolding(crate::specs::Code::is_version_twice))]
-pub fn stand_twice(rec: &[u8], info: PointInfo, list: &[u8]) -> bool
-    requires reads { Reads rec.now info }
-    requires list_value { is_some (read_list list.now) ≡ true }
-    ensures { result ≡ is_version_twice (point_of rec.now info) (directs (listed list.now)) }
+pub fn stand_twice(point: &Point, list: &[u8]) -> bool
+    requires { is_some (read_list list.now) ≡ true }
+    ensures { result ≡ is_version_twice (said point.now) (directs (listed list.now)) }
 {
-    if point::prev_digest(rec, info).is_some() {
-        return false;
-    }
-    own_twice(info.id, list)
+    point.prev_digest().is_none() && own_twice(point.info.id, list)
 }

@@ -1,76 +1,90 @@
 // The walk over the direct entries, and number 8.
-ghost use Rattle.std.specs.Prelude.{◌≡◌, true, false, not, ◌&&◌, ◌||◌, List, ltb, eqb, length, replicate, Some, is_some};
-ghost use Rattle.point.specs.Code.{point_id_of, point_of, Reads};
+ghost use Rattle.std.specs.Prelude.{◌≡◌, ℕ, true, false, not, ◌&&◌, ◌||◌, List, [], ◌≤◌, ltb, eqb, length, Some, is_some};
+ghost use Rattle.point.specs.Code.{point_id_of};
+ghost use Rattle.point.specs.Said.{said};
 ghost use Rattle.rules.specs.List.{Listed, read_list, directs, indirects};
-ghost use Rattle.judge_mismatch.specs.Code.{listed, is_version_twice, DirectsFound};
+ghost use Rattle.judge_mismatch.specs.Code.{listed, is_version_twice, maps_in};
+ghost use Rattle.judge_mismatch.specs.Maps.{MapsMarked, DirectsFound, zeros};
 ghost use Rattle.rules.specs.Mismatch.{is_version, mismatch};
 
 use crate::head::head_of;
+use crate::maps::MarkedMap;
 use crate::{maps, targets, versions};
-use point::{PointId, PointInfo};
+use point::{Point, PointId};
 
-// What the walk over the direct entries finds: that one of them fails, or how many were dropped and where the walk ended.
+// What the walk over the direct entries finds where none of them fails: how many were dropped, and where it ended.
 #[derive(Clone, Copy)]
 struct Walked {
-    is_mismatch: bool,
     dropped: usize,
     end: usize,
 }
 
-// Whether an id has its place: a row of a map, or as a version.
-fn has_place(found: bool, rec: &[u8], info: PointInfo, id: PointId) -> bool
-    requires { Reads rec.now info }
-    ensures { result ≡ (found || is_version (point_of rec.now info) (point_id_of id)) }
+// The includes, at r-1, and the witness, at r-2: no row is marked.
+#[tactic(auto, using(point::proofs::Maps::map_facts))]
+fn maps_of<'a>(point: &Point<'a>) -> [MarkedMap<'a>; 2]
+    ensures { MapsMarked (said point.now) [] result }
 {
-    found || maps::is_version(rec, info, id)
+    let round = point.info.id.round;
+    [
+        MarkedMap::new(parts::rounds_back(round, 1), point.includes()),
+        MarkedMap::new(parts::rounds_back(round, 2), point.witness()),
+    ]
+}
+
+// How many rows of the maps no entry stood for.
+fn lacking(maps: &[MarkedMap]) -> usize
+    requires { length maps.now ≤ 2 }
+    ensures { result ≡ zeros maps.now }
+{
+    maps.iter().map(|map| map.lacking()).sum()
+}
+
+// Whether an id has its place: a row of a map, or as a version.
+fn has_place(found: bool, point: &Point, id: PointId) -> bool
+    ensures { result ≡ (found || is_version (said point.now) (point_id_of id)) }
+{
+    found || maps::is_version(point, id)
 }
 
 // Walks the direct entries, and for each the point's maps, up to the first mismatch. A row that an entry stands for is
 // marked, so that a second entry for it is seen. No version stands twice.
-fn walk(presence: u8, rec: &[u8], info: PointInfo, list: &[u8], seen: &mut [u8]) -> Walked
-    requires reads { Reads rec.now info }
-    requires list_value { (is_some (read_list list.now) ≡ true) × (is_version_twice (point_of rec.now info) (directs (listed list.now)) ≡ false) }
-    requires seen_value { seen.old ≡ replicate 510 0 }
-    ensures { DirectsFound presence (point_of rec.now info) list.now seen.new result.is_mismatch result.dropped result.end }
+fn walk(point: &Point, list: &[u8], maps: &mut [MarkedMap]) -> Option<Walked>
+    requires list_value { (is_some (read_list list.now) ≡ true) × (is_version_twice (said point.now) (directs (listed list.now)) ≡ false) }
+    requires maps_value { MapsMarked (said point.now) [] maps.old }
+    ensures { (presence : ℕ) → length maps.old ≡ maps_in presence → DirectsFound presence (said point.now) list.now maps.new result }
 {
-    let maps = maps::maps_in_dag(presence);
-    let mut is_mismatch = false;
     let mut dropped = 0;
     let mut at = 0;
-    'entries: while at < list.len() {
+    // By hand: where an entry ends says where the next begins. A `while` would give no value.
+    'entries: loop {
+        if list.len() <= at {
+            break 'entries Some(Walked { dropped, end: at });
+        }
         let head = head_of(&list[at..]);
         if head.aim.is_some() {
-            break 'entries;
+            break 'entries Some(Walked { dropped, end: at });
         }
         let next = at + head.size;
-        if head.is_dropped {
+        let Some(id) = head.id else {
             dropped += 1;
             at = next;
             continue 'entries;
-        }
+        };
         let mut found = false;
-        for m in 0..maps {
-            let Some(i) = maps::row_of(rec, info, m, head.id) else {
+        for map in maps.iter_mut() {
+            let Some(i) = map.row_of(id) else {
                 continue;
             };
-            let mark = maps::HALF * m + i as usize;
-            if seen[mark] != 0 {
-                is_mismatch = true;
-                break 'entries;
+            if map.seen[i] {
+                break 'entries None;
             }
-            seen[mark] = 1;
+            map.seen[i] = true;
             found = true;
         }
-        if !has_place(found, rec, info, head.id) {
-            is_mismatch = true;
-            break 'entries;
+        if !has_place(found, point, id) {
+            break 'entries None;
         }
         at = next;
-    }
-    Walked {
-        is_mismatch,
-        dropped,
-        end: at,
     }
 }
 
@@ -82,25 +96,20 @@ fn has_absent_targets(presence: u8, list: &[u8], end: usize) -> bool
 }
 
 // Number 8 of a list that reads.
-pub fn is_mismatch(presence: u8, rec: &[u8], info: PointInfo, list: &[u8]) -> bool
-    requires reads { Reads rec.now info }
-    requires list_value { is_some (read_list list.now) ≡ true }
+pub fn is_mismatch(presence: u8, point: &Point, list: &[u8]) -> bool
+    requires { is_some (read_list list.now) ≡ true }
     ensures { (l : List Listed) → read_list list.now ≡ Some l →
-        result ≡ mismatch presence (point_of rec.now info) (directs l) (indirects l) }
+        result ≡ mismatch presence (said point.now) (directs l) (indirects l) }
 {
-    if versions::stand_twice(rec, info, list) {
+    if versions::stand_twice(point, list) {
         return true;
     }
-    let mut seen = [0u8; 510];
-    let walked = walk(presence, rec, info, list, &mut seen);
-    if walked.is_mismatch {
+    let mut maps = maps_of(point);
+    let maps = &mut maps[..maps::maps_in_dag(presence)];
+    let Some(walked) = walk(point, list, maps) else {
         return true;
-    }
-    if walked.dropped < maps::lacking(presence, rec, info, &seen) {
-        return true;
-    }
-    if has_absent_targets(presence, list, walked.end) {
-        return true;
-    }
-    !targets::are_targets(info, &list[walked.end..])
+    };
+    walked.dropped < lacking(maps)
+        || has_absent_targets(presence, list, walked.end)
+        || !targets::are_targets(point.info, &list[walked.end..])
 }

@@ -1,5 +1,4 @@
-// How an entry is taken, and what it then gives of reasons: the arms of check_valid and of check_indirect_links of verifier.rs. What is
-// called at one place is compiled into it, and costs no copies of what it is handed.
+// How an entry is taken, and what it then gives of reasons: the arms of check_valid and of check_indirect_links of verifier.rs.
 #![tactic(auto)]
 
 ghost use Rattle.reasons.specs.Code.{reason_of};
@@ -8,15 +7,15 @@ ghost use Rattle.base.specs.Base.{last_of};
 ghost use Rattle.point.specs.Code.{point_id_of};
 ghost use Rattle.schedule.specs.Code.{settings_of};
 ghost use Rattle.rules.specs.Validate.{point_rows, taken, dependency_trail, version_trail, indirect_point_rows};
-ghost use Rattle.judge_entries.specs.Code.{dag_point_of, entry_of, ReadFrom};
+ghost use Rattle.judge_entries.specs.Code.{dag_point_of};
+ghost use Rattle.judge_entries.specs.Entry.{entry_of};
 ghost use Rattle.judge_valid.specs.Code.{point_view_of};
-ghost use Rattle.judge_reason.specs.Code.{taken_of, info_of, AbsentReason};
+ghost use Rattle.judge_reason.specs.Code.{taken_of, entry_in, AbsentReason};
 
-use judge_entries::DagPoint;
-use judge_valid::PointView;
-use point::{AnchorStageRole, PointId, PointInfo};
+use judge_entries::{DagPoint, Entry};
+use judge_valid::{By, PointView};
+use point::{AnchorStageRole, PointId};
 use reasons::InvalidReason;
-use schedule::Settings;
 
 // How a direct entry is taken.
 #[derive(Clone, Copy)]
@@ -27,8 +26,8 @@ pub enum Taken {
 }
 
 #[tactic(auto, unfolding(rules::specs::Validate::taken))]
-pub fn how_taken(p: PointView, id: PointId) -> Taken
-    ensures { taken_of result ≡ taken (point_view_of p) (point_id_of id) }
+pub fn how_taken(p: &PointView, id: PointId) -> Taken
+    ensures { taken_of result ≡ taken (point_view_of p.now) (point_id_of id) }
 {
     if !judge_entries::is_own_before(p.id, id) {
         return Taken::AsDependency {
@@ -48,25 +47,15 @@ pub fn how_taken(p: PointView, id: PointId) -> Taken
     }
 }
 
-fn read_of(point: DagPoint) -> Option<PointInfo>
-    ensures { result ≡ info_of point }
-{
-    match point {
-        DagPoint::Valid(info) | DagPoint::TransInvalid(info, _, _) | DagPoint::Invalid(info, _) =>
-            Some(info),
-        _ => None,
-    }
-}
-
 // What a dependency gives of reasons whose point is not there.
 #[tactic(auto, unfolding(rules::specs::Validate::dependency_trail, base::specs::Base::last_of))]
-fn absent_reason(point: DagPoint) -> Option<InvalidReason>
-    ensures { AbsentReason point result }
+fn absent_reason(state: &DagPoint) -> Option<InvalidReason>
+    ensures { AbsentReason state.now result }
 {
-    match point {
-        DagPoint::IllFormed(id, n) => Some(InvalidReason::DepIllFormed {
-            dependency: id,
-            reason: n,
+    match *state {
+        DagPoint::IllFormed(dependency, reason) => Some(InvalidReason::DepIllFormed {
+            dependency,
+            reason,
         }),
         DagPoint::NotFound(id) => Some(InvalidReason::DepNotFound(id)),
         _ => None,
@@ -74,64 +63,46 @@ fn absent_reason(point: DagPoint) -> Option<InvalidReason>
 }
 
 // What an entry taken as a dependency gives of reasons.
-pub fn dependency_reason(
-    conf: Settings,
-    required: bool,
-    is_prev_point: bool,
-    p: PointView,
-    rec: &[u8],
-    point: DagPoint,
-) -> Option<InvalidReason>
-    requires { ReadFrom rec.now point }
+pub fn dependency_reason(by: &By, is_prev_point: bool, entry: &Entry) -> Option<InvalidReason>
     ensures { option_map reason_of result
-        ≡ last_of (dependency_trail (point_rows (settings_of conf) required is_prev_point (point_view_of p)) (dag_point_of rec.now point)) }
+        ≡ last_of (dependency_trail (point_rows (settings_of by.now.conf) by.now.required is_prev_point (point_view_of by.now.view)) (entry_of entry.now).state) }
 {
-    let Some(info) = read_of(point) else {
-        return absent_reason(point);
-    };
-    judge_valid::check_dependency(
-        conf,
-        required,
-        is_prev_point,
-        p,
-        judge_valid::dep_view(rec, info),
-    )
+    match entry.point() {
+        Some(point) => {
+            judge_valid::check_dependency(by, is_prev_point, &judge_valid::dep_view(&point))
+        }
+        None => absent_reason(&entry.state),
+    }
 }
 
 // What a version of the author's point at the round before gives of reasons, where none is referenced.
 #[tactic(auto, unfolding(base::specs::Base::last_of))]
-pub fn version_reason(point: DagPoint, certified: bool, first_valid: bool) -> Option<InvalidReason>
-    ensures { (s : List ℕ) → option_map reason_of result ≡ last_of (version_trail (entry_of s point certified first_valid) (dag_point_of s point)) }
+pub fn version_reason(state: &DagPoint, certified: bool, first_valid: bool) -> Option<InvalidReason>
+    ensures { (s : List ℕ) → option_map reason_of result ≡ last_of (version_trail (entry_in s state.now certified first_valid) (dag_point_of s state.now)) }
 {
-    match point {
+    match state {
         DagPoint::Valid(info) => {
             first_valid.then_some(InvalidReason::MustHaveReferencedPrevPoint(info.id))
         }
         DagPoint::TransInvalid(info, _, _) | DagPoint::Invalid(info, _) => {
             Some(InvalidReason::MustHaveSkippedRound(info.id))
         }
-        DagPoint::IllFormed(id, _) => Some(InvalidReason::MustHaveSkippedRound(id)),
+        DagPoint::IllFormed(id, _) => Some(InvalidReason::MustHaveSkippedRound(*id)),
         DagPoint::NotFound(id) => {
-            certified.then_some(InvalidReason::MustHaveReferencedPrevPoint(id))
+            certified.then_some(InvalidReason::MustHaveReferencedPrevPoint(*id))
         }
         DagPoint::Dropped => None,
     }
 }
 
-// What the target of an indirect link gives of reasons.
-pub fn indirect_reason(
-    conf: Settings,
-    role: AnchorStageRole,
-    p: PointView,
-    rec: &[u8],
-    point: DagPoint,
-) -> Option<InvalidReason>
-    requires { ReadFrom rec.now point }
+// What the target of an indirect link gives of reasons. One function for this and dependency_reason would take the check that they
+// differ in as a closure, with a clause for what it gives.
+pub fn indirect_reason(by: &By, role: AnchorStageRole, entry: &Entry) -> Option<InvalidReason>
     ensures { option_map reason_of result
-        ≡ last_of (dependency_trail (indirect_point_rows (settings_of conf) role (point_view_of p)) (dag_point_of rec.now point)) }
+        ≡ last_of (dependency_trail (indirect_point_rows (settings_of by.now.conf) role (point_view_of by.now.view)) (entry_of entry.now).state) }
 {
-    let Some(info) = read_of(point) else {
-        return absent_reason(point);
-    };
-    judge_valid::check_indirect(conf, role, p, judge_valid::dep_view(rec, info))
+    match entry.point() {
+        Some(point) => judge_valid::check_indirect(by, role, &judge_valid::dep_view(&point)),
+        None => absent_reason(&entry.state),
+    }
 }

@@ -6,7 +6,7 @@ use Rattle.reasons.specs.Code.{reason_of}
 use Rattle.reasons.specs.declared.invalid.InvalidReason as code-reason
 use Rattle.reasons.specs.declared.invalid.InvalidReason.TheVariants as case-reason
 use Prim.Native.Nat.{ℕ}
-use mathlib.Core.Path.{◌≡◌, refl, sym, ap, ◌∙◌, subst}
+use mathlib.Core.Path.{◌≡◌, refl, sym, ap, ◌∙◌}
 use mathlib.Core.Bool.{Bool, true, false, not, ◌&&◌, ◌||◌}
 use mathlib.Core.List.{List, [], ◌∷◌, ◌++◌}
 use Rattle.base.specs.Base.{pick, when, last_of, is_empty}
@@ -23,9 +23,10 @@ use Rattle.rules.specs.List.{Listed, is_in_order, list_from, directs, indirects}
 use Rattle.judge_entries.proofs.Order.{in_order, in_order_lem, after-target}
 use Rattle.point.specs.Code.{point_of, Reads}
 use Rattle.point.specs.declared.info.PointInfo as code-info
-use Rattle.judge_entries.specs.Code.{entry_of, ReadFrom}
-use Rattle.judge_entries.specs.declared.DagPoint as code-point
-use Rattle.judge_entries.specs.declared.DagPoint.TheVariants as case-point
+use Rattle.judge_entries.specs.Code.{info_of}
+use Rattle.judge_entries.specs.Entry.{entry_of}
+use Rattle.judge_entries.specs.declared.entry.Entry as code-entry
+use Rattle.judge_entries.specs.declared.entry.DagPoint.TheVariants as case-point
 use Rattle.judge_valid.specs.Code.{QuickOf, GivesNoReason}
 use Rattle.judge_valid.specs.declared.quick.Quick as code-quick
 use Rattle.judge_step.specs.Code.{Judging, later_of, or_dropped, start, Gives, is_nothing, with_direct, with_indirect, direct_step, gives_all, indirect_step}
@@ -279,20 +280,19 @@ module _ (c : Settings) (required : Bool) (p : PointView) (q : PointInfo) (n : G
       sym (gives_found c required p quiet nothing g refl quiet-found last-nothing j) ∙ nothing-direct j g refl
 
 -- an entry that passed the quick test is valid, not the author's at the round before, and changes nothing
-pub record Passed (c : Settings) (p : PointView) (s : List ℕ) (d : code-point.DagPoint) : Type 0 where
+pub record Passed (c : Settings) (p : PointView) (e : code-entry.Entry) : Type 0 where
   pub info : code-info.PointInfo
-  pub is-valid : d ≡ case-point.Valid info
-  pub gives : GivesNoReason c p (point_of s info)
+  pub is-valid : e.state ≡ case-point.Valid info
+  pub gives : GivesNoReason c p (point_of e.rec.now info)
 
-pub passed : (c : Settings) (p : PointView) (q : code-quick.Quick) (s : List ℕ) (d : code-point.DagPoint) → QuickOf c p q → ReadFrom s d → Quiet q s d → Passed c p s d
-passed c p q s d k h g =
-    let r : Reads s g.0.0 = subst (ReadFrom s) g.0.1 h in
-    record { info = g.0.0; is-valid = g.0.1; gives = g.1 c p (point_of s g.0.0) k r.read }
+pub passed : (c : Settings) (p : PointView) (q : code-quick.Quick) (e : code-entry.Entry) → QuickOf c p q → Quiet q e → Passed c p e
+passed c p q e k g =
+    let r : Reads e.rec.now g.0.0 = e.read g.0.0 (ap info_of g.0.1) in
+    record { info = g.0.0; is-valid = g.0.1; gives = g.1 c p (point_of e.rec.now g.0.0) k r.read }
 
-pub passed-step : (c : Settings) (required : Bool) (p : PointView) (s : List ℕ) (d : code-point.DagPoint) → Passed c p s d → (certified first : Bool) (j : Judging) →
-    direct_step c required p j (entry_of s d certified first) ≡ j
-passed-step c required p s d k certified first j =
-    rw k.is-valid (quiet_step c required p (point_of s k.info) k.gives certified first j)
+pub passed-step : (c : Settings) (required : Bool) (p : PointView) (e : code-entry.Entry) → Passed c p e → (j : Judging) →
+    direct_step c required p j (entry_of e) ≡ j
+passed-step c required p e k j = rw k.is-valid (quiet_step c required p (point_of e.rec.now k.info) k.gives e.certified e.first_valid j)
 
 -- ---- a list as it stands
 

@@ -1,7 +1,7 @@
 -- What the code's values stand for, and judging as a step from entry to entry. This serves contracts below the public call's and
 -- follows the code; proofs/Laws.antt leads from it to `over_lists`.
 use Rattle.reasons.specs.Code.{reason_of, dependency_of}
-use Rattle.std.specs.Prelude.{ℕ, ◌≡◌, Bool, true, false, not, ◌&&◌, List, [], ◌∷◌, Option, None, Some, is_some, option_map}
+use Rattle.std.specs.Prelude.{◌≡◌, Bool, true, false, not, ◌&&◌, List, [], ◌∷◌, Option, None, Some, is_some, option_map}
 use Rattle.base.specs.Base.{pick, last_of}
 use Rattle.point.specs.Point.{Through, PointInfo, through, anchor_link}
 use Rattle.point.specs.declared.data.AnchorStageRole.{AnchorStageRole}
@@ -11,8 +11,8 @@ use Rattle.reasons.specs.Verdict.{Verdict}
 use Rattle.rules.specs.DagPoint.{Entry, IndirectEntry, entry_id, is_dropped, PointView, point_view}
 use Rattle.rules.specs.Validate.{Findings, direct_through, join, dependency, point_rows, entry_findings, indirect_point_rows, result_with}
 use Rattle.point.specs.declared.info.PointInfo as code-info
-use Rattle.judge_entries.specs.declared.DagPoint as code-point
-use Rattle.judge_entries.specs.declared.DagPoint.TheVariants as case-point
+use Rattle.judge_entries.specs.declared.entry.Entry as code-entry
+use Rattle.judge_entries.specs.declared.entry.DagPoint.TheVariants as case-point
 use Rattle.judge_valid.specs.Code.{IsQuick}
 use Rattle.judge_valid.specs.declared.quick.Quick as code-quick
 use Rattle.judge_step.specs.declared.step.Gives as code_gives
@@ -94,6 +94,10 @@ abbrev pub dependency_as : Settings → Bool → Bool → PointView → Entry �
 dependency_as c required is_prev_point p e =
     dependency c p.id.round (direct_through p.id.round (entry_id e.state)) (point_rows c required is_prev_point p) e
 
+-- an entry, but for whether it is first valid
+abbrev pub as_first : Bool → Entry → Entry
+as_first first e = record { state = e.state; certified = e.certified; first_valid = first }
+
 -- what an entry gives makes its step, whatever was found before it
 abbrev pub DirectGives : Settings → Bool → PointView → Entry → Gives → Type 0
 DirectGives c required p e g = (j : Judging) → with_direct j g ≡ direct_step c required p j e
@@ -113,9 +117,9 @@ judging_of j =
       ended = j.ended;
     }
 
--- the state of an entry that passed the quick test
-abbrev pub Quiet : code-quick.Quick → List ℕ → code-point.DagPoint → Type 0
-Quiet q s d = ((i : code-info.PointInfo) × (d ≡ case-point.Valid i)) × IsQuick q s
+-- an entry that passed the quick test
+abbrev pub Quiet : code-quick.Quick → code-entry.Entry → Type 0
+Quiet q e = ((i : code-info.PointInfo) × (e.state ≡ case-point.Valid i)) × IsQuick q e.rec.now
 
 -- ---- judging over lists, entry by entry
 

@@ -1,6 +1,6 @@
 -- Laws of what rules tell: of a table's reasons the last row's last stays.
 use Rattle.std.specs.Prelude.{Option, None, Some, option_map}
-use Rattle.std.specs.Option.{option_or}
+use Rattle.std.specs.Option.{option_or, MatchOption}
 use Rattle.std.specs.Bool.{then_some}
 use mathlib.Core.Path.{◌≡◌, refl}
 use mathlib.Core.Bool.{Bool, true, false}
@@ -21,9 +21,11 @@ pub or_told : (a b : Option code-reason.InvalidReason) → option_map reason_of 
 or_told None b = refl
 or_told (Some x) b = refl
 
-pub or_given : (r a b : Option code-reason.InvalidReason) (x y : Option InvalidReason) → r ≡ option_or a b → option_map reason_of a ≡ x → option_map reason_of b ≡ y →
-    option_map reason_of r ≡ option_or x y
-or_given r a b x y e f g = rw (e, or_told a b, f, g)
+-- a rule that is asked where those before it told nothing
+pub or_else_told : (a r : Option code-reason.InvalidReason) (Asked : Type 0) (x y : Option InvalidReason) → MatchOption a Asked (λ v. r ≡ Some v) → option_map reason_of a ≡ x →
+    (Asked → option_map reason_of r ≡ y) → option_map reason_of r ≡ option_or x y
+or_else_told None r Asked x y m e f = rw (← e) (f m)
+or_else_told (Some v) r Asked x y m e f = rw (← e, m)
 
 module _ {A : Type 0} where
   pub or_none : (o : Option A) → option_or o None ≡ o

@@ -11,10 +11,10 @@ use borrow.Author.Tests.{eqb-true, eq-eqb, ne_eqb, lt-ltb, le-ltb, ltb-false}
 use Rattle.base.specs.Base.{pick, concat}
 use Rattle.base.proofs.Bool.{never, clash, and_left, and_right, and_both, or_left, or_right}
 use Rattle.base.proofs.Option.{picked, none-some, and_then_lem, IfSome, pick-has, has}
-use Rattle.parts.specs.Bytes.{little_at, big, big_at, little_bytes, Bytes}
+use Rattle.parts.specs.Bytes.{little_at, big_at, Bytes}
 use Rattle.parts.specs.Code.{number}
 use Rattle.parts.specs.declared.Id.{Id}
-use Rattle.parts.proofs.Laws.{Words, big_words, big-fits, swapped_at}
+use Rattle.parts.proofs.Laws.{Words, big_words, big-fits}
 use Rattle.record.specs.Record.{content_of, well_shaped}
 use Rattle.point.specs.Point.{PointId, Through, AnchorLink, Direct, Indirect, PointInfo, same_id, is_anchor_proof, is_anchor_trigger, is_anchor_stage, through_round, through, target_of, target_round_of, anchor_link, source, target, top}
 use Rattle.point.specs.Reading.{point_id_at, read_through, read_link, read_role, maps_ok, read_point}
@@ -47,10 +47,9 @@ unfolding first_word
 first-at s at b h =
     rw (big_words s at h) (word_first _ _ _ _ (big-fits 8 s (at + 8) b (omega arith)) (big-fits 8 s (at + 16) b (omega arith)) (big-fits 8 s (at + 24) b (omega arith)))
 
--- a word that was read lowest byte first, and then swapped
-pub word_read : (s t : List ℕ) (at u w : ℕ) → Bytes s → at + 32 ≤ length s → t ≡ s → u ≡ little_at 8 t at → w ≡ big (little_bytes 8 u) → w ≡ first_word (big_at 32 s at)
-word_read s t at u w b h e f g =
-    g ∙ (ap (λ (x : ℕ). big (little_bytes 8 x)) (f ∙ ap (λ (l : List ℕ). little_at 8 l at) e) ∙ (swapped_at 8 s at b (omega arith) ∙ first-at s at b h))
+-- of an id that stands in a part of a record
+pub word_read : (s t : List ℕ) (at w : ℕ) → Bytes s → at + 32 ≤ length s → t ≡ s → w ≡ big_at 8 t at → w ≡ first_word (big_at 32 s at)
+word_read s t at w b h e f = f ∙ (ap (λ (l : List ℕ). big_at 8 l at) e ∙ first-at s at b h)
 
 -- ---- a role, by its bytes
 

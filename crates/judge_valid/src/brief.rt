@@ -7,6 +7,8 @@ ghost use Rattle.point.specs.Reading.{read_link, read_role, read_point};
 ghost use Rattle.point.specs.declared.data.PointRole.{PointRole};
 ghost use Rattle.judge_valid.specs.Code.{BriefOf};
 
+use record::Fields;
+
 // Of digest and author the first eight bytes, of both tops the round.
 #[derive(Clone, Copy)]
 pub struct Brief {
@@ -54,23 +56,21 @@ fn top_round(has_role: bool, round: u32, link: &[u8]) -> u32
     parts::rounds_back(round, 2)
 }
 
+#[tactic(auto, using(point::proofs::Laws::shape_facts))]
 pub fn brief_of(rec: &[u8]) -> Brief
     requires { well_shaped rec.now ≡ true }
     ensures { (q : PointInfo) → read_point rec.now ≡ Some q → BriefOf q result }
 {
-    let at = record::find_places(rec);
-    let id = record::content_from(rec, 0, at.payload, 0);
-    let proof = record::content_from(rec, at.anchor_proof, at.anchor_trigger, 5);
-    let trigger = record::content_from(rec, at.anchor_trigger, at.role, 6);
-    let role = record::content_from(rec, at.role, at.times, 7);
-    let times = record::content_from(rec, at.times, rec.len(), 8);
+    let fields = Fields::find(rec);
+    let id = fields.id();
+    let role = fields.role();
     let round = parts::u32_at(id, 0);
     Brief {
         round,
-        digest: parts::swapped(parts::u64_at(id, 4)),
-        author: parts::swapped(parts::u64_at(id, 36)),
-        proof_round: top_round(is_proof(role), round, proof),
-        trigger_round: top_round(is_trigger(role), round, trigger),
-        time: parts::u64_at(times, 0),
+        digest: parts::big64_at(id, 4),
+        author: parts::big64_at(id, 36),
+        proof_round: top_round(is_proof(role), round, fields.anchor_proof()),
+        trigger_round: top_round(is_trigger(role), round, fields.anchor_trigger()),
+        time: parts::u64_at(fields.times(), 0),
     }
 }

@@ -8,4 +8,4 @@ mod view;
 
 pub use quick::{Quick, is_quick, quick_of};
 pub use rows::{check_dependency, check_indirect};
-pub use view::{PointView, dep_view, point_view};
+pub use view::{By, DepView, LinkIds, PointView, dep_view, point_view};

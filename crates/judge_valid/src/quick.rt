@@ -7,9 +7,8 @@ ghost use Rattle.judge_valid.specs.Code.{point_view_of, first_word, QuickOf, IsQ
 
 use crate::brief;
 use crate::brief::Brief;
-use crate::view::PointView;
+use crate::view::By;
 use parts::Id;
-use schedule::Settings;
 
 // What the test asks of the judged point and the settings. Ids are told apart by the first eight bytes of a digest or an author.
 #[derive(Clone, Copy)]
@@ -34,9 +33,10 @@ fn first_word(id: Id) -> u64
     id.a
 }
 
-pub fn quick_of(conf: Settings, p: PointView) -> Quick
-    ensures { QuickOf (settings_of conf) (point_view_of p) result }
+pub fn quick_of(by: &By) -> Quick
+    ensures { QuickOf (settings_of by.now.conf) (point_view_of by.now.view) result }
 {
+    let p = &by.view;
     Quick {
         before: parts::rounds_back(p.id.round, 1),
         author: first_word(p.id.author),
@@ -47,20 +47,20 @@ pub fn quick_of(conf: Settings, p: PointView) -> Quick
         proof_round: p.proof.target.round,
         trigger_round: p.trigger.target.round,
         time: p.time,
-        skew: conf.clock_skew_millis as u64,
+        skew: by.conf.clock_skew_millis as u64,
     }
 }
 
 // Whether a dependency can be the author's point at the round before.
-fn is_own(q: Quick, b: Brief) -> bool
-    ensures { result ≡ (eqb b.round q.before && eqb b.author q.author) }
+fn is_own(q: &Quick, b: &Brief) -> bool
+    ensures { result ≡ (eqb b.now.round q.now.before && eqb b.now.author q.now.author) }
 {
     b.round == q.before && b.author == q.author
 }
 
 // Whether it can be a link's target or source.
-fn is_linked(q: Quick, b: Brief) -> bool
-    ensures { result ≡ (eqb b.digest q.proof_target || (eqb b.digest q.proof_source || (eqb b.digest q.trigger_target || eqb b.digest q.trigger_source))) }
+fn is_linked(q: &Quick, b: &Brief) -> bool
+    ensures { result ≡ (eqb b.now.digest q.now.proof_target || (eqb b.now.digest q.now.proof_source || (eqb b.now.digest q.now.trigger_target || eqb b.now.digest q.now.trigger_source))) }
 {
     b.digest == q.proof_target
         || b.digest == q.proof_source
@@ -69,8 +69,8 @@ fn is_linked(q: Quick, b: Brief) -> bool
 }
 
 // Whether one of its tops has a greater round than the link's target.
-fn is_newer(q: Quick, b: Brief) -> bool
-    ensures { result ≡ (ltb q.proof_round b.proof_round || ltb q.trigger_round b.trigger_round) }
+fn is_newer(q: &Quick, b: &Brief) -> bool
+    ensures { result ≡ (ltb q.now.proof_round b.now.proof_round || ltb q.now.trigger_round b.now.trigger_round) }
 {
     q.proof_round < b.proof_round || q.trigger_round < b.trigger_round
 }
@@ -83,11 +83,11 @@ pub fn is_late(time: u64, skew: u64, dependency_time: u64) -> bool
 }
 
 // Whether a valid dependency gives nothing for sure: false says nothing of it.
-pub fn is_quick(q: Quick, rec: &[u8]) -> bool
+pub fn is_quick(q: &Quick, rec: &[u8]) -> bool
     requires { well_shaped rec.now ≡ true }
-    ensures { result ≡ true → IsQuick q rec.now }
+    ensures { result ≡ true → IsQuick q.now rec.now }
 {
-    let b = brief::brief_of(rec);
+    let b = &brief::brief_of(rec);
     if is_own(q, b) || is_linked(q, b) || is_newer(q, b) || is_late(q.time, q.skew, b.time) {
         return false;
     }

@@ -1,17 +1,18 @@
-// The rules that a dependency is checked against. Of the reasons that they give the last stays, so a chain of them is asked from its
-// last rule to its first.
+// The rules that a dependency q of a judged point p is checked against: a rule takes both views as its row in the definitions does. Of
+// the reasons that they give the last stays, so a chain of them is asked from its last rule to its first.
 ghost use Rattle.reasons.specs.Code.{reason_of};
-ghost use Rattle.std.specs.Prelude.{◌≡◌, Bool, option_map};
+ghost use Rattle.std.specs.Prelude.{◌≡◌, Bool, List, [], ◌∷◌, option_map};
 ghost use Rattle.base.specs.Base.{concat, last_of};
 ghost use Rattle.point.specs.Point.{sticky_anchors};
 ghost use Rattle.point.specs.declared.data.PointRole.TheVariants.{AnchorProof};
+ghost use Rattle.point.specs.declared.data.AnchorStageRole.TheVariants.{Proof, Trigger};
 ghost use Rattle.schedule.specs.Code.{settings_of};
 ghost use Rattle.rules.specs.Validate.{is_open, not_trigger, ends_too_soon, proof_row, trigger_proof_row, time_row, newer_row, seq_no, follows, sticky_row, reached_row};
 ghost use Rattle.rules.specs.Validate.{target_row, anchor_time_row, carried_row, source_row, anchor_rows, point_rows, indirect_row, indirect_point_rows};
 ghost use Rattle.judge_valid.specs.Code.{point_view_of, dep_view_of};
 
 use crate::quick::is_late;
-use crate::view::{DepView, PointView};
+use crate::view::{By, DepView, PointView};
 use point::{AnchorStageRole, PointRole};
 use reasons::InvalidReason;
 use schedule::Settings;
@@ -42,8 +43,8 @@ fn ends_too_soon(required: bool, own: PointRole, proven: PointRole) -> bool
 
 // is_proof_ok, of the previous point.
 #[tactic(auto, unfolding(rules::specs::Validate::proof_row, base::specs::Base::concat, base::specs::Base::last_of), using(crate::proofs::Laws::told))]
-fn is_proof_ok(required: bool, p: PointView, q: DepView) -> Option<InvalidReason>
-    ensures { option_map reason_of result ≡ last_of (proof_row required (point_view_of p) (dep_view_of q)) }
+fn is_proof_ok(required: bool, p: &PointView, q: &DepView) -> Option<InvalidReason>
+    ensures { option_map reason_of result ≡ last_of (proof_row required (point_view_of p.now) (dep_view_of q.now)) }
 {
     if is_not_trigger(required, p.role, q.role) {
         return Some(InvalidReason::NotTrigger(q.id));
@@ -60,8 +61,8 @@ fn is_proof_ok(required: bool, p: PointView, q: DepView) -> Option<InvalidReason
 }
 
 #[tactic(auto, unfolding(rules::specs::Validate::trigger_proof_row, base::specs::Base::last_of))]
-fn check_trigger_proof(p: PointView, q: DepView, is_target: bool) -> Option<InvalidReason>
-    ensures { option_map reason_of result ≡ last_of (trigger_proof_row (point_view_of p) (dep_view_of q) is_target) }
+fn check_trigger_proof(p: &PointView, q: &DepView, is_target: bool) -> Option<InvalidReason>
+    ensures { option_map reason_of result ≡ last_of (trigger_proof_row (point_view_of p.now) (dep_view_of q.now) is_target) }
 {
     let target = p.proof.target;
     let bound = q.proof_top;
@@ -76,8 +77,8 @@ fn check_trigger_proof(p: PointView, q: DepView, is_target: bool) -> Option<Inva
 
 // The dependency's time may exceed the point's by the clock skew only.
 #[tactic(auto, unfolding(rules::specs::Validate::time_row), using(crate::proofs::Laws::told))]
-fn check_time(conf: Settings, p: PointView, q: DepView) -> Option<InvalidReason>
-    ensures { option_map reason_of result ≡ last_of (time_row (settings_of conf) (point_view_of p) (dep_view_of q)) }
+fn check_time(conf: &Settings, p: &PointView, q: &DepView) -> Option<InvalidReason>
+    ensures { option_map reason_of result ≡ last_of (time_row (settings_of conf.now) (point_view_of p.now) (dep_view_of q.now)) }
 {
     is_late(p.time, conf.clock_skew_millis as u64, q.time).then_some(
         InvalidReason::DependencyTimeTooFarInFuture(q.id),
@@ -85,8 +86,8 @@ fn check_time(conf: Settings, p: PointView, q: DepView) -> Option<InvalidReason>
 }
 
 #[tactic(auto, unfolding(rules::specs::Validate::newer_row), using(crate::proofs::Laws::told))]
-fn check_newer(role: AnchorStageRole, p: PointView, q: DepView) -> Option<InvalidReason>
-    ensures { option_map reason_of result ≡ last_of (newer_row role (point_view_of p) (dep_view_of q)) }
+fn check_newer(role: AnchorStageRole, p: &PointView, q: &DepView) -> Option<InvalidReason>
+    ensures { option_map reason_of result ≡ last_of (newer_row role (point_view_of p.now) (dep_view_of q.now)) }
 {
     (p.links(role).target.round < q.top(role).round).then_some(
         InvalidReason::NewerAnchorInDependency {
@@ -116,8 +117,8 @@ fn is_next(prev: Option<u8>, seq_no: u8) -> bool
 
 // Of a proof's number, where its link's target is at hand: that the sequence goes on.
 #[tactic(auto, unfolding(rules::specs::Validate::sticky_row, base::specs::Base::last_of))]
-fn check_seq_no(conf: Settings, seq_no: u8, q: DepView) -> Option<InvalidReason>
-    ensures { (last : Bool) → option_map reason_of result ≡ last_of (sticky_row (settings_of conf) (dep_view_of q) (sticky_anchors (AnchorProof seq_no last))) }
+fn check_seq_no(conf: &Settings, seq_no: u8, q: &DepView) -> Option<InvalidReason>
+    ensures { (last : Bool) → option_map reason_of result ≡ last_of (sticky_row (settings_of conf.now) (dep_view_of q.now) (sticky_anchors (AnchorProof seq_no last))) }
 {
     let prev_seq_no = prev_seq_no(q.role);
     if seq_no == 0 || (seq_no <= conf.sticky_anchors && is_next(prev_seq_no, seq_no)) {
@@ -131,8 +132,8 @@ fn check_seq_no(conf: Settings, seq_no: u8, q: DepView) -> Option<InvalidReason>
 }
 
 #[tactic(auto, unfolding(rules::specs::Validate::sticky_row, base::specs::Base::last_of))]
-fn check_sticky(conf: Settings, role: PointRole, q: DepView) -> Option<InvalidReason>
-    ensures { option_map reason_of result ≡ last_of (sticky_row (settings_of conf) (dep_view_of q) (sticky_anchors role)) }
+fn check_sticky(conf: &Settings, role: PointRole, q: &DepView) -> Option<InvalidReason>
+    ensures { option_map reason_of result ≡ last_of (sticky_row (settings_of conf.now) (dep_view_of q.now) (sticky_anchors role)) }
 {
     match role {
         PointRole::AnchorProof { seq_no, .. } => check_seq_no(conf, seq_no, q),
@@ -143,12 +144,12 @@ fn check_sticky(conf: Settings, role: PointRole, q: DepView) -> Option<InvalidRe
 // Of a link's target that has the role.
 #[tactic(auto, unfolding(rules::specs::Validate::reached_row))]
 fn check_reached(
-    conf: Settings,
+    conf: &Settings,
     role: AnchorStageRole,
-    p: PointView,
-    q: DepView,
+    p: &PointView,
+    q: &DepView,
 ) -> Option<InvalidReason>
-    ensures { option_map reason_of result ≡ last_of (reached_row (settings_of conf) role (point_view_of p) (dep_view_of q)) }
+    ensures { option_map reason_of result ≡ last_of (reached_row (settings_of conf.now) role (point_view_of p.now) (dep_view_of q.now)) }
 {
     match role {
         AnchorStageRole::Proof => check_sticky(conf, p.role, q),
@@ -158,12 +159,12 @@ fn check_reached(
 
 #[tactic(auto, unfolding(rules::specs::Validate::target_row, base::specs::Base::last_of))]
 fn check_target(
-    conf: Settings,
+    conf: &Settings,
     role: AnchorStageRole,
-    p: PointView,
-    q: DepView,
+    p: &PointView,
+    q: &DepView,
 ) -> Option<InvalidReason>
-    ensures { option_map reason_of result ≡ last_of (target_row (settings_of conf) role (point_view_of p) (dep_view_of q)) }
+    ensures { option_map reason_of result ≡ last_of (target_row (settings_of conf.now) role (point_view_of p.now) (dep_view_of q.now)) }
 {
     if !point::is_same_id(q.id, p.links(role).target) {
         return None;
@@ -178,8 +179,8 @@ fn check_target(
 }
 
 #[tactic(auto, unfolding(rules::specs::Validate::anchor_time_row), using(crate::proofs::Laws::told))]
-fn check_anchor_time(p: PointView, q: DepView) -> Option<InvalidReason>
-    ensures { option_map reason_of result ≡ last_of (anchor_time_row (point_view_of p) (dep_view_of q)) }
+fn check_anchor_time(p: &PointView, q: &DepView) -> Option<InvalidReason>
+    ensures { option_map reason_of result ≡ last_of (anchor_time_row (point_view_of p.now) (dep_view_of q.now)) }
 {
     (!p.role.is_anchor_proof() && q.anchor_time != p.anchor_time).then_some(
         InvalidReason::AnchorTimeNotInheritedFromProof(q.id),
@@ -188,8 +189,8 @@ fn check_anchor_time(p: PointView, q: DepView) -> Option<InvalidReason>
 
 // Of a link's source: what the link carries on.
 #[tactic(auto, unfolding(rules::specs::Validate::carried_row, base::specs::Base::last_of))]
-fn check_carried(role: AnchorStageRole, p: PointView, q: DepView) -> Option<InvalidReason>
-    ensures { option_map reason_of result ≡ last_of (carried_row role (point_view_of p) (dep_view_of q)) }
+fn check_carried(role: AnchorStageRole, p: &PointView, q: &DepView) -> Option<InvalidReason>
+    ensures { option_map reason_of result ≡ last_of (carried_row role (point_view_of p.now) (dep_view_of q.now)) }
 {
     match role {
         AnchorStageRole::Proof => check_anchor_time(p, q),
@@ -203,8 +204,8 @@ fn check_carried(role: AnchorStageRole, p: PointView, q: DepView) -> Option<Inva
 }
 
 #[tactic(auto, unfolding(rules::specs::Validate::source_row), using(crate::proofs::Laws::told, crate::proofs::Laws::last_append, crate::proofs::Laws::last_empty, crate::proofs::Laws::or_told))]
-fn check_source(role: AnchorStageRole, p: PointView, q: DepView) -> Option<InvalidReason>
-    ensures { option_map reason_of result ≡ last_of (source_row role (point_view_of p) (dep_view_of q)) }
+fn check_source(role: AnchorStageRole, p: &PointView, q: &DepView) -> Option<InvalidReason>
+    ensures { option_map reason_of result ≡ last_of (source_row role (point_view_of p.now) (dep_view_of q.now)) }
 {
     let links = p.links(role);
     if !point::is_same_id(q.id, links.source) {
@@ -217,40 +218,54 @@ fn check_source(role: AnchorStageRole, p: PointView, q: DepView) -> Option<Inval
     }))
 }
 
+// The rules on the sources of both links.
+#[tactic(auto, using(crate::proofs::Laws::rows_last, crate::proofs::Laws::rows_one, crate::proofs::Laws::or_told))]
+fn check_sources(p: &PointView, q: &DepView) -> Option<InvalidReason>
+    ensures { option_map reason_of result
+        ≡ last_of (concat (source_row Proof (point_view_of p.now) (dep_view_of q.now) ∷ source_row Trigger (point_view_of p.now) (dep_view_of q.now) ∷ [])) }
+{
+    check_source(AnchorStageRole::Trigger, p, q).or_else(|| check_source(
+        AnchorStageRole::Proof,
+        p,
+        q,
+    ))
+}
+
 // The rules on both links of a point.
 #[tactic(auto, unfolding(rules::specs::Validate::anchor_rows), using(crate::proofs::Laws::rows_last, crate::proofs::Laws::rows_one, crate::proofs::Laws::or_told))]
-fn check_links(conf: Settings, p: PointView, q: DepView) -> Option<InvalidReason>
-    ensures { option_map reason_of result ≡ last_of (concat (anchor_rows (settings_of conf) (point_view_of p) (dep_view_of q))) }
+fn check_links(conf: &Settings, p: &PointView, q: &DepView) -> Option<InvalidReason>
+    ensures { option_map reason_of result ≡ last_of (concat (anchor_rows (settings_of conf.now) (point_view_of p.now) (dep_view_of q.now))) }
 {
-    check_source(AnchorStageRole::Trigger, p, q)
-        .or(check_source(AnchorStageRole::Proof, p, q))
-        .or(check_target(conf, AnchorStageRole::Trigger, p, q))
-        .or(check_target(conf, AnchorStageRole::Proof, p, q))
+    if let Some(reason) = check_sources(p, q) {
+        return Some(reason);
+    }
+    check_target(conf, AnchorStageRole::Trigger, p, q).or_else(|| check_target(
+        conf,
+        AnchorStageRole::Proof,
+        p,
+        q,
+    ))
 }
 
 // What a dependency, the previous point or another, gives of reasons.
-pub fn check_dependency(
-    conf: Settings,
-    required: bool,
-    is_prev_point: bool,
-    p: PointView,
-    q: DepView,
-) -> Option<InvalidReason>
-    ensures { option_map reason_of result ≡ last_of (concat (point_rows (settings_of conf) required is_prev_point (point_view_of p) (dep_view_of q))) }
+pub fn check_dependency(by: &By, is_prev_point: bool, q: &DepView) -> Option<InvalidReason>
+    ensures { option_map reason_of result
+        ≡ last_of (concat (point_rows (settings_of by.now.conf) by.now.required is_prev_point (point_view_of by.now.view) (dep_view_of q.now))) }
 {
-    let later = check_links(conf, p, q)
-        .or(check_newer(AnchorStageRole::Trigger, p, q))
-        .or(check_newer(AnchorStageRole::Proof, p, q))
-        .or(check_time(conf, p, q));
+    let p = &by.view;
+    let later = check_links(&by.conf, p, q)
+        .or_else(|| check_newer(AnchorStageRole::Trigger, p, q))
+        .or_else(|| check_newer(AnchorStageRole::Proof, p, q))
+        .or_else(|| check_time(&by.conf, p, q));
     if is_prev_point {
-        return later.or(is_proof_ok(required, p, q));
+        return later.or_else(|| is_proof_ok(by.required, p, q));
     }
     later
 }
 
 // Of an indirect link's target that has the role.
-fn check_inherited(role: AnchorStageRole, p: PointView, q: DepView) -> Option<InvalidReason>
-    ensures { option_map reason_of result ≡ last_of (indirect_row role (point_view_of p) (dep_view_of q)) }
+fn check_inherited(role: AnchorStageRole, p: &PointView, q: &DepView) -> Option<InvalidReason>
+    ensures { option_map reason_of result ≡ last_of (indirect_row role (point_view_of p.now) (dep_view_of q.now)) }
 {
     match role {
         AnchorStageRole::Proof => check_anchor_time(p, q),
@@ -260,13 +275,8 @@ fn check_inherited(role: AnchorStageRole, p: PointView, q: DepView) -> Option<In
 
 // What the target of an indirect link gives of reasons.
 #[tactic(auto, unfolding(rules::specs::Validate::indirect_point_rows), using(crate::proofs::Laws::rows_last, crate::proofs::Laws::rows_one, crate::proofs::Laws::last_single, crate::proofs::Laws::or_told))]
-pub fn check_indirect(
-    conf: Settings,
-    role: AnchorStageRole,
-    p: PointView,
-    q: DepView,
-) -> Option<InvalidReason>
-    ensures { option_map reason_of result ≡ last_of (concat (indirect_point_rows (settings_of conf) role (point_view_of p) (dep_view_of q))) }
+pub fn check_indirect(by: &By, role: AnchorStageRole, q: &DepView) -> Option<InvalidReason>
+    ensures { option_map reason_of result ≡ last_of (concat (indirect_point_rows (settings_of by.now.conf) role (point_view_of by.now.view) (dep_view_of q.now))) }
 {
     if !q.role.is_anchor_stage(role) {
         return Some(InvalidReason::AnchorLinkRole {
@@ -274,5 +284,5 @@ pub fn check_indirect(
             dependency: q.id,
         });
     }
-    check_inherited(role, p, q).or(check_time(conf, p, q))
+    check_inherited(role, &by.view, q).or_else(|| check_time(&by.conf, &by.view, q))
 }

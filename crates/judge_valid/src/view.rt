@@ -1,12 +1,14 @@
 // What judging asks of the point and of a dependency.
 ghost use Rattle.std.specs.Prelude.{◌≡◌};
 ghost use Rattle.point.specs.Point.{top};
-ghost use Rattle.point.specs.Code.{point_id_of, point_of, Reads};
+ghost use Rattle.point.specs.Code.{point_id_of};
+ghost use Rattle.point.specs.Said.{said};
 ghost use Rattle.rules.specs.DagPoint.{link_ids, point_view, dep_view, links_in, top_in};
 ghost use Rattle.judge_valid.specs.Code.{link_ids_of, point_view_of, dep_view_of};
 
 use parts::Id;
-use point::{AnchorLink, AnchorStageRole, PointId, PointInfo, PointRole};
+use point::{AnchorLink, AnchorStageRole, Point, PointId, PointRole};
+use schedule::Settings;
 
 // The target and the source of a link.
 #[derive(Clone, Copy)]
@@ -38,20 +40,29 @@ pub struct DepView {
     pub trigger_top: PointId,
 }
 
+// What every dependency is judged by: the settings, whether regular points are required, and the view of the point. Each is a fact of
+// its own.
+#[derive(Clone, Copy)]
+pub struct By {
+    pub conf: Settings,
+    pub required: bool,
+    pub view: PointView,
+}
+
 impl PointView {
-    pub fn links(self, role: AnchorStageRole) -> LinkIds
-        ensures { link_ids_of result ≡ links_in role (point_view_of self) }
+    pub fn links(&self, role: AnchorStageRole) -> &LinkIds
+        ensures { link_ids_of result.now ≡ links_in role (point_view_of self.now) }
     {
         match role {
-            AnchorStageRole::Proof => self.proof,
-            AnchorStageRole::Trigger => self.trigger,
+            AnchorStageRole::Proof => &self.proof,
+            AnchorStageRole::Trigger => &self.trigger,
         }
     }
 }
 
 impl DepView {
-    pub fn top(self, role: AnchorStageRole) -> PointId
-        ensures { point_id_of result ≡ top_in role (dep_view_of self) }
+    pub fn top(&self, role: AnchorStageRole) -> PointId
+        ensures { point_id_of result ≡ top_in role (dep_view_of self.now) }
     {
         match role {
             AnchorStageRole::Proof => self.proof_top,
@@ -61,11 +72,10 @@ impl DepView {
 }
 
 #[tactic(auto, unfolding(rules::specs::DagPoint::link_ids, point::specs::Point::anchor))]
-fn link_ids(rec: &[u8], info: PointInfo, role: AnchorStageRole) -> LinkIds
-    requires { Reads rec.now info }
-    ensures { link_ids_of result ≡ link_ids role (point_of rec.now info) }
+fn link_ids(point: &Point, role: AnchorStageRole) -> LinkIds
+    ensures { link_ids_of result ≡ link_ids role (said point.now) }
 {
-    let view = point::anchor(rec, info, role);
+    let view = point.anchor(role);
     LinkIds {
         target: view.target,
         source: view.source,
@@ -74,48 +84,45 @@ fn link_ids(rec: &[u8], info: PointInfo, role: AnchorStageRole) -> LinkIds
 
 // What judging asks of the point that it judges.
 #[tactic(auto, unfolding(rules::specs::DagPoint::point_view))]
-pub fn point_view(rec: &[u8], info: PointInfo) -> PointView
-    requires { Reads rec.now info }
-    ensures { point_view_of result ≡ point_view (point_of rec.now info) }
+pub fn point_view(point: &Point) -> PointView
+    ensures { point_view_of result ≡ point_view (said point.now) }
 {
     PointView {
-        id: info.id,
-        role: info.role,
-        time: info.time,
-        anchor_time: info.anchor_time,
-        prev_digest: point::prev_digest(rec, info),
-        proof: link_ids(rec, info, AnchorStageRole::Proof),
-        trigger: link_ids(rec, info, AnchorStageRole::Trigger),
+        id: point.info.id,
+        role: point.info.role,
+        time: point.info.time,
+        anchor_time: point.info.anchor_time,
+        prev_digest: point.prev_digest(),
+        proof: link_ids(point, AnchorStageRole::Proof),
+        trigger: link_ids(point, AnchorStageRole::Trigger),
     }
 }
 
 // The point itself where it has the role, else its link's target. Only a direct link's has to be looked up.
 #[tactic(auto, unfolding(point::specs::Point::top, point::specs::Point::target, point::specs::Point::anchor), using(point::proofs::Laws::link_in_lem))]
-fn top(rec: &[u8], info: PointInfo, role: AnchorStageRole) -> PointId
-    requires { Reads rec.now info }
-    ensures { point_id_of result ≡ top role (point_of rec.now info) }
+fn top(point: &Point, role: AnchorStageRole) -> PointId
+    ensures { point_id_of result ≡ top role (said point.now) }
 {
-    if info.role.is_anchor_stage(role) {
-        return info.id;
+    if point.info.role.is_anchor_stage(role) {
+        return point.info.id;
     }
-    match info.anchor_link(role) {
+    match point.info.anchor_link(role) {
         AnchorLink::Indirect(indirect) => indirect.to,
-        AnchorLink::Direct(_) => point::anchor(rec, info, role).target,
+        AnchorLink::Direct(_) => point.anchor(role).target,
     }
 }
 
 // What judging asks of a dependency.
 #[tactic(auto, unfolding(rules::specs::DagPoint::dep_view))]
-pub fn dep_view(rec: &[u8], info: PointInfo) -> DepView
-    requires { Reads rec.now info }
-    ensures { dep_view_of result ≡ dep_view (point_of rec.now info) }
+pub fn dep_view(point: &Point) -> DepView
+    ensures { dep_view_of result ≡ dep_view (said point.now) }
 {
     DepView {
-        id: info.id,
-        role: info.role,
-        time: info.time,
-        anchor_time: info.anchor_time,
-        proof_top: top(rec, info, AnchorStageRole::Proof),
-        trigger_top: top(rec, info, AnchorStageRole::Trigger),
+        id: point.info.id,
+        role: point.info.role,
+        time: point.info.time,
+        anchor_time: point.info.anchor_time,
+        proof_top: top(point, AnchorStageRole::Proof),
+        trigger_top: top(point, AnchorStageRole::Trigger),
     }
 }

@@ -75,7 +75,8 @@ pub fn is_well_rowed(rows: &[u8], width: usize) -> bool
     rows.len() % width == 0 && is_rising(rows, width)
 }
 
-// The position of a peer among rising rows, by halving. By hand, since `binary_search_by` wants a slice of elements, and a row
+// The position of a peer among rising rows, by halving. The width stands beside the rows in each function, as 32 or 64 where a set or a
+// map is meant: a struct of both would be made for each call. By hand, since `binary_search_by` wants a slice of elements, and a row
 // has as many bytes as `width` says.
 pub fn search(rows: &[u8], width: usize, peer: Id) -> Option<u16>
     requires le_width { (32 ≤ width) × (rising (peers_of width rows.now) ≡ true) }

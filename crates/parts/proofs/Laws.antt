@@ -233,7 +233,3 @@ little-bytes (x ∷ l) b =
     let low : (x + 256 * little l) % 256 ≡ x = omega arith in
     let high : (x + 256 * little l) / 256 ≡ little l = omega arith in
     rw (low, high, little-bytes l (λ k. b (suc k)))
-
-pub swapped_at : (n : ℕ) (s : List ℕ) (at : ℕ) → Bytes s → at + n ≤ length s → big (little_bytes n (little_at n s at)) ≡ big_at n s at
-unfolding little_at big_at
-swapped_at n s at b h = ap big (rw (at_length n s at h) at (little-bytes (bytes_at n s at) (at-bytes n s at b)))

@@ -3,7 +3,7 @@
 
 ghost use Rattle.std.specs.Prelude.{◌≡◌, ◌+◌, ◌-◌, ◌≤◌, ◌<◌, eqb, length};
 ghost use Rattle.std.specs.Result.{result_ok};
-ghost use Rattle.parts.specs.Bytes.{big, bytes_at, little_at, big_at, id_at, little_bytes};
+ghost use Rattle.parts.specs.Bytes.{bytes_at, little_at, big_at, id_at};
 ghost use Rattle.parts.specs.Code.{number, peer_count_of};
 ghost use Rattle.parts.specs.Parts.{order, peer_count, full, majority, majority_of_others};
 
@@ -82,17 +82,9 @@ pub fn u64_at(s: &[u8], at: usize) -> u64
     u64::from_le_bytes(bytes_at(s, at))
 }
 
-// The number whose eight bytes are those of a number in the other order.
-#[tactic(auto, unfolding(crate::specs::Bytes::big, crate::specs::Bytes::little_bytes))]
-pub fn swapped(w: u64) -> u64
-    ensures { result ≡ big (little_bytes 8 w) }
-{
-    w.swap_bytes()
-}
-
 // The number of eight bytes at a place, the first highest.
 #[tactic(auto, using(crate::proofs::Laws::read_big))]
-fn big64_at(s: &[u8], at: usize) -> u64
+pub fn big64_at(s: &[u8], at: usize) -> u64
     requires { at + 8 ≤ length s.now }
     ensures { result ≡ big_at 8 s.now at }
 {
@@ -113,7 +105,7 @@ pub fn id_at(s: &[u8], at: usize) -> Id
     }
 }
 
-// Whether two ids are the same.
+// Whether two ids are the same, as the definitions say it, of numbers: at each caller `==` would want the proof that its words are theirs.
 #[tactic(auto, unfolding(crate::specs::Code::number))]
 pub fn same(x: Id, y: Id) -> bool
     ensures { result ≡ eqb (number x) (number y) }
@@ -142,7 +134,7 @@ pub fn compare(x: Id, y: Id) -> Ordering
     x.d.cmp(&y.d)
 }
 
-// The order of the ids that stand at two places. The compiler reads no more than their first words where these differ.
+// The order of the ids that stand at two places, by `compare`. The compiler reads no more than their first words where these differ.
 pub fn compare_at(s: &[u8], at: usize, t: &[u8], from: usize) -> Ordering
     requires { (at + 32 ≤ length s.now) × (from + 32 ≤ length t.now) }
     ensures { result ≡ order (id_at s.now at) (id_at t.now from) }
@@ -150,7 +142,7 @@ pub fn compare_at(s: &[u8], at: usize, t: &[u8], from: usize) -> Ordering
     compare(id_at(s, at), id_at(t, from))
 }
 
-// The order of the id that stands at a place and an id. Here too the first word is mostly all that is read.
+// The order of the id that stands at a place and an id, by `compare`. Here too the first word is mostly all that is read.
 pub fn compare_to(s: &[u8], at: usize, id: Id) -> Ordering
     requires { at + 32 ≤ length s.now }
     ensures { result ≡ order (id_at s.now at) (number id) }
@@ -203,7 +195,7 @@ impl PeerCount {
     }
 }
 
-// The round n rounds back, 0 at the lowest: `Sub` of rounds in parts.rs.
+// The round n rounds back, 0 at the lowest: `Sub` of rounds in parts.rs, under a name, since it isn't the `-` of numbers.
 pub fn rounds_back(round: u32, rounds: u32) -> u32
     ensures { result ≡ round - rounds }
 {

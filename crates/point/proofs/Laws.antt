@@ -12,7 +12,7 @@ use Rattle.parts.specs.Bytes.{little_at}
 use Rattle.map.specs.Rows.{Pair, peers_of, pairs_of, peers, rising, well_rowed}
 use Rattle.map.proofs.Laws.{peers_of-length, pairs_of-length, peers-pairs_of, well_rowed-rising, well_rowed-whole}
 use Rattle.record.specs.Record.{rows, row_of, start_of, content_of, well_shaped}
-use Rattle.record.proofs.Laws.{end_is, shaped-end, content-least, content-greatest, third-start, start-most}
+use Rattle.record.proofs.Laws.{start_first, start_last, content-least, content-greatest, third-start, start-most}
 use Rattle.point.specs.Point.{Through, Includes, Witness, AnchorLink, PointInfo, through_map, anchor_link}
 use Rattle.point.specs.Reading.{point_id_at, read_link, read_role, maps_ok, point_in, read_point}
 use Rattle.point.specs.Code.{point_of, link_in, Reads}
@@ -23,16 +23,9 @@ use Rattle.point.specs.declared.info.PointInfo as code-info
 
 -- ---- what a record of the right shape holds
 
-pub start_first : (s : List ℕ) → start_of s 0 ≡ 0
-unfolding start_of
-start_first s = refl
-
 module _ (s : List ℕ) (w : well_shaped s ≡ true) where
   pub start_third : start_of s 2 ≡ 82
   start_third = third-start s w
-
-  pub start_last : start_of s 9 ≡ length s
-  start_last = end_is s (length s) (shaped-end s w)
 
   pub start_small : (k : ℕ) → start_of s k ≤ 41126
   start_small k = start-most s w k
@@ -53,11 +46,15 @@ module _ (s : List ℕ) (w : well_shaped s ≡ true) where
   unfolding row_of rows
   trigger_long = content-least s w 6 (omega arith)
 
+  pub role_long : 1 ≤ length (content_of s 7)
+  unfolding row_of rows
+  role_long = content-least s w 7 (omega arith)
+
   pub times_long : 16 ≤ length (content_of s 8)
   unfolding row_of rows
   times_long = content-least s w 8 (omega arith)
 
-pub ruleset shape_facts = (start_first, start_third, start_last, start_small, id_long, payload_long, proof_long, trigger_long, times_long)
+pub ruleset shape_facts = (start_first, start_third, start_last, start_small, id_long, payload_long, proof_long, trigger_long, role_long, times_long)
 
 -- ---- a point that was read
 

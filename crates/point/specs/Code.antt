@@ -1,5 +1,5 @@
 -- What the code's values stand for.
-use Rattle.std.specs.Prelude.{ℕ, List, ◌≡◌, Option, None, Some}
+use Rattle.std.specs.Prelude.{ℕ, List, ◌≡◌, Some}
 use Rattle.parts.specs.Code.{number}
 use Rattle.map.specs.Rows.{peers_of, pairs_of}
 use Rattle.record.specs.Record.{start_of, content_of}
@@ -58,10 +58,6 @@ pub record Reads (s : List ℕ) (i : code-info.PointInfo) : Type 0 where
   pub includes : i.includes_end ≡ start_of s 3
   pub witness : i.witness_end ≡ start_of s 4
   pub evidence : i.evidence_end ≡ start_of s 5
-
-abbrev pub PointRead : List ℕ → Option code-info.PointInfo → Type 0
-PointRead s (Some i) = Reads s i
-PointRead s None = read_point s ≡ None
 
 abbrev pub sticky_of : code-sticky.StickyAnchors → Sticky
 sticky_of x = record { seq_no = x.seq_no; is_last = x.is_last }

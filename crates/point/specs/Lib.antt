@@ -1,3 +1,4 @@
 pub mod Point
 pub mod Reading
 pub mod Code
+pub mod Said

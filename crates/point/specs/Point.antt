@@ -8,6 +8,8 @@ use Rattle.point.specs.declared.data.PointRole.{PointRole}
 use Rattle.point.specs.declared.data.PointRole.TheVariants.{Regular, AnchorProof, AnchorTrigger, Genesis}
 use Rattle.point.specs.declared.data.AnchorStageRole.{AnchorStageRole}
 use Rattle.point.specs.declared.data.AnchorStageRole.TheVariants.{Proof, Trigger}
+use Rattle.point.specs.declared.data.PointMap.{PointMap}
+use Rattle.point.specs.declared.data.PointMap.TheVariants as map
 
 -- info.rs, PointId
 pub record PointId : Type 0 where
@@ -108,6 +110,10 @@ through_round (Witness x) round = round - 2
 abbrev pub through_peer : Through → ℕ
 through_peer (Includes x) = x
 through_peer (Witness x) = x
+
+abbrev pub point_map : Through → PointMap
+point_map (Includes x) = map.Includes
+point_map (Witness x) = map.Witness
 
 abbrev pub through_map : Through → PointInfo → List Pair
 through_map (Includes x) p = p.includes

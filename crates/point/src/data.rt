@@ -10,6 +10,7 @@ pub enum PointMap {
     Witness,
 }
 
+// Of two cases, neither of which is none or a failure, as in the Rust; so are Through and AnchorLink.
 #[derive(Clone, Copy, PartialEq, Eq)]
 pub enum AnchorStageRole {
     Proof,

@@ -1,5 +1,5 @@
 // PointInfo and AnchorView: the port of info.rs. What the Rust asks of a point's maps is asked of its record.
-ghost use Rattle.std.specs.Prelude.{◌≡◌, ◌&&◌, leb, option_map};
+ghost use Rattle.std.specs.Prelude.{◌≡◌, ◌&&◌, List, ℕ, leb, option_map};
 ghost use Rattle.parts.specs.Limits.{first_round, last_round};
 ghost use Rattle.map.specs.Rows.{pairs_of};
 ghost use Rattle.record.specs.Record.{content_of};
@@ -34,6 +34,14 @@ pub struct PointInfo {
     pub evidence_end: u16,
 }
 
+// A record that was read, with what it says: the maps of a point stay in its record.
+#[derive(Clone, Copy)]
+pub struct Point<'a> {
+    pub rec: &'a [u8],
+    pub info: PointInfo,
+    pub ghost reads: { Reads rec.now info },
+}
+
 #[derive(Clone, Copy, PartialEq, Eq)]
 pub struct StickyAnchors {
     pub seq_no: u8,
@@ -55,7 +63,7 @@ pub const NO_POINT: PointId = PointId {
     author: parts::NO_ID,
 };
 
-// Whether two ids are the same, as the definitions say it: `==` compares their words.
+// Whether two ids are the same, as the definitions say it: `==` compares their words, and at each caller would want the proof.
 #[tactic(auto, using(crate::proofs::Ids::same_words), unfolding(crate::specs::Point::same_id))]
 pub fn is_same_id(x: PointId, y: PointId) -> bool
     ensures { result ≡ same_id (point_id_of x) (point_id_of y) }
@@ -75,53 +83,18 @@ pub(crate) fn are_in_domain(round: u32, time: u64, anchor_time: u64) -> bool
         && anchor_time <= LAST_TIME
 }
 
-// Whether a point's round and times lie in the domain.
-#[tactic(auto, unfolding(crate::specs::Point::in_domain))]
-pub fn is_in_domain(rec: &[u8], info: PointInfo) -> bool
-    ensures { result ≡ in_domain (point_of rec.now info) }
-{
-    are_in_domain(info.id.round, info.time, info.anchor_time)
-}
-
 // Where the field of the includes starts: the two fields before it have one length.
 pub const INCLUDES: usize = 82;
 
-// The includes, the witness and the evidence of a record, as parts of it: each is one call of what they share, `content_from`.
-#[tactic(auto, using(crate::proofs::Laws::read_facts))]
-pub fn includes(rec: &[u8], info: PointInfo) -> &[u8]
-    requires { Reads rec.now info }
-    ensures { result.now ≡ content_of rec.now 2 }
-{
-    record::content_from(rec, INCLUDES, info.includes_end as usize, 2)
-}
-
-#[tactic(auto, using(crate::proofs::Laws::read_facts))]
-pub fn witness(rec: &[u8], info: PointInfo) -> &[u8]
-    requires { Reads rec.now info }
-    ensures { result.now ≡ content_of rec.now 3 }
-{
-    record::content_from(
-        rec,
-        info.includes_end as usize,
-        info.witness_end as usize,
-        3,
-    )
-}
-
-#[tactic(auto, using(crate::proofs::Laws::read_facts))]
-pub fn evidence(rec: &[u8], info: PointInfo) -> &[u8]
-    requires { Reads rec.now info }
-    ensures { result.now ≡ content_of rec.now 4 }
-{
-    record::content_from(
-        rec,
-        info.witness_end as usize,
-        info.evidence_end as usize,
-        4,
-    )
-}
-
 impl PointInfo {
+    // Whether the point's round and times lie in the domain.
+    #[tactic(auto, unfolding(crate::specs::Point::in_domain))]
+    pub fn is_in_domain(self) -> bool
+        ensures { (s : List ℕ) → result ≡ in_domain (point_of s self) }
+    {
+        are_in_domain(self.id.round, self.time, self.anchor_time)
+    }
+
     #[tactic(auto, unfolding(crate::specs::Point::is_wave_link_ok))]
     pub fn is_wave_link_ok(self, is_leader: bool, has_prev_point: bool) -> bool
         ensures { result ≡ is_wave_link_ok is_leader has_prev_point self.id.round (link_of self.anchor_proof) self.role }
@@ -153,64 +126,6 @@ impl PointInfo {
     }
 }
 
-// The digest of the author's previous point, of a record and what was read of it.
-#[tactic(auto, using(crate::proofs::Laws::read_facts), unfolding(crate::specs::Point::prev_digest))]
-pub fn prev_digest(rec: &[u8], info: PointInfo) -> Option<Id>
-    requires { Reads rec.now info }
-    ensures { option_map number result ≡ prev_digest (point_of rec.now info) }
-{
-    map::get(includes(rec, info), info.id.author)
-}
-
-// The map that a link goes through. It is chosen before the search, so that digest_safe is short enough to stand where it
-// is called: a call of its own would copy info.
-fn map_of(rec: &[u8], info: PointInfo, through: Through) -> &[u8]
-    requires { Reads rec.now info }
-    ensures { pairs_of result.now ≡ through_map (through_of through) (point_of rec.now info) }
-{
-    match through {
-        Through::Includes(_) => includes(rec, info),
-        Through::Witness(_) => witness(rec, info),
-    }
-}
-
-// The digest beside the peer that a link goes through.
-#[tactic(auto, using(crate::proofs::Laws::read_facts), unfolding(crate::specs::Point::digest_safe))]
-pub fn digest_safe(rec: &[u8], info: PointInfo, through: Through) -> Option<Id>
-    requires { Reads rec.now info }
-    ensures { option_map number result ≡ digest_safe (point_of rec.now info) (through_of through) }
-{
-    map::get(map_of(rec, info, through), through.peer())
-}
-
-// The point that a link goes through.
-#[tactic(auto, unfolding(crate::specs::Point::through_id))]
-pub fn through_id(rec: &[u8], info: PointInfo, through: Through) -> Option<PointId>
-    requires { Reads rec.now info }
-    ensures { option_map point_id_of result ≡ through_id (point_of rec.now info) (through_of through) }
-{
-    let digest = digest_safe(rec, info, through)?;
-    Some(PointId {
-        round: through.round(info.id.round),
-        digest,
-        author: through.peer(),
-    })
-}
-
-// The source of a link.
-#[tactic(auto, using(parts::proofs::Laws::number_zero), unfolding(crate::specs::Point::source))]
-fn source(rec: &[u8], info: PointInfo, role: AnchorStageRole) -> PointId
-    requires { Reads rec.now info }
-    ensures { point_id_of result ≡ source role (point_of rec.now info) }
-{
-    let through = info.anchor_link(role).through();
-    PointId {
-        round: through.round(info.id.round),
-        digest: digest_safe(rec, info, through).unwrap_or(parts::NO_ID),
-        author: through.peer(),
-    }
-}
-
 // A link's target: of a direct one its source.
 fn target(source: PointId, link: AnchorLink) -> PointId
     ensures { point_id_of result ≡ target_of (point_id_of source) (link_of link) }
@@ -221,19 +136,104 @@ fn target(source: PointId, link: AnchorLink) -> PointId
     }
 }
 
-// The view of an anchor link: where it goes through, where it leads, and the point itself where it has the role.
-#[tactic(auto, unfolding(crate::specs::Point::anchor))]
-pub fn anchor(rec: &[u8], info: PointInfo, role: AnchorStageRole) -> AnchorView
-    requires { Reads rec.now info }
-    ensures { view_of result ≡ anchor role (point_of rec.now info) }
-{
-    let source = source(rec, info, role);
-    let target = target(source, info.anchor_link(role));
-    let has_role = info.role.is_anchor_stage(role);
-    let top = if has_role { info.id } else { target };
-    AnchorView {
-        top,
-        target,
-        source,
+impl<'a> Point<'a> {
+    // The includes, the witness and the evidence, as parts of the record: each is one call of what they share, `content_from`.
+    #[tactic(auto, using(crate::proofs::Laws::read_facts))]
+    pub fn includes(&self) -> &'a [u8]
+        ensures { result.now ≡ content_of self.now.rec.now 2 }
+    {
+        record::content_from(self.rec, INCLUDES, self.info.includes_end as usize, 2)
+    }
+
+    #[tactic(auto, using(crate::proofs::Laws::read_facts))]
+    pub fn witness(&self) -> &'a [u8]
+        ensures { result.now ≡ content_of self.now.rec.now 3 }
+    {
+        record::content_from(
+            self.rec,
+            self.info.includes_end as usize,
+            self.info.witness_end as usize,
+            3,
+        )
+    }
+
+    #[tactic(auto, using(crate::proofs::Laws::read_facts))]
+    pub fn evidence(&self) -> &'a [u8]
+        ensures { result.now ≡ content_of self.now.rec.now 4 }
+    {
+        record::content_from(
+            self.rec,
+            self.info.witness_end as usize,
+            self.info.evidence_end as usize,
+            4,
+        )
+    }
+
+    // The digest of the author's previous point.
+    #[tactic(auto, using(crate::proofs::Laws::read_facts), unfolding(crate::specs::Point::prev_digest))]
+    pub fn prev_digest(&self) -> Option<Id>
+        ensures { option_map number result ≡ prev_digest (point_of self.now.rec.now self.now.info) }
+    {
+        map::get(self.includes(), self.info.id.author)
+    }
+
+    // The map that a link goes through.
+    fn map_of(&self, through: Through) -> &'a [u8]
+        ensures { pairs_of result.now ≡ through_map (through_of through) (point_of self.now.rec.now self.now.info) }
+    {
+        match through {
+            Through::Includes(_) => self.includes(),
+            Through::Witness(_) => self.witness(),
+        }
+    }
+
+    // The digest beside the peer that a link goes through.
+    #[tactic(auto, using(crate::proofs::Laws::read_facts), unfolding(crate::specs::Point::digest_safe))]
+    pub fn digest_safe(&self, through: Through) -> Option<Id>
+        ensures { option_map number result ≡ digest_safe (point_of self.now.rec.now self.now.info) (through_of through) }
+    {
+        map::get(self.map_of(through), through.peer())
+    }
+
+    // The point that a link goes through.
+    #[tactic(auto, unfolding(crate::specs::Point::through_id))]
+    pub fn through_id(&self, through: Through) -> Option<PointId>
+        ensures { option_map point_id_of result ≡ through_id (point_of self.now.rec.now self.now.info) (through_of through) }
+    {
+        let digest = self.digest_safe(through)?;
+        Some(PointId {
+            round: through.round(self.info.id.round),
+            digest,
+            author: through.peer(),
+        })
+    }
+
+    // The source of a link.
+    #[tactic(auto, using(parts::proofs::Laws::number_zero), unfolding(crate::specs::Point::source))]
+    fn source(&self, role: AnchorStageRole) -> PointId
+        ensures { point_id_of result ≡ source role (point_of self.now.rec.now self.now.info) }
+    {
+        let through = self.info.anchor_link(role).through();
+        PointId {
+            round: through.round(self.info.id.round),
+            digest: self.digest_safe(through).unwrap_or(parts::NO_ID),
+            author: through.peer(),
+        }
+    }
+
+    // The view of an anchor link: where it goes through, where it leads, and the point itself where it has the role.
+    #[tactic(auto, unfolding(crate::specs::Point::anchor))]
+    pub fn anchor(&self, role: AnchorStageRole) -> AnchorView
+        ensures { view_of result ≡ anchor role (point_of self.now.rec.now self.now.info) }
+    {
+        let source = self.source(role);
+        let target = target(source, self.info.anchor_link(role));
+        let has_role = self.info.role.is_anchor_stage(role);
+        let top = if has_role { self.info.id } else { target };
+        AnchorView {
+            top,
+            target,
+            source,
+        }
     }
 }

@@ -11,8 +11,7 @@ mod read;
 pub use data::{AnchorStageRole, PointMap, PointRole};
 pub use front::{is_point, is_record_in_domain};
 pub use info::{
-    AnchorView, INCLUDES, NO_POINT, PointId, PointInfo, StickyAnchors, anchor, digest_safe,
-    evidence, includes, is_in_domain, is_same_id, prev_digest, through_id, witness,
+    AnchorView, INCLUDES, NO_POINT, Point, PointId, PointInfo, StickyAnchors, is_same_id,
 };
 pub use link::{AnchorLink, IndirectLink, Through};
 pub use read::{known_point, point_id_at, read_point, read_shaped};

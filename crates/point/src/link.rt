@@ -1,9 +1,10 @@
 // Anchor links: the port of link.rs.
 ghost use Rattle.std.specs.Prelude.{◌≡◌};
 ghost use Rattle.parts.specs.Code.{number};
-ghost use Rattle.point.specs.Point.{is_wave_far_enough, through, through_round, through_peer};
+ghost use Rattle.point.specs.Point.{is_wave_far_enough, through, through_round, through_peer, point_map, target_round_of};
 ghost use Rattle.point.specs.Code.{through_of, link_of};
 
+use crate::data::PointMap;
 use crate::info::PointId;
 use parts::Id;
 
@@ -45,6 +46,18 @@ impl Through {
     }
 }
 
+// The map that a link goes through.
+impl From<Through> for PointMap {
+    ghost from_gives = { λ through map. map ≡ point_map (through_of through) };
+
+    fn from(through: Through) -> PointMap {
+        match through {
+            Through::Includes(_) => PointMap::Includes,
+            Through::Witness(_) => PointMap::Witness,
+        }
+    }
+}
+
 impl AnchorLink {
     pub fn through(self) -> Through
         ensures { through_of result ≡ through (link_of self) }
@@ -52,6 +65,16 @@ impl AnchorLink {
         match self {
             AnchorLink::Direct(t) => t,
             AnchorLink::Indirect(link) => link.through,
+        }
+    }
+
+    // The round of the link's target.
+    pub fn target_round(self, current_round: u32) -> u32
+        ensures { result ≡ target_round_of current_round (link_of self) }
+    {
+        match self {
+            AnchorLink::Direct(through) => through.round(current_round),
+            AnchorLink::Indirect(link) => link.to.round,
         }
     }
 

@@ -1,15 +1,15 @@
 // The reader of point records.
 ghost use Rattle.std.specs.Prelude.{◌≡◌, true, ◌+◌, ◌≤◌, length, Some, is_some};
 ghost use Rattle.record.specs.Record.{well_shaped};
-ghost use Rattle.record.specs.Code.{PlacesOf};
 ghost use Rattle.point.specs.Reading.{point_id_at, read_through, read_link, read_role, read_point};
-ghost use Rattle.point.specs.Code.{point_id_of, through_of, link_of, Reads, PointRead};
+ghost use Rattle.point.specs.Code.{point_id_of, through_of, link_of, Reads};
+ghost use Rattle.point.specs.Said.{PointRead};
 
 use crate::data::PointRole;
 use crate::front;
-use crate::info::{PointId, PointInfo};
+use crate::info::{Point, PointId, PointInfo};
 use crate::link::{AnchorLink, IndirectLink, Through};
-use record::Places;
+use record::Fields;
 
 // The id whose round, digest and author stand at a place.
 #[tactic(auto, unfolding(crate::specs::Reading::point_id_at))]
@@ -38,6 +38,7 @@ fn through_of(s: &[u8]) -> Through
     }
 }
 
+// A link that can be read. Its kind is a byte of the format, and is read here.
 #[tactic(auto, unfolding(crate::specs::Reading::read_link))]
 fn link_of(s: &[u8]) -> AnchorLink
     requires { (34 ≤ length s.now) × (is_some (read_link s.now) ≡ true) }
@@ -69,21 +70,21 @@ fn role_of(s: &[u8]) -> PointRole
     }
 }
 
-// What a record says that is a point, its fields at these places: nothing of it is tested.
+// What a record says that is a point: nothing of it is tested.
 #[tactic(auto, using(crate::proofs::Known::point_facts))]
-fn point_of(rec: &[u8], at: Places) -> PointInfo
-    requires { (is_some (read_point rec.now) ≡ true) × PlacesOf rec.now at }
-    ensures { Reads rec.now result }
+fn info_of(fields: &Fields) -> PointInfo
+    requires { is_some (read_point fields.now.rec.now) ≡ true }
+    ensures { Reads fields.now.rec.now result }
 {
-    let id = point_id_at(record::content_from(rec, 0, at.payload, 0), 0);
-    let payload = record::content_from(rec, at.payload, at.includes, 1);
-    let proof = record::content_from(rec, at.anchor_proof, at.anchor_trigger, 5);
-    let trigger = record::content_from(rec, at.anchor_trigger, at.role, 6);
-    let role = role_of(record::content_from(rec, at.role, at.times, 7));
-    let times = record::content_from(rec, at.times, rec.len(), 8);
-    let includes_end = at.witness as u16;
-    let witness_end = at.evidence as u16;
-    let evidence_end = at.anchor_proof as u16;
+    let id = point_id_at(fields.id(), 0);
+    let payload = fields.payload();
+    let proof = fields.anchor_proof();
+    let trigger = fields.anchor_trigger();
+    let role = role_of(fields.role());
+    let times = fields.times();
+    let includes_end = fields.at.witness as u16;
+    let witness_end = fields.at.evidence as u16;
+    let evidence_end = fields.at.anchor_proof as u16;
     PointInfo {
         id,
         payload_len: parts::u32_at(payload, 0),
@@ -101,25 +102,30 @@ fn point_of(rec: &[u8], at: Places) -> PointInfo
 
 // What a record says that was read before.
 #[tactic(auto, using(crate::proofs::Known::point_facts))]
-pub fn known_point(rec: &[u8]) -> PointInfo
+pub fn known_point(rec: &[u8]) -> Point<'_>
     requires { is_some (read_point rec.now) ≡ true }
-    ensures { Reads rec.now result }
+    ensures { result.rec.now ≡ rec.now }
 {
-    point_of(rec, record::find_places(rec))
+    let info = info_of(&Fields::find(rec));
+    Point { rec, info }
 }
 
 // What a record of the right shape says.
-pub fn read_shaped(rec: &[u8]) -> Option<PointInfo>
+pub fn read_shaped(rec: &[u8]) -> Option<Point<'_>>
     requires { well_shaped rec.now ≡ true }
     ensures { PointRead rec.now result }
 {
-    let at = record::find_places(rec);
-    front::is_point(rec, at).then(|| point_of(rec, at))
+    let fields = Fields::find(rec);
+    if !front::is_point(&fields) {
+        return None;
+    }
+    let info = info_of(&fields);
+    Some(Point { rec, info })
 }
 
 // What a slice that holds one point record says.
 #[tactic(auto, unfolding(crate::specs::Reading::read_point))]
-pub fn read_point(rec: &[u8]) -> Option<PointInfo>
+pub fn read_point(rec: &[u8]) -> Option<Point<'_>>
     ensures { PointRead rec.now result }
 {
     if record::is_well_shaped(rec) {

@@ -82,11 +82,10 @@ fn too_long(mut c: Counts, blob: Blob) -> Counts {
 
 // Reads one blob and counts what it is; one that is longer than the buffer is passed over.
 fn run_blob<R: Read>(c: Counts, file: &mut R, blob: Blob, buf: &mut [u8]) -> Counts {
-    let read = case_files::read_blob(file, buf, 0);
-    if !read.is_there {
-        return too_long(c, blob);
+    match case_files::read_blob(file, buf, 0) {
+        Some(end) => count(c, blob, buf, end),
+        None => too_long(c, blob),
     }
-    count(c, blob, buf, read.end)
 }
 
 fn run_case<R: Read>(mut c: Counts, file: &mut R, head: Head, buf: &mut [u8]) -> Counts {
@@ -101,10 +100,9 @@ fn run_case<R: Read>(mut c: Counts, file: &mut R, head: Head, buf: &mut [u8]) ->
 pub fn run<R: Read>(file: &mut R, buf: &mut [u8]) -> Counts {
     let mut c = NONE;
     for _ in 0..u64::MAX {
-        let head = case_files::read_head(file);
-        if !head.is_there {
+        let Some(head) = case_files::read_head(file) else {
             return c;
-        }
+        };
         c = run_case(c, file, head, buf);
     }
     c

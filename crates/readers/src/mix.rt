@@ -42,6 +42,7 @@ pub fn sum_of_set(rows: &[u8]) -> u64 {
 }
 
 // How many pairs a map has, and each.
+#[tactic(auto, using(point::proofs::Maps::map_facts))]
 pub fn sum_of_map(rows: &[u8]) -> u64 {
     let n = map::count(rows, 64);
     let mut sum = mix(0, n as u64);

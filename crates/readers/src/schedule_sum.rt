@@ -1,7 +1,7 @@
 // The sums of settings and of schedules. Of a schedule: its spans' first rounds, the last known round, and what it
 // answers at the rounds around each.
 use crate::mix::{mix, mix_id, sum_of_set};
-use schedule::{Schedule, Settings};
+use schedule::{PeerSchedule, Schedule, Settings};
 
 pub fn sum_of_settings(c: Settings) -> u64 {
     let genesis = mix_id(mix(0, u64::from(c.genesis_round)), c.genesis_digest);
@@ -27,27 +27,33 @@ fn require_number(require: Option<bool>) -> u64 {
     }
 }
 
-fn mix_round(sum: u64, s: &[u8], c: Schedule, round: u32) -> u64 {
-    let span = mix(sum, span_number(schedule::span_for(c, round)));
-    let peers = mix(span, sum_of_set(schedule::peers_for(s, c, round)));
-    let require = schedule::require_regular_points(c, round);
+fn mix_round(sum: u64, schedule: &PeerSchedule, round: u32) -> u64 {
+    let spans = schedule.spans;
+    let span = mix(sum, span_number(schedule::span_for(spans, round)));
+    let peers = mix(span, sum_of_set(schedule.peers_for(round)));
+    let require = schedule::require_regular_points(spans, round);
     mix(peers, require_number(require))
 }
 
 // What the schedule answers from five rounds before a round to one after it.
-fn mix_around(sum: u64, s: &[u8], c: Schedule, round: u32) -> u64 {
+fn mix_around(sum: u64, schedule: &PeerSchedule, round: u32) -> u64 {
     let first = round.wrapping_sub(5);
     let mut sum = mix(sum, u64::from(round));
     for k in 0..7 {
-        sum = mix_round(sum, s, c, first.wrapping_add(k));
+        sum = mix_round(sum, schedule, first.wrapping_add(k));
     }
     sum
 }
 
-pub fn sum_of_schedule(s: &[u8], c: Schedule) -> u64 {
-    let mut sum = mix(0, c.count as u64);
-    for span in c.spans.iter().take(c.count) {
-        sum = mix_around(sum, s, c, span.first);
+pub fn sum_of_schedule(schedule: &PeerSchedule) -> u64 {
+    let Schedule {
+        spans,
+        count,
+        last_known,
+    } = schedule.spans;
+    let mut sum = mix(0, count as u64);
+    for span in spans.iter().take(count) {
+        sum = mix_around(sum, schedule, span.first);
     }
-    mix_around(sum, s, c, c.last_known)
+    mix_around(sum, schedule, last_known)
 }

@@ -31,10 +31,10 @@ impl Tally {
     }
 
     pub fn schedule(&mut self, s: &[u8]) {
-        self.count(schedule::read_schedule(s).map(|c| sum_of_schedule(s, c)));
+        self.count(schedule::read_peer_schedule(s).map(|schedule| sum_of_schedule(&schedule)));
     }
 
     pub fn record(&mut self, rec: &[u8]) {
-        self.count(point::read_point(rec).map(|p| sum_of_point(rec, p)));
+        self.count(point::read_point(rec).map(|point| sum_of_point(&point)));
     }
 }

@@ -2,6 +2,8 @@
 use Rattle.reasons.specs.Invalid.{InvalidReason, InvalidDependency}
 use Rattle.reasons.specs.declared.ill_formed.UninitVset.{UninitVset}
 use Rattle.reasons.specs.declared.ill_formed.IllFormedReason.{IllFormedReason}
+use Rattle.reasons.specs.declared.ill_formed.VerifyError.{VerifyError}
+use Rattle.reasons.specs.declared.ill_formed.VerifyError.TheVariants as case-error
 
 pub data Verdict : Type 0 where
   Fail : UninitVset → Verdict
@@ -9,3 +11,8 @@ pub data Verdict : Type 0 where
   Invalid : InvalidReason → Verdict
   TransInvalid : InvalidDependency → Verdict
   Valid : Verdict
+
+-- the verdict on a point that verification didn't pass
+abbrev pub of_error : VerifyError → Verdict
+of_error (case-error.Fail u) = Fail u
+of_error (case-error.IllFormed r) = IllFormed r

@@ -57,6 +57,7 @@ pub struct UninitVset {
     pub map: PointMap,
 }
 
+// As in verifier.rs, where both cases are errors.
 #[derive(Clone, Copy)]
 pub enum VerifyError {
     Fail(UninitVset),

@@ -86,7 +86,9 @@ impl InvalidReason {
     }
 }
 
-// Whether the reason of a number has a DAG round, and whether there is such a reason.
+// Whether the reason of a number has a DAG round, and whether there is such a reason. It matches on numbers, since lists and books
+// carry the reason of a dependency by its number alone.
+#[tactic(auto, unfolding(crate::specs::Invalid::dag_round))]
 pub fn dag_round(number: u8) -> Option<bool>
     ensures { result ≡ dag_round number }
 {

@@ -174,6 +174,14 @@ pub shaped-end : (s : List ℕ) → well_shaped s ≡ true → record_end s ≡ 
 unfolding well_shaped
 shaped-end s w = ends_at (record_end s) (length s) w
 
+-- the first field of a record starts at its front, and after the last one nothing stands
+pub start_first : (s : List ℕ) → start_of s 0 ≡ 0
+unfolding start_of
+start_first s = refl
+
+pub start_last : (s : List ℕ) → well_shaped s ≡ true → start_of s 9 ≡ length s
+start_last s w = end_is s (length s) (shaped-end s w)
+
 pub end-shaped : (s : List ℕ) → record_end s ≡ Some (length s) → well_shaped s ≡ true
 unfolding well_shaped
 end-shaped s h = grind (arith, nat_tests)

@@ -1,9 +1,13 @@
 // Fields of a tag, a length and content, and the table of the nine fields of a point record.
 #![tactic(auto)]
 
+mod fields;
+
 ghost use Rattle.std.specs.Prelude.{◌≡◌, true, ◌+◌, ◌<◌, ◌≤◌, length, Some, None, is_some, MatchOption};
 ghost use Rattle.record.specs.Record.{length_at, field_ok, next_at, content_at, start_of, content_of, record_end, well_shaped};
 ghost use Rattle.record.specs.Code.{PlacesOf, length_if, Walked, ShapeOf};
+
+pub use fields::Fields;
 
 // A row of the table of fields: the tag, and the least and the greatest length of the content.
 #[derive(Clone, Copy)]
@@ -56,7 +60,8 @@ pub struct Shape {
     pub end: usize,
 }
 
-// Where the field after the one at a place starts; a field that is cut off ends with the slice.
+// Where the field after the one at a place starts; a field that is cut off ends with the slice. That a place lies in the slice is asked
+// of each function: a place moves with each field, and a struct of both would be made anew at each step.
 #[tactic(auto, unfolding(crate::specs::Record::next_at))]
 pub fn next(s: &[u8], at: usize) -> usize
     requires { at ≤ length s.now }
@@ -202,30 +207,4 @@ pub fn content_from(rec: &[u8], at: usize, end: usize, k: usize) -> &[u8]
     ensures { result.now ≡ content_of rec.now k }
 {
     &rec[at + 3..end]
-}
-
-// Where the fields of a whole record start, found in one walk.
-#[tactic(auto, unfolding(crate::specs::Record::start_of))]
-pub fn find_places(rec: &[u8]) -> Places
-    requires { well_shaped rec.now ≡ true }
-    ensures { PlacesOf rec.now result }
-{
-    let payload = field_end(rec, 0);
-    let includes = field_end(rec, payload);
-    let witness = field_end(rec, includes);
-    let evidence = field_end(rec, witness);
-    let anchor_proof = field_end(rec, evidence);
-    let anchor_trigger = field_end(rec, anchor_proof);
-    let role = field_end(rec, anchor_trigger);
-    let times = field_end(rec, role);
-    Places {
-        payload,
-        includes,
-        witness,
-        evidence,
-        anchor_proof,
-        anchor_trigger,
-        role,
-        times,
-    }
 }

@@ -1,48 +1,38 @@
 // One case in a buffer, its blobs one after another.
-use case_files::Head;
+use crate::failure::Failure;
 use std::io::Read;
 
-// Blob i stands from ends[i] to ends[i + 1].
+// A case's first eight blobs, of which the last are empty where it has fewer.
 #[derive(Clone, Copy)]
-pub struct Case {
-    pub ends: [usize; 9],
-    pub is_whole: bool,
+pub struct Case<'a> {
+    pub blobs: [&'a [u8]; 8],
 }
 
-// The head of a case of which the first blob was read.
-pub fn without_first(head: Head) -> Head {
-    let mut head = head;
-    if 0 < head.blobs {
-        head.blobs -= 1;
+// Reads past blobs of which nothing is needed.
+fn pass_over<R: Read>(file: &mut R, blobs: u8, buf: &mut [u8]) {
+    for _ in 0..blobs {
+        case_files::read_blob(file, buf, 0);
     }
-    head
 }
 
-pub fn read_case<R: Read>(file: &mut R, head: Head, buf: &mut [u8]) -> Case {
-    let mut ends = [0usize; 9];
-    let mut is_whole = true;
-    let mut end = 0;
-    for i in 0..head.blobs {
-        let blob = case_files::read_blob(file, buf, end);
-        end = blob.end;
-        is_whole = is_whole && blob.is_there;
+// Reads a case of this many blobs, or past it where one of them is not there or has no room.
+pub fn read_case<'a, R: Read>(
+    file: &mut R,
+    blobs: u8,
+    buf: &'a mut [u8],
+) -> Result<Case<'a>, Failure<'a>> {
+    let mut case: [&[u8]; 8] = [&[]; 8];
+    let mut rest = buf;
+    for i in 0..blobs {
+        let Some(end) = case_files::read_blob(file, rest, 0) else {
+            pass_over(file, blobs - 1 - i, rest);
+            return Err(Failure::NoRoom);
+        };
+        let (blob, others) = rest.split_at_mut(end);
         if i < 8 {
-            ends[i as usize + 1] = end;
+            case[i as usize] = blob;
         }
+        rest = others;
     }
-    Case { ends, is_whole }
-}
-
-// A blob of a case that was read into this buffer.
-pub fn blob(buf: &[u8], case: Case, i: usize) -> &[u8] {
-    if 7 < i {
-        return &buf[0..0];
-    }
-    let ends = case.ends;
-    let start = ends[i];
-    let end = ends[i + 1];
-    if buf.len() < end || end < start {
-        return &buf[0..0];
-    }
-    &buf[start..end]
+    Ok(Case { blobs: case })
 }

@@ -1,91 +1,63 @@
-// How many cases there were of each kind, how many of them were answered otherwise, for how many there was no room, the
-// place of the last, from 1, and the length of the book that offers go to.
-#[derive(Clone, Copy)]
+// How many cases there were of each kind, how many of them were answered otherwise, for how many there was no room, and the
+// place of the last, from 1.
+use crate::failure::Failure;
+use crate::kind::Kind;
+use std::fmt;
+use std::fmt::{Display, Formatter, Write};
+
+#[derive(Clone, Copy, Default)]
 pub struct Counts {
-    pub place: u64,
-    pub verify: u64,
-    pub judge: u64,
-    pub open: u64,
-    pub offer: u64,
-    pub other: u64,
-    pub different: u64,
-    pub no_room: u64,
-    pub book: usize,
+    place: u64,
+    verify: u64,
+    judge: u64,
+    open: u64,
+    offer: u64,
+    other: u64,
+    different: u64,
+    no_room: u64,
 }
 
-pub const NONE: Counts = Counts {
-    place: 0,
-    verify: 0,
-    judge: 0,
-    open: 0,
-    offer: 0,
-    other: 0,
-    different: 0,
-    no_room: 0,
-    book: 0,
-};
-
 impl Counts {
-    pub fn next_place(self) -> Counts {
-        Counts {
-            place: self.place.wrapping_add(1),
-            ..self
-        }
+    // One more case.
+    pub fn add(&mut self, kind: Kind) {
+        self.place = self.place.wrapping_add(1);
+        let count = match kind {
+            Kind::Verify => &mut self.verify,
+            Kind::Judge => &mut self.judge,
+            Kind::Open | Kind::OpenApart => &mut self.open,
+            Kind::Offer | Kind::OfferToGiven => &mut self.offer,
+            Kind::Other => &mut self.other,
+        };
+        *count = count.wrapping_add(1);
     }
 
-    pub fn one_verify(self) -> Counts {
-        Counts {
-            verify: self.verify.wrapping_add(1),
-            ..self
+    // The last case has failed. That is told on standard error, but of the differences only the first, since the cases that
+    // are wrong on purpose all differ. What standard error does not take is lost.
+    pub fn fail(&mut self, rt: &impl Eprint, failure: Failure<'_>) {
+        let place = self.place;
+        match failure {
+            Failure::NoRoom => {
+                let _ = eprintln!(rt; "no room: case {place}");
+                self.no_room = self.no_room.wrapping_add(1);
+            }
+            Failure::Different(difference) => {
+                if self.different == 0 {
+                    let _ = difference.show(rt, place);
+                }
+                self.different = self.different.wrapping_add(1);
+            }
         }
     }
+}
 
-    pub fn one_judge(self) -> Counts {
-        Counts {
-            judge: self.judge.wrapping_add(1),
-            ..self
-        }
-    }
-
-    pub fn one_open(self) -> Counts {
-        Counts {
-            open: self.open.wrapping_add(1),
-            ..self
-        }
-    }
-
-    pub fn one_offer(self) -> Counts {
-        Counts {
-            offer: self.offer.wrapping_add(1),
-            ..self
-        }
-    }
-
-    pub fn one_other(self) -> Counts {
-        Counts {
-            other: self.other.wrapping_add(1),
-            ..self
-        }
-    }
-
-    pub fn one_different(self) -> Counts {
-        Counts {
-            different: self.different.wrapping_add(1),
-            ..self
-        }
-    }
-
-    pub fn one_no_room(self) -> Counts {
-        Counts {
-            no_room: self.no_room.wrapping_add(1),
-            ..self
-        }
-    }
-
-    pub fn with_book(self, length: usize) -> Counts {
-        Counts {
-            book: length,
-            ..self
-        }
+impl Display for Counts {
+    fn fmt<W: Write>(&self, f: &mut Formatter<W>) -> fmt::Result {
+        writeln!(f, "verify cases {}", self.verify)?;
+        writeln!(f, "judge cases {}", self.judge)?;
+        writeln!(f, "openings {}", self.open)?;
+        writeln!(f, "offers {}", self.offer)?;
+        writeln!(f, "other cases {}", self.other)?;
+        writeln!(f, "no room {}", self.no_room)?;
+        write!(f, "different {} of {}", self.different, self.place)
     }
 }

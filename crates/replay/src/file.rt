@@ -1,154 +1,93 @@
 // The cases of a file.
+use crate::case::read_case;
 use crate::counts::Counts;
-use crate::{case, compare, counts, judge_case, offer_case, open_case, verify_case};
-use case_files::Head;
+use crate::failure::Failure;
+use crate::kind::Kind;
+use crate::{judge_case, offer_case, open_case, verify_case};
 use std::io::Read;
 
-fn run_verify<R: Read>(
-    rt: &impl Eprint,
-    c: Counts,
-    file: &mut R,
-    head: Head,
-    buf: &mut [u8],
-    peers: &mut [u8],
-) -> Counts {
-    let c = c.one_verify();
-    let case = case::read_case(file, head, buf);
-    if !case.is_whole {
-        return compare::no_room(rt, c);
-    }
-    verify_case::replay(rt, c, case, buf, peers)
+const CASE_ROOM: usize = 1048576;
+
+const PEERS_ROOM: usize = 16384;
+
+const BOOK_ROOM: usize = 65536;
+
+// A book, and how long it is: with no heap the memory for it is fixed, as under the calls that are replayed.
+#[derive(Drop)]
+pub struct Book {
+    pub bytes: [u8; BOOK_ROOM],
+    pub len: usize,
 }
 
-fn run_judge<R: Read>(
-    rt: &impl Eprint,
-    c: Counts,
-    file: &mut R,
-    head: Head,
-    buf: &mut [u8],
-    peers: &mut [u8],
-) -> Counts {
-    let c = c.one_judge();
-    let case = case::read_case(file, head, buf);
-    if !case.is_whole {
-        return compare::no_room(rt, c);
-    }
-    judge_case::replay(rt, c, case, buf, peers)
+// Where a case is read, the peers that a call hands back, the book that offers go to, and another book.
+#[derive(Drop)]
+pub struct Room {
+    case: [u8; CASE_ROOM],
+    peers: [u8; PEERS_ROOM],
+    book: Book,
+    spare: Book,
 }
 
-fn run_open<R: Read>(
-    rt: &impl Eprint,
-    c: Counts,
-    file: &mut R,
-    head: Head,
-    buf: &mut [u8],
-    book: &mut [u8],
-) -> Counts {
-    let c = c.one_open();
-    let case = case::read_case(file, head, buf);
-    if !case.is_whole {
-        return compare::no_room(rt, c);
-    }
-    open_case::replay(rt, c, case, buf, book)
-}
+const NO_BOOK: Book = Book {
+    bytes: [0; BOOK_ROOM],
+    len: 0,
+};
 
-// The same in a slice of its own: the book that offers go to stays.
-fn run_apart<R: Read>(
-    rt: &impl Eprint,
-    c: Counts,
-    file: &mut R,
-    head: Head,
-    buf: &mut [u8],
-    spare: &mut [u8],
-) -> Counts {
-    let opened = run_open(rt, c, file, head, buf, spare);
-    opened.with_book(c.book)
-}
-
-fn run_offer<R: Read>(
-    rt: &impl Eprint,
-    c: Counts,
-    file: &mut R,
-    head: Head,
-    buf: &mut [u8],
-    peers: &mut [u8],
-    book: &mut [u8],
-) -> Counts {
-    let c = c.one_offer();
-    let case = case::read_case(file, head, buf);
-    let n = c.book;
-    if !case.is_whole || book.len() < n {
-        return compare::no_room(rt, c);
-    }
-    offer_case::replay(rt, c, case, buf, peers, &mut book[0..n])
-}
-
-// The book is the first blob, and is read into a slice of its own.
-fn run_given<R: Read>(
-    rt: &impl Eprint,
-    c: Counts,
-    file: &mut R,
-    head: Head,
-    buf: &mut [u8],
-    peers: &mut [u8],
-    spare: &mut [u8],
-) -> Counts {
-    let given = case_files::read_blob(file, spare, 0);
-    let offered = run_offer(
-        rt,
-        c.with_book(given.end),
-        file,
-        case::without_first(head),
-        buf,
-        peers,
-        spare,
-    );
-    offered.with_book(c.book)
-}
-
-fn run_other<R: Read>(c: Counts, file: &mut R, head: Head, buf: &mut [u8]) -> Counts {
-    case::read_case(file, head, buf);
-    c.one_other()
-}
-
-fn run_case<R: Read>(
-    rt: &impl Eprint,
-    c: Counts,
-    file: &mut R,
-    head: Head,
-    buf: &mut [u8],
-    peers: &mut [u8],
-    book: &mut [u8],
-    spare: &mut [u8],
-) -> Counts {
-    let c = c.next_place();
-    match head.kind {
-        1 => run_verify(rt, c, file, head, buf, peers),
-        2 => run_judge(rt, c, file, head, buf, peers),
-        3 => run_apart(rt, c, file, head, buf, spare),
-        4 => run_open(rt, c, file, head, buf, book),
-        5 => run_offer(rt, c, file, head, buf, peers, book),
-        6 => run_given(rt, c, file, head, buf, peers, spare),
-        _ => run_other(c, file, head, buf),
-    }
-}
-
-// A proved loop has to end, and nothing says that a file does: so its turns are numbered.
-pub fn run<R: Read>(
-    rt: &impl Eprint,
-    file: &mut R,
-    buf: &mut [u8],
-    peers: &mut [u8],
-    book: &mut [u8],
-    spare: &mut [u8],
-) -> Counts {
-    let mut c = counts::NONE;
-    for turn in 0..u64::MAX {
-        let head = case_files::read_head(file);
-        if !head.is_there {
-            return c;
+impl Room {
+    pub fn new() -> Room {
+        Room {
+            case: [0; CASE_ROOM],
+            peers: [0; PEERS_ROOM],
+            book: NO_BOOK,
+            spare: NO_BOOK,
         }
-        c = run_case(rt, c, file, head, buf, peers, book, spare);
     }
-    c
+}
+
+fn replay<'a, R: Read>(
+    file: &mut R,
+    kind: Kind,
+    blobs: u8,
+    room: &'a mut Room,
+) -> Result<(), Failure<'a>> {
+    let Room {
+        case: buf,
+        peers,
+        book,
+        spare,
+    } = room;
+    match kind {
+        Kind::Verify => verify_case::replay(read_case(file, blobs, buf)?, peers),
+        Kind::Judge => judge_case::replay(read_case(file, blobs, buf)?, peers),
+        Kind::OpenApart => open_case::replay(read_case(file, blobs, buf)?, spare),
+        Kind::Open => open_case::replay(read_case(file, blobs, buf)?, book),
+        Kind::Offer => offer_case::replay(read_case(file, blobs, buf)?, peers, book),
+        Kind::OfferToGiven => {
+            spare.len = case_files::read_blob(file, &mut spare.bytes, 0).unwrap_or(0);
+            let others = blobs.saturating_sub(1);
+            offer_case::replay(read_case(file, others, buf)?, peers, spare)
+        }
+        Kind::Other => {
+            let _ = read_case(file, blobs, buf);
+            Ok(())
+        }
+    }
+}
+
+// Offers go to the book that the file itself opened, and before that to an empty one. A proved loop has to end, and nothing says
+// that a file does: so its turns are numbered.
+pub fn run<R: Read>(rt: &impl Eprint, file: &mut R, room: &mut Room) -> Counts {
+    let mut counts = Counts::default();
+    room.book.len = 0;
+    for _ in 0..u64::MAX {
+        let Some(head) = case_files::read_head(file) else {
+            return counts;
+        };
+        let kind = Kind::from(head.kind);
+        counts.add(kind);
+        if let Err(failure) = replay(file, kind, head.blobs, room) {
+            counts.fail(rt, failure);
+        }
+    }
+    counts
 }

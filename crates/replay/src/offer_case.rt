@@ -1,56 +1,33 @@
 // A case of kind 5, and of kind 6 after the book that it is offered to: schedule, leader (1), point record, the peer
 // buffer's length (4), the sha256 of the book's slice afterwards, the answer.
+use crate::answer::{Answer, LENT};
 use crate::case::Case;
-use crate::compare::LENT;
-use crate::counts::Counts;
-use crate::{case, compare, sha256, verify_case};
+use crate::failure::{Difference, Failure};
+use crate::file::Book;
+use crate::{lent, sha256};
 
-fn call(
-    rt: &impl Eprint,
-    c: Counts,
-    case: Case,
-    buf: &[u8],
-    leader: u8,
-    peers: &mut [u8],
-    book: &mut [u8],
-) -> Counts {
-    peers.fill(LENT);
-    let mut answer = [LENT; 114];
-    let number = wutherdish::wutherdish_offer(
-        book,
-        case::blob(buf, case, 0),
-        leader,
-        case::blob(buf, case, 2),
-        peers,
-        &mut answer,
-    );
-    let is_book = sha256::is_digest(book, case::blob(buf, case, 4));
-    compare::compare_offered(
-        rt,
-        c,
-        case::blob(buf, case, 5),
+pub fn replay<'a>(
+    case: Case<'a>,
+    peers: &'a mut [u8],
+    book: &'a mut Book,
+) -> Result<(), Failure<'a>> {
+    let [schedule, leader, rec, length, digest, want, ..] = case.blobs;
+    let &[leader] = leader else {
+        return Err(Failure::NoRoom);
+    };
+    let Book { bytes, len } = book;
+    let book = bytes.get_mut(..*len).ok_or(Failure::NoRoom)?;
+    let peers = lent::lend(peers, length)?;
+    let mut bytes = [LENT; 114];
+    let number = wutherdish::wutherdish_offer(book, schedule, leader, rec, peers, &mut bytes);
+    Answer {
         number,
-        &answer,
+        bytes,
         peers,
-        is_book,
-    )
-}
-
-pub fn replay(
-    rt: &impl Eprint,
-    c: Counts,
-    case: Case,
-    buf: &[u8],
-    peers: &mut [u8],
-    book: &mut [u8],
-) -> Counts {
-    let leader = case::blob(buf, case, 1);
-    if leader.len() != 1 {
-        return compare::no_room(rt, c);
     }
-    let n = verify_case::length_of(case::blob(buf, case, 3));
-    if peers.len() < n {
-        return compare::no_room(rt, c);
+    .check(want)?;
+    if sha256::digest(book).as_slice() != digest {
+        return Err(Failure::Different(Difference::Book));
     }
-    call(rt, c, case, buf, leader[0], &mut peers[0..n], book)
+    Ok(())
 }

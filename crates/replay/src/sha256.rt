@@ -1,29 +1,7 @@
-// SHA-256 (FIPS 180-4): a case names the bytes of a book by it. No message longer than the longest book is taken.
-ghost use Rattle.std.specs.Prelude.{◌<◌, ◌≤◌, length};
-ghost use Rattle.parts.specs.Limits.{longest_book};
-
-#[derive(Clone, Copy)]
-struct State {
-    a: u32,
-    b: u32,
-    c: u32,
-    d: u32,
-    e: u32,
-    f: u32,
-    g: u32,
-    h: u32,
-}
-
-const START: State = State {
-    a: 0x6a09e667,
-    b: 0xbb67ae85,
-    c: 0x3c6ef372,
-    d: 0xa54ff53a,
-    e: 0x510e527f,
-    f: 0x9b05688c,
-    g: 0x1f83d9ab,
-    h: 0x5be0cd19,
-};
+// SHA-256 (FIPS 180-4): a case names the bytes of a book by it.
+const START: [u32; 8] = [
+    0x6a09e667, 0xbb67ae85, 0x3c6ef372, 0xa54ff53a, 0x510e527f, 0x9b05688c, 0x1f83d9ab, 0x5be0cd19,
+];
 
 const ROUNDS: [u32; 64] = [
     0x428a2f98, 0x71374491, 0xb5c0fbcf, 0xe9b5dba5, 0x3956c25b, 0x59f111f1, 0x923f82a4, 0xab1c5ed5,
@@ -35,42 +13,6 @@ const ROUNDS: [u32; 64] = [
     0x19a4c116, 0x1e376c08, 0x2748774c, 0x34b0bcb5, 0x391c0cb3, 0x4ed8aa4a, 0x5b9cca4f, 0x682e6ff3,
     0x748f82ee, 0x78a5636f, 0x84c87814, 0x8cc70208, 0x90befffa, 0xa4506ceb, 0xbef9a3f7, 0xc67178f2,
 ];
-
-fn add(x: u32, y: u32) -> u32 {
-    x.wrapping_add(y)
-}
-
-// A byte of a message, or what follows it: the bit 1, then zeros.
-fn byte_at(s: &[u8], at: usize) -> u32 {
-    if at < s.len() {
-        return s[at] as u32;
-    }
-    if at == s.len() {
-        return 128;
-    }
-    0
-}
-
-fn big_endian(s: &[u8], at: usize) -> u32 {
-    let high = byte_at(s, at) << 24 | byte_at(s, at.wrapping_add(1)) << 16;
-    high | byte_at(s, at.wrapping_add(2)) << 8 | byte_at(s, at.wrapping_add(3))
-}
-
-// A length in bits.
-fn bits(n: usize) -> u32 {
-    if parts::LONGEST_BOOK < n {
-        return 0;
-    }
-    8 * n as u32
-}
-
-// A word of a message that is filled up to whole blocks: in the last one its length stands.
-fn word_at(s: &[u8], last: usize, at: usize) -> u32 {
-    if at == last {
-        return bits(s.len());
-    }
-    big_endian(s, at)
-}
 
 fn turned_0(x: u32) -> u32 {
     x.rotate_right(7) ^ x.rotate_right(18) ^ x >> 3
@@ -96,88 +38,71 @@ fn majority(a: u32, b: u32, c: u32) -> u32 {
     a & b ^ a & c ^ b & c
 }
 
-// The word of a round, from the block at this place, or from the words before it.
-fn round_word(words: &[u32; 64], s: &[u8], last: usize, at: usize, t: usize) -> u32
-    requires { t < 64 }
-{
-    if t < 16 {
-        return word_at(s, last, at.wrapping_add(4 * t));
-    }
-    let before = add(words[t - 16], turned_0(words[t - 15]));
-    add(before, add(words[t - 7], turned_1(words[t - 2])))
-}
-
-fn round(s: State, constant: u32, word: u32) -> State {
-    let first = add(
-        add(s.h, turned_e(s.e)),
-        add(chosen(s.e, s.f, s.g), add(constant, word)),
-    );
-    let second = add(turned_a(s.a), majority(s.a, s.b, s.c));
-    State {
-        a: add(first, second),
-        b: s.a,
-        c: s.b,
-        d: s.c,
-        e: add(s.d, first),
-        f: s.e,
-        g: s.f,
-        h: s.g,
-    }
-}
-
-fn sum(s: State, r: State) -> State {
-    State {
-        a: add(s.a, r.a),
-        b: add(s.b, r.b),
-        c: add(s.c, r.c),
-        d: add(s.d, r.d),
-        e: add(s.e, r.e),
-        f: add(s.f, r.f),
-        g: add(s.g, r.g),
-        h: add(s.h, r.h),
-    }
-}
-
-// The state after one more block, which stands at this place.
-fn add_block(start: State, s: &[u8], last: usize, at: usize) -> State {
+// The words of a block's rounds: its own, and then each from those before it.
+fn round_words(block: &[u8; 64]) -> [u32; 64] {
     let mut words = [0u32; 64];
-    let mut state = start;
-    for t in 0..64usize {
-        let word = round_word(&words, s, last, at, t);
-        words[t] = word;
-        state = round(state, ROUNDS[t], word);
+    let (own, _) = block.as_chunks::<4>();
+    for (word, four) in words.iter_mut().zip(own) {
+        *word = u32::from_be_bytes(*four);
     }
-    sum(start, state)
+    for t in 16..64usize {
+        words[t] = words[t - 16]
+            .wrapping_add(turned_0(words[t - 15]))
+            .wrapping_add(words[t - 7])
+            .wrapping_add(turned_1(words[t - 2]));
+    }
+    words
 }
 
-fn digest(s: &[u8]) -> State
-    requires { length s.now ≤ longest_book }
-{
-    let end = (s.len() + 8) / 64 * 64 + 64;
-    let mut state = START;
-    let mut at = 0;
-    while at < end {
-        state = add_block(state, s, end - 4, at);
-        at += 64;
+fn round(state: [u32; 8], constant: u32, word: u32) -> [u32; 8] {
+    let [a, b, c, d, e, f, g, h] = state;
+    let first = h
+        .wrapping_add(turned_e(e))
+        .wrapping_add(chosen(e, f, g))
+        .wrapping_add(constant)
+        .wrapping_add(word);
+    let second = turned_a(a).wrapping_add(majority(a, b, c));
+    [
+        first.wrapping_add(second),
+        a,
+        b,
+        c,
+        d.wrapping_add(first),
+        e,
+        f,
+        g,
+    ]
+}
+
+// The state after more blocks.
+fn add_blocks(start: [u32; 8], blocks: &[[u8; 64]]) -> [u32; 8] {
+    let mut state = start;
+    for block in blocks {
+        let before = state;
+        for (constant, word) in ROUNDS.iter().zip(round_words(block)) {
+            state = round(state, *constant, word);
+        }
+        for (word, old) in state.iter_mut().zip(before) {
+            *word = word.wrapping_add(old);
+        }
     }
     state
 }
 
-fn is_state(s: State, want: &[u8]) -> bool {
-    let first = s.a ^ big_endian(want, 0) | s.b ^ big_endian(want, 4);
-    let second = s.c ^ big_endian(want, 8) | s.d ^ big_endian(want, 12);
-    let third = s.e ^ big_endian(want, 16) | s.f ^ big_endian(want, 20);
-    let last = s.g ^ big_endian(want, 24) | s.h ^ big_endian(want, 28);
-    first | second | third | last == 0
-}
-
-// Whether these 32 bytes are the digest of the message.
-pub fn is_digest(s: &[u8], want: &[u8]) -> bool {
-    if parts::LONGEST_BOOK < s.len() {
-        return false;
+pub fn digest(message: &[u8]) -> [u8; 32] {
+    let (blocks, rest) = message.as_chunks::<64>();
+    let mut last = [0u8; 128];
+    last[..rest.len()].copy_from_slice(rest);
+    last[rest.len()] = 0x80;
+    let end = if rest.len() < 56 { 64 } else { 128 };
+    let bits = (message.len() as u64).wrapping_mul(8);
+    last[end - 8..end].copy_from_slice(&bits.to_be_bytes());
+    let (last_blocks, _) = last[..end].as_chunks::<64>();
+    let state = add_blocks(add_blocks(START, blocks), last_blocks);
+    let mut digest = [0u8; 32];
+    let (fours, _) = digest.as_chunks_mut::<4>();
+    for (four, word) in fours.iter_mut().zip(state) {
+        *four = word.to_be_bytes();
     }
-    if want.len() != 32 {
-        return false;
-    }
-    is_state(digest(s), want)
+    digest
 }

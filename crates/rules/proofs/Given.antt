@@ -20,7 +20,7 @@ use Rattle.point.specs.declared.data.AnchorStageRole.{AnchorStageRole}
 use Rattle.schedule.specs.Settings.{Settings, read_settings}
 use Rattle.schedule.specs.Schedule.{Schedule, read_schedule}
 use Rattle.reasons.specs.Invalid.{InvalidReason, InvalidDependency}
-use Rattle.reasons.specs.Verdict.{Verdict}
+use Rattle.reasons.specs.Verdict.{Verdict, of_error}
 use Rattle.reasons.specs.declared.ill_formed.VerifyError.{VerifyError}
 use Rattle.reasons.specs.declared.ill_formed.VerifyError.TheVariants as case-error
 use Rattle.reasons.specs.declared.ill_formed.WaveChecked.{WaveChecked}
@@ -31,7 +31,7 @@ use Rattle.rules.specs.Mismatch.{mismatch, uncovered}
 use Rattle.rules.specs.Verify.{verify}
 use Rattle.rules.specs.CheckIllFormed.{wave_checked}
 use Rattle.rules.specs.Validate.{join, result_with, validate}
-use Rattle.rules.specs.Judge.{Input, Tested, refused, admitted, tested_with, tested, Number, Given, of_error, Before, answered, needed, before_with, before, over_entries, over_list, judge_from, flags_ok, judge_with}
+use Rattle.rules.specs.Judge.{Input, Tested, refused, admitted, tested_with, tested, Number, Given, Before, answered, needed, before_with, before, over_entries, over_list, judge_from, flags_ok, judge_with}
 use Rattle.rules.specs.Passed.{has_reason}
 use Rattle.rules.specs.Told.{Call}
 use Rattle.rules.specs.AnyOrder.{GivenOrder}

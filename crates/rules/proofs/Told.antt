@@ -20,6 +20,7 @@ use Rattle.schedule.specs.Schedule.{Schedule, read_schedule, require_regular_poi
 use Rattle.schedule.proofs.Laws.{peers-few}
 use Rattle.reasons.specs.IllFormed.{ill_formed_answer}
 use Rattle.reasons.specs.Verdict as verdict
+use Rattle.reasons.specs.Verdict.{of_error}
 use Rattle.reasons.specs.declared.ill_formed.IllFormedReason.TheVariants.{NotRegular, BadWaveLink}
 use Rattle.reasons.specs.declared.ill_formed.VerifyError.{VerifyError}
 use Rattle.reasons.specs.declared.ill_formed.VerifyError.TheVariants as case-error
@@ -31,7 +32,7 @@ use Rattle.rules.specs.DagPoint.{Entry, IndirectEntry}
 use Rattle.rules.specs.List.{Listed, read_list, directs, indirects}
 use Rattle.rules.specs.Mismatch.{mismatch, uncovered}
 use Rattle.rules.specs.Validate.{validate}
-use Rattle.rules.specs.Judge.{VerifyAnswer, Input, Tested, refused, admitted, tested_with, tested, verified_from, verify_with, JudgeAnswer, Number, Given, of_error, Before, answered, needed, before_with, before, over_entries, over_list, judge_from, flags_ok, judge_with}
+use Rattle.rules.specs.Judge.{VerifyAnswer, Input, Tested, refused, admitted, tested_with, tested, verified_from, verify_with, JudgeAnswer, Number, Given, Before, answered, needed, before_with, before, over_entries, over_list, judge_from, flags_ok, judge_with}
 use Rattle.rules.specs.Answer.{verified_answer, verdict_answer, answer_bytes, verify_number, verify_answer, judge_number, judge_answer}
 use Rattle.rules.specs.Told.{Call, OfBytes, verified, judged, Told}
 use Rattle.rules.proofs.Fits.{point-fits}

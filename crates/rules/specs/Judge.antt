@@ -9,14 +9,13 @@ use Rattle.schedule.specs.Settings.{Settings, read_settings}
 use Rattle.schedule.specs.Schedule.{Schedule, read_schedule}
 use Rattle.reasons.specs.declared.ill_formed.VerifyError.{VerifyError}
 use Rattle.rules.specs.Verify.{scheduled, verify, buffer_with}
-use Rattle.reasons.specs.Verdict.{Verdict, Fail, IllFormed, Valid}
+use Rattle.reasons.specs.Verdict.{Verdict, IllFormed, Valid, of_error}
 use Rattle.rules.specs.DagPoint.{Entry, IndirectEntry}
 use Rattle.rules.specs.Validate.{validate}
 use Rattle.rules.specs.CheckIllFormed.{wave_checked}
 use Rattle.reasons.specs.declared.ill_formed.WaveChecked.{WaveChecked}
 use Rattle.rules.specs.List.{Listed, read_list, directs, indirects}
 use Rattle.rules.specs.Mismatch.{mismatch, uncovered}
-use Rattle.reasons.specs.declared.ill_formed.VerifyError.TheVariants as case-error
 use Rattle.reasons.specs.declared.ill_formed.WaveChecked.TheVariants as case-wave
 
 -- ---- the numbers 1 to 5
@@ -73,10 +72,6 @@ verify_buffer (admitted i) buffer =
 pub data JudgeAnswer : Type 0 where
   Number : ℕ → JudgeAnswer
   Given : Verdict → JudgeAnswer
-
-abbrev pub of_error : VerifyError → Verdict
-of_error (case-error.Fail u) = Fail u
-of_error (case-error.IllFormed r) = IllFormed r
 
 -- ---- before any list is read: an answer, or that the list is needed if presence is 2 or 3, regular points required or not
 

@@ -4,7 +4,7 @@ use Rattle.std.specs.Prelude.{ℕ, ◌-◌, Bool, true, false, not, ◌&&◌, �
 use Rattle.base.specs.Base.{pick, when, concat, first_of, is_empty}
 use Rattle.parts.specs.Parts.{one_f, majority, majority_of_others}
 use Rattle.map.specs.Rows.{find, peers}
-use Rattle.point.specs.Point.{Through, Includes, Witness, AnchorLink, Direct, Indirect, PointInfo, is_anchor_trigger, requires_prev_point, through_round, digest_safe}
+use Rattle.point.specs.Point.{Includes, Witness, AnchorLink, Direct, Indirect, PointInfo, is_anchor_trigger, requires_prev_point, through_round, point_map, digest_safe}
 use Rattle.point.specs.Point.{prev_digest, Sticky, sticky_anchors, through, target_round}
 use Rattle.point.specs.declared.data.PointRole.{PointRole}
 use Rattle.point.specs.declared.data.PointRole.TheVariants.{Regular, AnchorProof, AnchorTrigger, Genesis}
@@ -87,10 +87,6 @@ genesis_structure_rows p =
     (not (is_zero (prev_digest p)) || (not (links_own p.id.author p.anchor_proof) || not (links_own p.id.author p.anchor_trigger)))
     BadGenesisPrevPoint
     ∷ []
-
-abbrev pub point_map : Through → PointMap
-point_map (Includes x) = map.Includes
-point_map (Witness x) = map.Witness
 
 -- an indirect link's target does not lie below its source's round
 unfoldable pub target_too_new : ℕ → AnchorLink → Bool

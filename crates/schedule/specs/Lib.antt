@@ -1,3 +1,4 @@
 pub mod Settings
 pub mod Schedule
 pub mod Code
+pub mod PeerSchedule

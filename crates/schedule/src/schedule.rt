@@ -5,7 +5,9 @@ ghost use Rattle.parts.specs.Bytes.{bytes_at, little_at};
 ghost use Rattle.map.specs.Rows.{peers_of, rising};
 ghost use Rattle.schedule.specs.Schedule.{span_ok, last_ok, read_schedule, span_for, peers_for, require_regular_points};
 ghost use Rattle.schedule.specs.Code.{firsts_of, code_span_at, SpansRead, schedule_of, Handed, peer_bytes};
+ghost use Rattle.schedule.specs.PeerSchedule.{ScheduleRead};
 
+use crate::peer_schedule::PeerSchedule;
 use record::Row;
 
 // A span of rounds: the first, and where in the schedule's bytes its peers stand, and how many.
@@ -16,6 +18,7 @@ pub struct Span {
     pub peers: u8,
 }
 
+// By value, as document 01 has it: four spans and their count, since there is no heap.
 #[derive(Clone, Copy)]
 pub struct Schedule {
     pub spans: [Span; 4],
@@ -122,6 +125,14 @@ pub fn read_schedule(s: &[u8]) -> Option<Schedule>
         count,
         last_known,
     })
+}
+
+// The same with the slice's bytes.
+pub fn read_peer_schedule(s: &[u8]) -> Option<PeerSchedule<'_>>
+    ensures { ScheduleRead s.now result }
+{
+    let spans = read_schedule(s)?;
+    Some(PeerSchedule { bytes: s, spans })
 }
 
 // The span that a round belongs to: the last that starts at or before it.

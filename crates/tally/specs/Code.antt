@@ -1,10 +1,8 @@
 -- What the program's functions promise each other.
-use Rattle.std.specs.Prelude.{ℕ, zero, suc, ◌+◌, ◌-◌, ◌≤◌, ◌<◌, min, ◌≡◌, true, false, List, length, take, drop, Result, Ok, Err}
+use Rattle.std.specs.Prelude.{ℕ, ◌+◌, ◌-◌, ◌≤◌, ◌<◌, ◌≡◌, true, false, List, length, take, drop}
 use Rattle.parts.specs.Limits.{settings_length}
 use Rattle.tally_feed.specs.Tally.{Step, over, last, point, step}
 use Rattle.tally.specs.declared.window.Window.{Window}
-use Rattle.tally.specs.declared.window.Got as code_got
-use Rattle.tally.specs.declared.window.Got.TheVariants as case-got
 use Rattle.tally.specs.declared.points.State.{State}
 use Rattle.tally.specs.declared.points.Turn as code-turn
 use Rattle.tally.specs.declared.points.Turn.TheVariants as case-turn
@@ -22,49 +20,28 @@ Lies len w = (w.start ≤ w.end) × (w.end ≤ len)
 
 -- without its first n bytes
 abbrev pub without : Window → ℕ → Window
-without w n = record { start = w.start + n; end = w.end; is_all = w.is_all; failed = w.failed }
+without w n = record { start = w.start + n; end = w.end; is_all = w.is_all }
 
-abbrev pub counted : ℕ → code_got.Got
-counted zero = case-got.Nothing
-counted (suc n) = case-got.Bytes (suc n)
-
--- what an answer of `read` stands for, which had room for a number of bytes
-abbrev pub got_of : {E : Type 0} → Result ℕ E → ℕ → code_got.Got
-got_of (Ok k) room = counted (min k room)
-got_of (Err e) room = case-got.Failed
-
--- the bytes that a call gave lie in a buffer of len bytes, from a place on
-abbrev pub GotWithin : ℕ → ℕ → code_got.Got → Type 0
-GotWithin at len (case-got.Bytes n) = (0 < n) × (at + n ≤ len)
-GotWithin at len case-got.Nothing = Unit
-GotWithin at len case-got.Failed = Unit
-
--- a window from the front of a buffer of len bytes, itself of at least n bytes: it is the whole buffer, unless the input ended or reading
--- failed; and the input's end is seen only where there was room for more
+-- a window from the front of a buffer of len bytes, itself of at least n bytes: it is the whole buffer, unless the input ended; and the
+-- input's end is seen only where there was room for more
 pub record Filled (n len : ℕ) (w : Window) : Type 0 where
   pub start : w.start ≡ 0
   pub least : n ≤ w.end
   pub within : w.end ≤ len
-  pub full : w.is_all ≡ false → w.failed ≡ false → w.end ≡ len
+  pub full : w.is_all ≡ false → w.end ≡ len
   pub all : w.is_all ≡ true → w.end < len
 
--- a later window begins with what was at hand, and has enough for a point, unless it is all or reading failed; it is the same one, in the
--- same bytes, where this was so before
+-- a later window begins with what was at hand, and has enough for a point, unless it is all
 pub record Refilled (buf : List ℕ) (w : Window) (buf' : List ℕ) (w' : Window) : Type 0 where
   pub lies : Lies (length buf) w'
   pub same : take (w.end - w.start) (at_hand buf' w') ≡ at_hand buf w
-  pub enough : w'.is_all ≡ false → w'.failed ≡ false → 41127 ≤ w'.end - w'.start
-  pub still_all : w.is_all ≡ true → (buf' ≡ buf) × (w' ≡ w)
-  pub still_enough : 41127 ≤ w.end - w.start → (buf' ≡ buf) × (w' ≡ w)
+  pub enough : w'.is_all ≡ false → 41127 ≤ w'.end - w'.start
 
 -- ---- a turn: the next point at hand is offered, by `step` of crate tally_feed
 
 -- the first turn's place is 1, and what is at hand begins after settings and a schedule, where the points begin
 abbrev pub first_state : Window → ℕ → State
 first_state w start = record { window = without w start; place = 1; schedule_len = start - settings_length }
-
-abbrev pub with_window : State → Window → State
-with_window s w = record { window = w; place = s.place; schedule_len = s.schedule_len }
 
 -- after a point of a number of bytes these are no longer at hand, and the place is the next one
 abbrev pub next_state : State → ℕ → State

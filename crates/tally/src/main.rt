@@ -1,127 +1,110 @@
 // Reads settings, a schedule and points from standard input, keeps the points in a book, and prints a line for each.
 #![tactic(auto)]
 
+mod failure;
 mod points;
 mod print;
 mod window;
 
-ghost use Rattle.std.specs.Prelude.{◌≡◌, ◌≤◌, length};
-ghost use Rattle.parts.specs.Limits.{settings_length};
 ghost use Rattle.tally.specs.Code.{Stands};
 
+use failure::Failure;
 use points::{State, Turn};
 use std::io::Read;
-use window::Window;
 
 const BOOK: usize = 65536;
 
 // The longest schedule: four spans of 255 peers, and the last known round.
 const SCHEDULE: usize = 32675;
 
-// Prints the lines of the points from a state on, and says whether all of them were read and printed. A proved loop has to end, and
-// nothing says that an input does: so it ends where a line could not be counted.
+#[derive(Drop)]
+struct Memory {
+    book: [u8; BOOK],
+    schedule: [u8; SCHEDULE],
+    peers: [u8; parts::PEERS_ROOM],
+    buf: [u8; window::ROOM],
+}
+
+// Prints the lines of the points from a state on. A proved loop has to end, and nothing says that an input does: so it ends where a
+// line could not be counted, by the place that each turn moves on.
 fn print_points<R: Read>(
-    rt: &(impl Print + Eprint),
+    rt: &impl Print,
     input: &mut R,
-    book: &mut [u8],
-    schedule: &[u8],
-    peers: &mut [u8],
-    buf: &mut [u8],
+    memory: &mut Memory,
     first: State,
-) -> bool
-    requires { Stands (length buf.old) (length schedule.now) first × (41127 ≤ length buf.old) }
+) -> Result<(), Failure>
+    requires { Stands 65536 32675 first }
 {
+    let Memory {
+        book,
+        schedule,
+        peers,
+        buf,
+    } = memory;
     let mut s = first;
     while s.place < u64::MAX {
-        let w = window::refill(rt, input, buf, s.window);
-        if w.failed {
-            print::unread(rt);
-            return false;
-        }
-        let turn = points::take_turn(book, schedule, peers, buf, points::with(s, w));
+        let window = window::refill(input, buf, s.window).map_err(Failure::Input)?;
+        let turn = points::take_turn(book, schedule, peers, buf, State { window, ..s });
         match turn {
-            Turn::Over => return true,
+            Turn::Over => return Ok(()),
             Turn::Last(line) => return print::line(rt, line),
             Turn::Point { line, next } => {
-                if !print::line(rt, line) {
-                    return false;
-                }
+                print::line(rt, line)?;
                 s = next;
             }
         }
     }
-    true
-}
-
-// The same, of the points that begin at a place of the first window.
-fn print_after<R: Read>(
-    rt: &(impl Print + Eprint),
-    input: &mut R,
-    book: &mut [u8],
-    schedule: &mut [u8],
-    peers: &mut [u8],
-    buf: &mut [u8],
-    w: Window,
-    start: usize,
-) -> bool
-    requires begins { (settings_length ≤ start) × (start ≤ 32722) × (32675 ≤ length schedule.old) }
-    requires held { (w.start ≡ 0) × (start ≤ w.end) × (w.end ≤ length buf.old) × (41127 ≤ length buf.old) }
-{
-    let first = points::begin_points(schedule, buf, w, start);
-    print_points(rt, input, book, schedule, peers, buf, first)
+    Ok(())
 }
 
 // Prints a line for each point, or the one line of settings or a schedule that can't be read.
 fn print_lines<R: Read>(
-    rt: &(impl Print + Eprint),
+    rt: &impl Print,
     input: &mut R,
-    book: &mut [u8],
-    schedule: &mut [u8],
-    peers: &mut [u8],
-    buf: &mut [u8],
-) -> bool
-    requires { (32675 ≤ length schedule.old) × (41127 ≤ length buf.old) }
-{
-    let w = window::first(rt, input, buf);
-    if w.failed {
-        print::unread(rt);
-        return false;
-    }
+    memory: &mut Memory,
+) -> Result<(), Failure> {
+    let Memory {
+        book,
+        schedule,
+        buf,
+        ..
+    } = memory;
+    let w = window::first(input, buf).map_err(Failure::Input)?;
     let end = w.end;
     match tally_feed::begin(book, &buf[..end]) {
-        Err(refusal) => print::line(rt, tally_feed::refused(0, 0, refusal)),
-        Ok(start) => print_after(rt, input, book, schedule, peers, buf, w, start),
+        Err(refusal) => print::line(rt, tally_feed::refused(0, 0, refusal.number())),
+        Ok(start) => {
+            let first = points::begin_points(schedule, buf, w, start);
+            print_points(rt, input, memory, first)
+        }
     }
 }
 
-// The last line is `end` only if all was read and printed; the exit status is 0 all the same.
-fn tally<R: Read>(
-    rt: &(impl Print + Eprint),
-    input: &mut R,
-    book: &mut [u8],
-    schedule: &mut [u8],
-    peers: &mut [u8],
-    buf: &mut [u8],
-)
-    requires { (32675 ≤ length schedule.old) × (41127 ≤ length buf.old) }
-{
-    if print_lines(rt, input, book, schedule, peers, buf) {
-        print::end(rt, tally_feed::kept(book) as u64);
+// The last line is `end` only if all was read and printed.
+fn tally<R: Read>(rt: &impl Print, input: &mut R, memory: &mut Memory) -> Result<(), Failure> {
+    print_lines(rt, input, memory)?;
+    print::end(rt, tally_feed::kept(&memory.book) as u64)
+}
+
+// A call that fails is told on standard error; the exit status is 0 all the same.
+fn tell(rt: &(impl Print + Eprint), failure: Failure) {
+    let _ = eprintln!(rt; "{failure}");
+    if let Failure::Input(_) = failure {
+        if let Err(unwritten) = print::unread(rt) {
+            let _ = eprintln!(rt; "{unwritten}");
+        }
     }
 }
 
 fn main(rt: HostRuntime) {
     let mut input = rt.stdin();
-    let mut book = [0u8; BOOK];
-    let mut schedule = [0u8; SCHEDULE];
-    let mut peers = [0u8; parts::PEERS_ROOM];
-    let mut buf = [0u8; window::ROOM];
-    tally(
-        &rt,
-        &mut input,
-        &mut book,
-        &mut schedule,
-        &mut peers,
-        &mut buf,
-    );
+    let mut memory = Memory {
+        book: [0; BOOK],
+        schedule: [0; SCHEDULE],
+        peers: [0; parts::PEERS_ROOM],
+        buf: [0; window::ROOM],
+    };
+    if let Err(failure) = tally(&rt, &mut input, &mut memory) {
+        tell(&rt, failure);
+    }
 }

@@ -2,7 +2,7 @@
 ghost use Rattle.std.specs.Prelude.{◌≡◌, ◌-◌, ◌≤◌, ◌<◌, length, take, drop};
 ghost use Rattle.parts.specs.Limits.{settings_length};
 ghost use Rattle.tally_feed.specs.Code.{book_after, peers_after};
-ghost use Rattle.tally.specs.Code.{at_hand, first_state, with_window, turn_of, Stands, Leads, step_from};
+ghost use Rattle.tally.specs.Code.{at_hand, first_state, turn_of, Stands, Leads, step_from};
 
 use crate::window;
 use crate::window::Window;
@@ -40,13 +40,6 @@ pub fn begin_points(schedule: &mut [u8], buf: &[u8], w: Window, start: usize) ->
         place: 1,
         schedule_len: start - parts::SETTINGS_LENGTH,
     }
-}
-
-// With another window.
-pub fn with(s: State, w: Window) -> State
-    ensures { result ≡ with_window s w }
-{
-    State { window: w, ..s }
 }
 
 // Offers the next point at hand to the book.

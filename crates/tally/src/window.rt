@@ -1,6 +1,7 @@
 // The part of standard input that is at hand.
-ghost use Rattle.std.specs.Prelude.{◌≡◌, ◌++◌, ◌+◌, ◌≤◌, length, take, drop};
-ghost use Rattle.tally.specs.Code.{Lies, without, got_of, GotWithin, Filled, Refilled};
+ghost use Rattle.std.specs.Prelude.{◌≡◌, ◌+◌, ◌-◌, ◌≤◌, ◌⊎◌, length, take, true, Ok, IfOk, OnErr};
+ghost use Rattle.std.specs.Io.KnownBytes.{IsAtEnd};
+ghost use Rattle.tally.specs.Code.{Lies, without, at_hand, Filled, Refilled};
 
 use std::io;
 use std::io::Read;
@@ -11,120 +12,63 @@ const ENOUGH: usize = 41127;
 
 pub const ROOM: usize = 65536;
 
-// What was read and not used yet stands in a buffer from a start to an end. Nothing follows it if it is all; what follows it
-// could not be read if reading failed.
+// What was read and not used yet stands in a buffer from a start to an end. Nothing follows it if it is all: a fact of the input,
+// on which neither place depends.
 #[derive(Clone, Copy)]
 pub struct Window {
     pub start: usize,
     pub end: usize,
     pub is_all: bool,
-    pub failed: bool,
 }
 
-// What one call gave: a number of bytes, at least one; nothing, at the input's end; or an error.
-#[derive(Clone, Copy)]
-enum Got {
-    Bytes(usize),
-    Nothing,
-    Failed,
-}
-
-// Moves n bytes to the front. The others stay.
-fn shift(buf: &mut [u8], from: usize, n: usize)
-    requires { from + n ≤ length buf.old }
-    ensures { buf.new ≡ take n (drop from buf.old) ++ drop n buf.old }
-{
-    let mut i = 0;
-    while i < n {
-        buf[i] = buf[from + i];
-        i += 1;
-    }
-}
-
-// What an answer of read says of the room that it was lent.
-fn got_of(got: io::Result<usize>, room: &[u8]) -> Got
-    ensures { result ≡ got_of got (length room.now) }
-{
-    let Ok(n) = got else {
-        return Got::Failed;
-    };
-    let n = n.min(room.len());
-    if n == 0 {
-        return Got::Nothing;
-    }
-    Got::Bytes(n)
-}
-
-// Reads once, from a place of the buffer on. A call that fails is told on standard error.
-fn read_at<R: Read>(rt: &impl Eprint, input: &mut R, buf: &mut [u8], at: usize) -> Got
-    requires { at ≤ length buf.old }
-    ensures front { take at buf.new ≡ take at buf.old }
-    ensures within { GotWithin at (length buf.old) result }
-{
-    let got = input.read(&mut buf[at..]);
-    if let Err(e) = &got {
-        let _ = eprintln!(rt; "standard input: {e}");
-    }
-    got_of(got, &buf[at..])
-}
-
-// Reads after the n bytes at the front until the buffer is full, or the input ends.
-fn read_after<R: Read>(rt: &impl Eprint, input: &mut R, buf: &mut [u8], n: usize) -> Window
+// Reads after the n bytes at the front until the buffer is full, or the input ends. `read_to_end` wants memory that grows, and
+// `read_exact` does not say how much it read, so the loop stands here.
+fn read_after<R: Read>(input: &mut R, buf: &mut [u8], n: usize) -> io::Result<Window>
     requires { n ≤ length buf.old }
     ensures front { take n buf.new ≡ take n buf.old }
-    ensures filled { Filled n (length buf.old) result }
+    ensures filled { IfOk result (Filled n (length buf.old)) }
+    ensures ended { IfOk result (λ w. w.is_all ≡ true → IsAtEnd (R.remaining input.new)) }
 {
     let mut end = n;
     while end < buf.len() {
-        let got = read_at(rt, input, buf, end);
-        match got {
-            Got::Bytes(more) => end += more,
-            Got::Nothing => {
-                return Window {
-                    start: 0,
-                    end,
-                    is_all: true,
-                    failed: false,
-                };
-            }
-            Got::Failed => {
-                return Window {
-                    start: 0,
-                    end,
-                    is_all: false,
-                    failed: true,
-                };
-            }
+        let more = input.read(&mut buf[end..])?;
+        if more == 0 {
+            return Ok(Window {
+                start: 0,
+                end,
+                is_all: true,
+            });
         }
+        end += more;
     }
-    Window {
+    Ok(Window {
         start: 0,
         end,
         is_all: false,
-        failed: false,
-    }
+    })
 }
 
-pub fn first<R: Read>(rt: &impl Eprint, input: &mut R, buf: &mut [u8]) -> Window
-    ensures { Filled 0 (length buf.old) result }
+pub fn first<R: Read>(input: &mut R, buf: &mut [u8]) -> io::Result<Window>
+    ensures filled { IfOk result (Filled 0 (length buf.old)) }
+    ensures ended { IfOk result (λ w. w.is_all ≡ true → IsAtEnd (R.remaining input.new)) }
 {
-    read_after(rt, input, buf, 0)
+    read_after(input, buf, 0)
 }
 
-// With enough at hand for a point, or all that is left, unless reading failed.
-pub fn refill<R: Read>(rt: &impl Eprint, input: &mut R, buf: &mut [u8], w: Window) -> Window
+// With enough at hand for a point, or all that is left.
+pub fn refill<R: Read>(input: &mut R, buf: &mut [u8], w: Window) -> io::Result<Window>
     requires { Lies (length buf.old) w × (41127 ≤ length buf.old) }
-    ensures { Refilled buf.old w buf.new result }
+    ensures refilled { IfOk result (Refilled buf.old w buf.new) }
+    ensures still { (w.is_all ≡ true) ⊎ (41127 ≤ w.end - w.start) → (result ≡ Ok w) × (buf.new ≡ buf.old) }
+    ensures failed { OnErr result (take (w.end - w.start) buf.new ≡ at_hand buf.old w) }
+    ensures ended { IfOk result (λ v. v.is_all ≡ true → (w.is_all ≡ true) ⊎ IsAtEnd (R.remaining input.new)) }
 {
     let n = w.end - w.start;
-    if ENOUGH <= n {
-        return w;
+    if ENOUGH <= n || w.is_all {
+        return Ok(w);
     }
-    if w.is_all {
-        return w;
-    }
-    shift(buf, w.start, n);
-    read_after(rt, input, buf, n)
+    buf.copy_within(w.start..w.end, 0);
+    read_after(input, buf, n)
 }
 
 // Without the first n bytes.

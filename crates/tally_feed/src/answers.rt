@@ -1,13 +1,13 @@
 // The line that an answer gives.
 ghost use Rattle.std.specs.Prelude.{◌≡◌};
 ghost use Rattle.reasons.specs.Code.{verdict_of};
-ghost use Rattle.reasons.specs.Refusal.{refusal_number};
 ghost use Rattle.judge.specs.Code.{judge_answer_of};
 ghost use Rattle.tally_feed.specs.Tally.{verdict_line, line_of, refused_line};
 
 use reasons::{Refusal, Verdict};
 use tally_line::Line;
 
+// No From, since a line has its place and round too.
 fn of_verdict(place: u64, round: u32, v: Verdict) -> Line
     ensures { result ≡ verdict_line place round (verdict_of v) }
 {
@@ -33,15 +33,15 @@ fn judged(place: u64, round: u32, letter: u8, reason: u8) -> Line
 }
 
 // The line of a point that was refused.
-pub fn refused(place: u64, round: u32, refusal: Refusal) -> Line
-    ensures { result ≡ refused_line place round (refusal_number refusal) }
+pub fn refused(place: u64, round: u32, number: u8) -> Line
+    ensures { result ≡ refused_line place round number }
 {
     Line {
         place,
         round,
         letter: b'-',
         reason: 0,
-        number: refusal.number(),
+        number,
     }
 }
 
@@ -49,7 +49,7 @@ pub fn line_of(place: u64, round: u32, answer: Result<Verdict, Refusal>) -> Line
     ensures { result ≡ line_of place round (judge_answer_of answer) }
 {
     match answer {
-        Err(refusal) => refused(place, round, refusal),
+        Err(refusal) => refused(place, round, refusal.number()),
         Ok(v) => of_verdict(place, round, v),
     }
 }

@@ -4,6 +4,7 @@ ghost use Rattle.tally_feed.specs.Tally.{record_size, step, kept_in};
 ghost use Rattle.tally_feed.specs.Code.{next_of, book_after, peers_after, Within};
 
 use crate::answers;
+use id_index::Index;
 use tally_line::Line;
 
 // What comes next: nothing, the line of a record that can't be read, or a line and how many bytes its point takes.
@@ -44,8 +45,8 @@ pub fn next_point(
     let rec = &feed[1..size];
     let answer = book::offer(book, schedule, feed[0], rec, peers);
     match point::read_point(rec) {
-        Some(info) => Next::Point {
-            line: answers::line_of(place, info.id.round, answer),
+        Some(point) => Next::Point {
+            line: answers::line_of(place, point.info.id.round, answer),
             size,
         },
         None => Next::Last(answers::line_of(place, 0, answer)),
@@ -56,9 +57,9 @@ pub fn next_point(
 pub fn kept(book: &[u8]) -> usize
     ensures { result ≡ kept_in book.now }
 {
-    let mut index = [0u16; id_index::LENGTH];
+    let mut index = Index::new();
     match book_read::read_book(book, &mut index) {
-        Some(_) => id_index::count(&index),
+        Some(_) => index.count(),
         None => 0,
     }
 }

@@ -1,9 +1,9 @@
 // A line that the program tally prints, and the bytes of it.
 #![tactic(auto)]
 
-ghost use Rattle.std.specs.Prelude.{◌≡◌, [], ◌∷◌, ◌++◌, ◌+◌, ◌≤◌, ◌<◌, length};
+ghost use Rattle.std.specs.Prelude.{◌≡◌, [], ◌∷◌, ◌++◌, ◌+◌, ◌≤◌, length};
 ghost use Rattle.io.specs.Counts.{IsPrefixLen};
-ghost use Rattle.tally_line.specs.Text.{decimal, space, line_bytes, end_bytes};
+ghost use Rattle.tally_line.specs.Text.{decimal, line_bytes, end_bytes};
 ghost use Rattle.tally_line.specs.Code.{Put};
 
 #[derive(Clone, Copy)]
@@ -18,16 +18,16 @@ pub struct Line {
 // As many bytes as four numbers of 20 digits, a letter, the spaces between them and the line's end take.
 pub const LONGEST: usize = 86;
 
-// Writes a byte at a place, and says where it ends.
-fn put_byte(out: &mut [u8], at: usize, x: u8) -> usize
-    requires { at < length out.old }
-    ensures { Put out.old at (x ∷ []) out.new result }
+// Writes bytes at a place, and says where they end.
+fn put(out: &mut [u8], at: usize, bytes: &[u8]) -> usize
+    requires { at + length bytes.now ≤ length out.old }
+    ensures { Put out.old at bytes.now out.new result }
 {
-    out[at] = x;
-    at + 1
+    write::put_slice(out, at, bytes);
+    at + bytes.len()
 }
 
-// Writes a number at a place, and says where it ends.
+// The same of a number.
 fn put_decimal(out: &mut [u8], at: usize, n: u64) -> usize
     requires { at + 20 ≤ length out.old }
     ensures put { Put out.old at (decimal n) out.new result }
@@ -35,8 +35,7 @@ fn put_decimal(out: &mut [u8], at: usize, n: u64) -> usize
 {
     let mut digits = [0u8; 20];
     let k = io::decimal(n, &mut digits);
-    write::put_slice(out, at, &digits[..k]);
-    at + k
+    put(out, at, &digits[..k])
 }
 
 // The same, with a byte after it.
@@ -46,16 +45,7 @@ fn put_number(out: &mut [u8], at: usize, n: u64, after: u8) -> usize
     ensures within { result ≤ at + 21 }
 {
     let end = put_decimal(out, at, n);
-    put_byte(out, end, after)
-}
-
-// Writes a letter and a space at a place, and says where they end.
-fn put_letter(out: &mut [u8], at: usize, letter: u8) -> usize
-    requires { at + 2 ≤ length out.old }
-    ensures { Put out.old at (letter ∷ space) out.new result }
-{
-    let end = put_byte(out, at, letter);
-    put_byte(out, end, b' ')
+    put(out, end, &[after])
 }
 
 // Writes a line's bytes at the front, and says how many they are.
@@ -65,7 +55,7 @@ pub fn line_bytes(line: Line, out: &mut [u8; LONGEST]) -> usize
 {
     let place_end = put_number(out, 0, line.place, b' ');
     let round_end = put_number(out, place_end, line.round as u64, b' ');
-    let letter_end = put_letter(out, round_end, line.letter);
+    let letter_end = put(out, round_end, &[line.letter, b' ']);
     let reason_end = put_number(out, letter_end, line.reason as u64, b' ');
     put_number(out, reason_end, line.number as u64, b'\n')
 }
@@ -75,6 +65,6 @@ pub fn end_bytes(kept: u64, out: &mut [u8; LONGEST]) -> usize
     ensures put { Put out.old 0 (end_bytes kept) out.new result }
     ensures counts { IsPrefixLen result out.new }
 {
-    write::put_slice(out, 0, b"end ");
-    put_number(out, 4, kept, b'\n')
+    let word_end = put(out, 0, b"end ");
+    put_number(out, word_end, kept, b'\n')
 }

@@ -1,5 +1,5 @@
 -- Laws of verification: which faults tell of unknown peers, and the first fault of a point.
-use Rattle.std.specs.Prelude.{Option, None, Some, Err, Ok, Result}
+use Rattle.std.specs.Prelude.{Option, None, Some, option_map, Err, Ok, Result}
 use Rattle.std.specs.Option.{option_or}
 use Rattle.std.specs.Result.{result_err}
 use Prim.Native.Nat.{ℕ}
@@ -12,13 +12,21 @@ use Rattle.base.specs.Base.{pick, when, concat, first_of}
 use Rattle.base.proofs.Bool.{and_left, and_right}
 use Rattle.base.proofs.Firsts.{three_rows}
 use Rattle.point.specs.Point.{PointInfo, Sticky}
-use Rattle.schedule.specs.Settings.{Settings}
+use Rattle.point.specs.Said.{said, PointRead}
+use Rattle.point.specs.declared.info.Point as code-point
+use Rattle.point.proofs.Said.{said_read}
+use Rattle.schedule.specs.Settings.{Settings, read_settings}
 use Rattle.schedule.specs.Schedule.{Schedule}
+use Rattle.schedule.specs.Code.{settings_of}
+use Rattle.schedule.specs.PeerSchedule.{peer_schedule_of, ScheduleRead}
+use Rattle.schedule.specs.declared.settings.Settings as code-settings
+use Rattle.schedule.specs.declared.peer_schedule.PeerSchedule as code-schedule
+use Rattle.schedule.proofs.Said.{schedule_read}
 use Rattle.reasons.specs.IllFormed.{error_answer}
 use Rattle.reasons.specs.declared.ill_formed.StructureIssue.{StructureIssue}
 use Rattle.reasons.specs.declared.ill_formed.VerifyError.{VerifyError}
 use Rattle.rules.specs.Verify.{Scheduled, scheduled, verify, faults, vset_row, new_rows, structure, genesis_rows, sticky_fault, above_rows, well_formed_rows, peer_rows, buffer_with}
-use Rattle.rules.specs.Judge.{verified_from}
+use Rattle.rules.specs.Judge.{tested_with, tested, verified_from}
 
 -- ---- faults that tell of no unknown peers
 
@@ -126,3 +134,13 @@ pub ruleset verify_facts = (verify_first, quiet_new, quiet_well_formed)
 pub verified_back : (r : Result Unit VerifyError) → verified_from (result_err r) ≡ r
 verified_back (Ok tt) = refl
 verified_back (Err e) = refl
+
+-- ---- what the three readers leave of the numbers' tests
+
+module _ (o : Option code-settings.Settings) (r : Option code-schedule.PeerSchedule) (q : Option code-point.Point) where
+  pub read_all : (c : code-settings.Settings) (k : code-schedule.PeerSchedule) (p : code-point.Point) (settings schedule rec : List ℕ) (others : Bool) (size : ℕ) →
+      option_map settings_of o ≡ read_settings settings → o ≡ Some c → ScheduleRead schedule r → r ≡ Some k → PointRead rec q → q ≡ Some p →
+      tested settings schedule rec others size ≡ tested_with (Some (settings_of c)) (Some (peer_schedule_of k)) (Some (said p)) others size
+  unfolding tested
+  read_all c k p settings schedule rec others size t d u e v f =
+      rw (sym t, schedule_read schedule r u, said_read rec q v, d, e, f) refl

@@ -1,40 +1,36 @@
 // BasicVerifier of verifier.rs: whether a point is well formed, before any of its dependencies is known.
 #![tactic(auto)]
 
-ghost use Rattle.std.specs.Prelude.{◌≡◌, true, ◌≤◌, length, Some};
+ghost use Rattle.std.specs.Prelude.{◌≡◌, true, ◌≤◌, length};
 ghost use Rattle.std.specs.Result.{result_err};
 ghost use Rattle.parts.specs.Limits.{peers_room};
-ghost use Rattle.point.specs.Code.{point_of, Reads};
-ghost use Rattle.schedule.specs.Code.{settings_of, schedule_of};
-ghost use Rattle.schedule.specs.Schedule.{read_schedule};
+ghost use Rattle.point.specs.Said.{said};
+ghost use Rattle.schedule.specs.Code.{settings_of};
+ghost use Rattle.schedule.specs.PeerSchedule.{peer_schedule_of};
 ghost use Rattle.rules.specs.Verify.{verify};
 ghost use Rattle.reasons.specs.Refusal.{numbered};
 ghost use Rattle.rules.specs.Judge.{tested, verify_with, verify_buffer};
 ghost use Rattle.verify_peers.specs.Code.{BufferAfter};
 
-use point::PointInfo;
+use point::Point;
 use reasons::{Refusal, VerifyError};
-use schedule::{Schedule, Settings};
+use schedule::{PeerSchedule, Settings};
 
 // BasicVerifier::verify, of input that was read.
 #[tactic(auto, using(crate::proofs::Laws::verify_facts))]
 pub fn verify_point(
     conf: Settings,
-    schedule: &[u8],
-    spans: Schedule,
-    rec: &[u8],
-    info: PointInfo,
+    schedule: &PeerSchedule,
+    point: &Point,
     peers: &mut [u8],
 ) -> Result<(), VerifyError>
-    requires schedule_value { read_schedule schedule.now ≡ Some (schedule_of schedule.now spans) }
-    requires reads { Reads rec.now info }
-    requires peers_room_in_bounds { peers_room ≤ length peers.old }
-    ensures same { result_err result ≡ verify (settings_of conf) (schedule_of schedule.now spans) (point_of rec.now info) }
-    ensures buffer { BufferAfter conf schedule.now spans rec.now info (result_err result) peers.old peers.new }
+    requires { peers_room ≤ length peers.old }
+    ensures same { result_err result ≡ verify (settings_of conf) (peer_schedule_of schedule.now) (said point.now) }
+    ensures buffer { BufferAfter conf schedule.now point.now (result_err result) peers.old peers.new }
 {
-    verify_new::check_new(conf, schedule, spans, rec, info)?;
-    verify_well_formed::check_well_formed(conf, rec, info)?;
-    verify_peers::check_peers(conf, schedule, spans, rec, info, peers)
+    verify_new::check_new(conf, schedule, &point.info)?;
+    verify_well_formed::check_well_formed(conf, point)?;
+    verify_peers::check_peers(conf, schedule, point, peers)
 }
 
 // Numbers 1 to 5 in number order, then the verdict.
@@ -50,13 +46,13 @@ pub fn verify(
         (tested settings.now schedule.now rec.now true (length peers.old)) peers.old }
 {
     let conf = schedule::read_settings(settings).ok_or(Refusal::Settings)?;
-    let spans = schedule::read_schedule(schedule).ok_or(Refusal::Schedule)?;
-    let info = point::read_point(rec).ok_or(Refusal::Record)?;
-    if !point::is_in_domain(rec, info) {
+    let schedule = schedule::read_peer_schedule(schedule).ok_or(Refusal::Schedule)?;
+    let point = point::read_point(rec).ok_or(Refusal::Record)?;
+    if !point.info.is_in_domain() {
         return Err(Refusal::Domain);
     }
     if peers.len() < parts::PEERS_ROOM {
         return Err(Refusal::Short);
     }
-    Ok(verify_point(conf, schedule, spans, rec, info, peers))
+    Ok(verify_point(conf, &schedule, &point, peers))
 }

@@ -1,15 +1,15 @@
-// check_peers: the peers of the maps are scheduled, and there are enough of them.
+// check_peers: the peers of the maps are scheduled, and there are enough of them. That the peer buffer has its room is asked of each
+// function: an array of that length would refuse the longer buffers that callers may lend.
 #![tactic(auto)]
 
-ghost use Rattle.std.specs.Prelude.{◌≡◌, true, ◌≤◌, ltb, length, Some};
+ghost use Rattle.std.specs.Prelude.{◌≡◌, true, ◌≤◌, ltb, length};
 ghost use Rattle.std.specs.Result.{result_err};
 ghost use Rattle.base.specs.Base.{when, concat, first_of};
 ghost use Rattle.parts.specs.Parts.{one_f};
 ghost use Rattle.parts.specs.Limits.{peers_room};
 ghost use Rattle.map.specs.Rows.{peers_of, rising};
-ghost use Rattle.point.specs.Code.{point_of, Reads};
-ghost use Rattle.schedule.specs.Code.{settings_of, schedule_of};
-ghost use Rattle.schedule.specs.Schedule.{read_schedule, peers_for};
+ghost use Rattle.point.specs.Said.{said};
+ghost use Rattle.schedule.specs.Code.{settings_of};
 ghost use Rattle.parts.specs.Bytes.{put_at};
 ghost use Rattle.rules.specs.Unknown.{unknown_in, peer_bytes};
 ghost use Rattle.reasons.specs.declared.ill_formed.IllFormedReason.TheVariants.{LackOfPeers};
@@ -18,9 +18,9 @@ ghost use Rattle.rules.specs.Verify.{unknown_row, includes_round, evidence_rows,
 ghost use Rattle.verify_peers.specs.Code.{scheduled_by, PeersChecked, BufferAfter};
 
 use parts::PeerCount;
-use point::{PointInfo, PointMap};
+use point::{Point, PointMap};
 use reasons::{IllFormedReason, VerifyError};
-use schedule::{Schedule, Settings};
+use schedule::{PeerSchedule, Settings};
 
 // F of a scheduled set: it has one peer at genesis.
 fn one_f(total: usize) -> PeerCount
@@ -28,17 +28,6 @@ fn one_f(total: usize) -> PeerCount
     ensures { result.0 ≡ one_f total }
 {
     PeerCount(((total + 1) / 3) as u8)
-}
-
-// The peers that are scheduled at a round: schedule::peers_for, with what a schedule that was read says of them.
-#[tactic(auto, using(schedule::proofs::Rounds::round_facts))]
-fn scheduled_at(schedule: &[u8], spans: Schedule, round: u32) -> &[u8]
-    requires { read_schedule schedule.now ≡ Some (schedule_of schedule.now spans) }
-    ensures same { peers_of 32 result.now ≡ peers_for (schedule_of schedule.now spans) round }
-    ensures rises { rising (peers_of 32 result.now) ≡ true }
-    ensures few { length (peers_of 32 result.now) ≤ 255 }
-{
-    schedule::peers_for(schedule, spans, round)
 }
 
 // The peers of a map that are not scheduled are a fault, and stand in the peer buffer.
@@ -87,32 +76,30 @@ fn check_enough(
 }
 
 // Evidence, checked against the peers of the point's own round. The three maps have no function in common: each asks
-// something that the others don't.
+// something that the others don't. Settings, schedule and point stay apart: no fact joins them, and a struct of them would be
+// made for check_peers alone.
 #[tactic(auto, unfolding(rules::specs::Verify::evidence_rows, rules::specs::Verify::scheduled), using(crate::proofs::Laws::peer_facts))]
 fn check_evidence_peers(
     conf: Settings,
-    schedule: &[u8],
-    spans: Schedule,
-    rec: &[u8],
-    info: PointInfo,
+    schedule: &PeerSchedule,
+    point: &Point,
     peers: &mut [u8],
 ) -> Result<(), VerifyError>
-    requires schedule_value { read_schedule schedule.now ≡ Some (schedule_of schedule.now spans) }
-    requires reads { Reads rec.now info }
-    requires peers_room_in_bounds { peers_room ≤ length peers.old }
+    requires { peers_room ≤ length peers.old }
     ensures checked { result_err result ≡ first_of
-        (concat (evidence_rows (settings_of conf) (scheduled_by conf schedule.now spans rec.now info) (point_of rec.now info))) }
-    ensures buffer { BufferAfter conf schedule.now spans rec.now info (result_err result) peers.old peers.new }
+        (concat (evidence_rows (settings_of conf) (scheduled_by conf schedule.now point.now) (said point.now))) }
+    ensures buffer { BufferAfter conf schedule.now point.now (result_err result) peers.old peers.new }
 {
-    let evidence = point::evidence(rec, info);
+    let round = point.info.id.round;
+    let evidence = point.evidence();
     let len = map::count(evidence, 32);
     if len == 0 {
         return Ok(());
     }
-    if info.id.round == conf.genesis_round {
+    if round == conf.genesis_round {
         return Err(IllFormedReason::MustBeEmpty(PointMap::Evidence).into());
     }
-    let known = scheduled_at(schedule, spans, info.id.round);
+    let known = schedule.peers_for(round);
     check_known(evidence, 32, known, PointMap::Evidence, peers)?;
     let total = one_f(map::count(known, 32));
     check_enough(len, total.majority_of_others(), total, PointMap::Evidence)
@@ -133,21 +120,17 @@ fn includes_round(conf: Settings, round: u32) -> u32
 #[tactic(auto, unfolding(rules::specs::Verify::includes_rows, rules::specs::Verify::scheduled), using(crate::proofs::Laws::peer_facts))]
 fn check_includes_peers(
     conf: Settings,
-    schedule: &[u8],
-    spans: Schedule,
-    rec: &[u8],
-    info: PointInfo,
+    schedule: &PeerSchedule,
+    point: &Point,
     peers: &mut [u8],
 ) -> Result<(), VerifyError>
-    requires schedule_value { read_schedule schedule.now ≡ Some (schedule_of schedule.now spans) }
-    requires reads { Reads rec.now info }
-    requires peers_room_in_bounds { peers_room ≤ length peers.old }
+    requires { peers_room ≤ length peers.old }
     ensures checked { result_err result ≡ first_of
-        (concat (includes_rows (scheduled_by conf schedule.now spans rec.now info) (point_of rec.now info))) }
-    ensures buffer { BufferAfter conf schedule.now spans rec.now info (result_err result) peers.old peers.new }
+        (concat (includes_rows (scheduled_by conf schedule.now point.now) (said point.now))) }
+    ensures buffer { BufferAfter conf schedule.now point.now (result_err result) peers.old peers.new }
 {
-    let includes = point::includes(rec, info);
-    let known = scheduled_at(schedule, spans, includes_round(conf, info.id.round));
+    let includes = point.includes();
+    let known = schedule.peers_for(includes_round(conf, point.info.id.round));
     check_known(includes, 64, known, PointMap::Includes, peers)?;
     let len = map::count(includes, 64);
     let total = one_f(map::count(known, 32));
@@ -158,47 +141,39 @@ fn check_includes_peers(
 #[tactic(auto, unfolding(rules::specs::Verify::witness_rows, rules::specs::Verify::scheduled), using(crate::proofs::Laws::peer_facts))]
 fn check_witness_peers(
     conf: Settings,
-    schedule: &[u8],
-    spans: Schedule,
-    rec: &[u8],
-    info: PointInfo,
+    schedule: &PeerSchedule,
+    point: &Point,
     peers: &mut [u8],
 ) -> Result<(), VerifyError>
-    requires schedule_value { read_schedule schedule.now ≡ Some (schedule_of schedule.now spans) }
-    requires reads { Reads rec.now info }
-    requires peers_room_in_bounds { peers_room ≤ length peers.old }
+    requires { peers_room ≤ length peers.old }
     ensures checked { result_err result ≡ first_of
-        (concat (witness_rows (settings_of conf) (scheduled_by conf schedule.now spans rec.now info) (point_of rec.now info))) }
-    ensures buffer { BufferAfter conf schedule.now spans rec.now info (result_err result) peers.old peers.new }
+        (concat (witness_rows (settings_of conf) (scheduled_by conf schedule.now point.now) (said point.now))) }
+    ensures buffer { BufferAfter conf schedule.now point.now (result_err result) peers.old peers.new }
 {
-    let witness = point::witness(rec, info);
+    let witness = point.witness();
     if map::count(witness, 64) == 0 {
         return Ok(());
     }
-    let round = parts::rounds_back(info.id.round, 2);
+    let round = parts::rounds_back(point.info.id.round, 2);
     if round < conf.genesis_round {
         return Err(IllFormedReason::MustBeEmpty(PointMap::Witness).into());
     }
-    let known = scheduled_at(schedule, spans, round);
+    let known = schedule.peers_for(round);
     check_known(witness, 64, known, PointMap::Witness, peers)
 }
 
 #[tactic(auto, using(crate::proofs::Laws::peer_first))]
 pub fn check_peers(
     conf: Settings,
-    schedule: &[u8],
-    spans: Schedule,
-    rec: &[u8],
-    info: PointInfo,
+    schedule: &PeerSchedule,
+    point: &Point,
     peers: &mut [u8],
 ) -> Result<(), VerifyError>
-    requires schedule_value { read_schedule schedule.now ≡ Some (schedule_of schedule.now spans) }
-    requires reads { Reads rec.now info }
-    requires peers_room_in_bounds { peers_room ≤ length peers.old }
-    ensures checked { PeersChecked conf schedule.now spans rec.now info (result_err result) }
-    ensures buffer { BufferAfter conf schedule.now spans rec.now info (result_err result) peers.old peers.new }
+    requires { peers_room ≤ length peers.old }
+    ensures checked { PeersChecked conf schedule.now point.now (result_err result) }
+    ensures buffer { BufferAfter conf schedule.now point.now (result_err result) peers.old peers.new }
 {
-    check_evidence_peers(conf, schedule, spans, rec, info, peers)?;
-    check_includes_peers(conf, schedule, spans, rec, info, peers)?;
-    check_witness_peers(conf, schedule, spans, rec, info, peers)
+    check_evidence_peers(conf, schedule, point, peers)?;
+    check_includes_peers(conf, schedule, point, peers)?;
+    check_witness_peers(conf, schedule, point, peers)
 }

@@ -1,26 +1,21 @@
 // check_well_formed, with PointInfo::check_structure and PointData::check_non_genesis_structure.
 #![tactic(auto)]
 
-ghost use Rattle.std.specs.Prelude.{◌≡◌, option_map};
+ghost use Rattle.std.specs.Prelude.{◌≡◌};
 ghost use Rattle.std.specs.Result.{result_err};
 ghost use Rattle.parts.specs.Code.{number};
 ghost use Rattle.base.specs.Base.{concat, first_of};
-ghost use Rattle.point.specs.Point.{sticky_anchors, target_round_of};
-ghost use Rattle.point.specs.Code.{through_of, link_of, point_of, Reads};
+ghost use Rattle.point.specs.Point.{sticky_anchors};
+ghost use Rattle.point.specs.Code.{link_of};
+ghost use Rattle.point.specs.Said.{said};
 ghost use Rattle.schedule.specs.Code.{settings_of};
-ghost use Rattle.rules.specs.Verify.{links_own, is_genesis, is_zero, genesis_structure_rows, point_map, target_too_new, bad_link, own_point_rows, link_rows};
+ghost use Rattle.rules.specs.Verify.{links_own, genesis_structure_rows, target_too_new, bad_link, own_point_rows, link_rows};
 ghost use Rattle.rules.specs.Verify.{structure_rows, genesis_rows, sticky_fault, above_rows, well_formed_rows};
 
 use parts::Id;
-use point::{AnchorLink, AnchorStageRole, PointInfo, PointMap, PointRole, Through};
+use point::{AnchorLink, AnchorStageRole, Point, PointInfo, PointMap, PointRole, Through};
 use reasons::{IllFormedReason, StructureIssue, VerifyError};
 use schedule::Settings;
-
-fn is_genesis(role: PointRole) -> bool
-    ensures { result ≡ is_genesis role }
-{
-    matches!(role, PointRole::Genesis)
-}
 
 // Whether a link goes directly to the author's own point among the includes.
 #[tactic(auto, unfolding(rules::specs::Verify::links_own), using(point::proofs::Ids::same_words))]
@@ -30,43 +25,26 @@ fn links_own(author: Id, link: AnchorLink) -> bool
     matches!(link, AnchorLink::Direct(Through::Includes(peer)) if peer == author)
 }
 
-// Whether a digest is there and is all zeros.
-fn is_zero(digest: Option<Id>) -> bool
-    ensures { result ≡ is_zero (option_map number digest) }
-{
-    digest == Some(parts::NO_ID)
-}
-
 // check_structure of genesis.
 #[tactic(auto, unfolding(rules::specs::Verify::genesis_structure_rows), using(crate::proofs::Laws::point_rows))]
-fn check_genesis_structure(rec: &[u8], info: PointInfo) -> Result<(), StructureIssue>
-    requires { Reads rec.now info }
-    ensures { result_err result ≡ first_of (concat (genesis_structure_rows (point_of rec.now info))) }
+fn check_genesis_structure(point: &Point) -> Result<(), StructureIssue>
+    ensures { result_err result ≡ first_of (concat (genesis_structure_rows (said point.now))) }
 {
+    let info = &point.info;
     let author = info.id.author;
-    if !is_genesis(info.role) {
+    if info.role != PointRole::Genesis {
         return Err(StructureIssue::ExpectedGenesis(true));
     }
     if info.time != info.anchor_time {
         return Err(StructureIssue::AnchorTime);
     }
-    if !is_zero(point::prev_digest(rec, info))
+    if point.prev_digest() != Some(parts::NO_ID)
         || !links_own(author, info.anchor_proof)
         || !links_own(author, info.anchor_trigger)
     {
         return Err(StructureIssue::BadGenesisPrevPoint);
     }
     Ok(())
-}
-
-// The map that a link goes through.
-fn point_map(through: Through) -> PointMap
-    ensures { result ≡ point_map (through_of through) }
-{
-    match through {
-        Through::Includes(_) => PointMap::Includes,
-        Through::Witness(_) => PointMap::Witness,
-    }
 }
 
 // Whether a link's target is not below the round of the map that the link goes through.
@@ -82,26 +60,23 @@ fn is_target_too_new(round: u32, link: AnchorLink) -> bool
 
 // Whether the peer that a link goes through is not in its map, or its target is too new.
 #[tactic(auto, unfolding(rules::specs::Verify::bad_link), using(crate::proofs::Laws::point_rows))]
-fn is_bad_link(rec: &[u8], info: PointInfo, link: AnchorLink) -> bool
-    requires { Reads rec.now info }
-    ensures { result ≡ bad_link (point_of rec.now info) (link_of link) }
+fn is_bad_link(point: &Point, link: AnchorLink) -> bool
+    ensures { result ≡ bad_link (said point.now) (link_of link) }
 {
-    point::digest_safe(rec, info, link.through()).is_none()
-        || is_target_too_new(info.id.round, link)
+    point.digest_safe(link.through()).is_none() || is_target_too_new(point.info.id.round, link)
 }
 
 // The author's own points: the previous one, and none among evidence and witness.
 #[tactic(auto, unfolding(rules::specs::Verify::own_point_rows), using(crate::proofs::Laws::point_rows))]
-fn check_own_points(rec: &[u8], info: PointInfo) -> Result<(), StructureIssue>
-    requires { Reads rec.now info }
-    ensures { result_err result ≡ first_of (concat (own_point_rows (point_of rec.now info))) }
+fn check_own_points(point: &Point) -> Result<(), StructureIssue>
+    ensures { result_err result ≡ first_of (concat (own_point_rows (said point.now))) }
 {
-    let author = info.id.author;
-    let has_prev_point = point::prev_digest(rec, info).is_some();
-    if info.role.requires_prev_point() && !has_prev_point {
+    let author = point.info.id.author;
+    let has_prev_point = point.prev_digest().is_some();
+    if point.info.role.requires_prev_point() && !has_prev_point {
         return Err(StructureIssue::NoPrevPoint);
     }
-    let evidence = point::evidence(rec, info);
+    let evidence = point.evidence();
     let lacks_evidence = map::count(evidence, 32) == 0;
     if lacks_evidence == has_prev_point {
         return Err(StructureIssue::AuthorInMap(PointMap::Includes));
@@ -109,7 +84,7 @@ fn check_own_points(rec: &[u8], info: PointInfo) -> Result<(), StructureIssue>
     if map::search(evidence, 32, author).is_some() {
         return Err(StructureIssue::AuthorInMap(PointMap::Evidence));
     }
-    if map::search(point::witness(rec, info), 64, author).is_some() {
+    if map::search(point.witness(), 64, author).is_some() {
         return Err(StructureIssue::AuthorInMap(PointMap::Witness));
     }
     Ok(())
@@ -117,25 +92,25 @@ fn check_own_points(rec: &[u8], info: PointInfo) -> Result<(), StructureIssue>
 
 // The anchor links and the times.
 #[tactic(auto, unfolding(rules::specs::Verify::link_rows), using(crate::proofs::Laws::point_rows))]
-fn check_links(rec: &[u8], info: PointInfo) -> Result<(), StructureIssue>
-    requires { Reads rec.now info }
-    ensures { result_err result ≡ first_of (concat (link_rows (point_of rec.now info))) }
+fn check_links(point: &Point) -> Result<(), StructureIssue>
+    ensures { result_err result ≡ first_of (concat (link_rows (said point.now))) }
 {
+    let info = &point.info;
     let proof = info.anchor_proof;
     if info.role.is_anchor_trigger() && !links_own(info.id.author, proof) {
         return Err(StructureIssue::TriggerBadProofLink);
     }
-    if is_bad_link(rec, info, proof) {
+    if is_bad_link(point, proof) {
         return Err(StructureIssue::Link {
             role: AnchorStageRole::Proof,
-            map: point_map(proof.through()),
+            map: proof.through().into(),
         });
     }
     let trigger = info.anchor_trigger;
-    if is_bad_link(rec, info, trigger) {
+    if is_bad_link(point, trigger) {
         return Err(StructureIssue::Link {
             role: AnchorStageRole::Trigger,
-            map: point_map(trigger.through()),
+            map: trigger.through().into(),
         });
     }
     if info.time <= info.anchor_time {
@@ -146,36 +121,35 @@ fn check_links(rec: &[u8], info: PointInfo) -> Result<(), StructureIssue>
 
 // check_structure of any other point.
 #[tactic(auto, using(crate::proofs::Laws::structure_facts))]
-fn check_structure(rec: &[u8], info: PointInfo) -> Result<(), StructureIssue>
-    requires { Reads rec.now info }
-    ensures { result_err result ≡ first_of (concat (structure_rows (point_of rec.now info))) }
+fn check_structure(point: &Point) -> Result<(), StructureIssue>
+    ensures { result_err result ≡ first_of (concat (structure_rows (said point.now))) }
 {
-    if is_genesis(info.role) {
+    if point.info.role == PointRole::Genesis {
         return Err(StructureIssue::ExpectedGenesis(false));
     }
-    check_own_points(rec, info)?;
-    check_links(rec, info)
+    check_own_points(point)?;
+    check_links(point)
 }
 
 #[tactic(auto, unfolding(rules::specs::Verify::genesis_rows), using(crate::proofs::Laws::point_rows))]
-fn check_genesis(conf: Settings, rec: &[u8], info: PointInfo) -> Result<(), VerifyError>
-    requires { Reads rec.now info }
-    ensures { result_err result ≡ first_of (concat (genesis_rows (settings_of conf) (point_of rec.now info))) }
+fn check_genesis(conf: Settings, point: &Point) -> Result<(), VerifyError>
+    ensures { result_err result ≡ first_of (concat (genesis_rows (settings_of conf) (said point.now))) }
 {
-    if info.id.digest != conf.genesis_digest {
+    let info = &point.info;
+    if !parts::same(info.id.digest, conf.genesis_digest) {
         return Err(IllFormedReason::FalseGenesis.into());
     }
     if 0 < info.payload_len {
         return Err(IllFormedReason::TooLargePayload(info.payload_bytes).into());
     }
-    check_genesis_structure(rec, info)?;
+    check_genesis_structure(point)?;
     Ok(())
 }
 
 // The sequence number of a proof and its last flag.
 #[tactic(auto, using(crate::proofs::Laws::sticky_facts))]
-fn check_sticky(conf: Settings, info: PointInfo) -> Result<(), VerifyError>
-    ensures { result_err result ≡ first_of (sticky_fault (settings_of conf) (sticky_anchors info.role)) }
+fn check_sticky(conf: Settings, info: &PointInfo) -> Result<(), VerifyError>
+    ensures { result_err result ≡ first_of (sticky_fault (settings_of conf) (sticky_anchors info.now.role)) }
 {
     let Some(sticky) = info.sticky_anchors() else {
         return Ok(());
@@ -190,29 +164,19 @@ fn check_sticky(conf: Settings, info: PointInfo) -> Result<(), VerifyError>
     Ok(())
 }
 
-// The round of a link's target.
-fn target_round(round: u32, link: AnchorLink) -> u32
-    ensures { result ≡ target_round_of round (link_of link) }
-{
-    match link {
-        AnchorLink::Direct(through) => through.round(round),
-        AnchorLink::Indirect(indirect) => indirect.to.round,
-    }
-}
-
 #[tactic(auto, unfolding(rules::specs::Verify::above_rows), using(crate::proofs::Laws::point_rows))]
-fn check_above_genesis(conf: Settings, rec: &[u8], info: PointInfo) -> Result<(), VerifyError>
-    requires { Reads rec.now info }
-    ensures { result_err result ≡ first_of (concat (above_rows (settings_of conf) (point_of rec.now info))) }
+fn check_above_genesis(conf: Settings, point: &Point) -> Result<(), VerifyError>
+    ensures { result_err result ≡ first_of (concat (above_rows (settings_of conf) (said point.now))) }
 {
+    let info = &point.info;
     let round = info.id.round;
     if conf.payload_batch_bytes < info.payload_bytes {
         return Err(IllFormedReason::TooLargePayload(info.payload_bytes).into());
     }
-    check_structure(rec, info)?;
+    check_structure(point)?;
     check_sticky(conf, info)?;
-    if target_round(round, info.anchor_proof) < conf.genesis_round
-        || target_round(round, info.anchor_trigger) < conf.genesis_round
+    if info.anchor_proof.target_round(round) < conf.genesis_round
+        || info.anchor_trigger.target_round(round) < conf.genesis_round
     {
         return Err(IllFormedReason::LinksAcrossGenesis.into());
     }
@@ -220,12 +184,11 @@ fn check_above_genesis(conf: Settings, rec: &[u8], info: PointInfo) -> Result<()
 }
 
 #[tactic(auto, unfolding(rules::specs::Verify::well_formed_rows))]
-pub fn check_well_formed(conf: Settings, rec: &[u8], info: PointInfo) -> Result<(), VerifyError>
-    requires { Reads rec.now info }
-    ensures { result_err result ≡ first_of (concat (well_formed_rows (settings_of conf) (point_of rec.now info))) }
+pub fn check_well_formed(conf: Settings, point: &Point) -> Result<(), VerifyError>
+    ensures { result_err result ≡ first_of (concat (well_formed_rows (settings_of conf) (said point.now))) }
 {
-    if info.id.round == conf.genesis_round {
-        return check_genesis(conf, rec, info);
+    if point.info.id.round == conf.genesis_round {
+        return check_genesis(conf, point);
     }
-    check_above_genesis(conf, rec, info)
+    check_above_genesis(conf, point)
 }

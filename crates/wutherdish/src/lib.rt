@@ -27,7 +27,7 @@ pub fn wutherdish_verify(
     match verify::verify(settings, schedule, rec, peers) {
         Err(refusal) => refusal.number(),
         Ok(verified) => {
-            answer::put_answer(answer, answer::of_verified(verified));
+            answer::put_answer(answer, verified.into());
             0
         }
     }
@@ -58,7 +58,7 @@ pub fn wutherdish_judge(
     match judge::judge(settings, schedule, rec, leader, presence, list, peers) {
         Err(refusal) => refusal.number(),
         Ok(judged) => {
-            answer::put_answer(answer, answer::of_verdict(judged));
+            answer::put_answer(answer, judged.into());
             0
         }
     }
@@ -96,7 +96,7 @@ pub fn wutherdish_offer(
     match book::offer(book, schedule, leader, rec, peers) {
         Err(refusal) => refusal.number(),
         Ok(verdict) => {
-            answer::put_answer(answer, answer::of_verdict(verdict));
+            answer::put_answer(answer, verdict.into());
             0
         }
     }

@@ -8,10 +8,6 @@ use Rattle.answer.proofs.put_answer.Goals as goal
 pub returns : goal.returns
 unfolding answer_bytes
 returns c =
-    let r = c in
-    let n = r in
-    let h = n in
-    let s = h in
-    let a = answer_of s.args.a in
-    rw (r.put_root.ensures, n.put_numbers.ensures, h.put_head.ensures)
-    (put_three s.args.out.now 0 (head_bytes a) (number_bytes a) (root_bytes a) 70 80 refl refl s.requires)
+    let a = answer_of c.args.a in
+    rw (c.put_root.ensures, c.put_numbers.ensures, c.put_head.ensures)
+    (put_three c.args.out.now 0 (head_bytes a) (number_bytes a) (root_bytes a) 70 80 refl refl c.requires)

@@ -1,6 +1,6 @@
 -- `judge_needed` meets its contract: what was read of the book serves after the marks.
 use native.Mathlib.Omega.{arith}
-use mathlib.Core.Path.{ap, sym}
+use mathlib.Core.Path.{sym}
 use Rattle.parts.specs.Bytes.{Bytes}
 use Rattle.book_read.proofs.Marked.{marked-holds, marked-index}
 use Rattle.book_judge.proofs.Looked.{held-entries}
@@ -10,10 +10,10 @@ use Rattle.book.proofs.judge_needed.Goals.{After-mark_covered}
 bytes : (c : After-mark_covered) → Bytes c.args.book.now
 bytes c k = omega (arith, c.slice_known-1.given k)
 
-pub judge_book-verdict-requires-clause-entries : goal.judge_book-verdict-requires-clause-entries
-judge_book-verdict-requires-clause-entries c =
+pub judge_book-verdict-requires : goal.judge_book-verdict-requires
+judge_book-verdict-requires c =
     let h = c.requires.read in
-    let at = goal.at.judge_book-verdict-requires-clause-entries c in
+    let at = goal.at.judge_book-verdict-requires c in
     held-entries (marked-holds (bytes at.After-mark_covered) h.read _ (c.mark_covered.ensures h.opened h.read) h.holds) (marked-index (bytes at.After-mark_covered) h.read _ (c.mark_covered.ensures h.opened h.read) h.holds h.index)
 
 pub returns : goal.returns

@@ -1,7 +1,7 @@
 -- `offer` meets its contract: the writes make of the bytes what was decided.
 use Rattle.std.specs.Prelude.{Ok}
 use native.Mathlib.Omega.{arith}
-use mathlib.Core.Path.{◌≡◌, ap, ◌∙◌, subst}
+use mathlib.Core.Path.{subst}
 use Rattle.parts.specs.Bytes.{Bytes}
 use Rattle.reasons.specs.Code.{verdict_of}
 use Rattle.books.specs.Offer.{Offer, offer_of}
@@ -30,7 +30,7 @@ pub judge_needed-requires : goal.judge_needed-requires
 judge_needed-requires c =
     let at = goal.at.judge_needed-requires c in
     let q = asks at.In-Needed in
-    record { read = q.ready.read; reads = q.reads; tag33length_in_bounds = ready-room q.ready (bytes at.In_ok-decided) }
+    record { read = q.ready.read; tag33length_in_bounds = rw q.bytes (ready-room q.ready (bytes at.In_ok-decided)) }
 
 pub returns-in-Judged : goal.returns-in-Judged
 returns-in-Judged c =

@@ -10,12 +10,12 @@ pub returns-then-is_trigger_first : goal.returns-then-is_trigger_first
 returns-then-is_trigger_first c =
     λ b s a.
     let q = point_of s c.args.info in
-    trigger-first (settings_of c.args.by.conf) q b (judging_of c.args.so_far) (judging_of c.judge_target-first.result) (judging_of c.judge_target.result)
+    trigger-first (settings_of c.args.by.now.conf) q b (judging_of c.args.so_far) (judging_of c.judge_target-first.result) (judging_of c.judge_target.result)
     (sym c.is_trigger_first.ensures ∙ c.if-is_trigger_first.true) (c.judge_target-first.ensures b q a refl) (c.judge_target.ensures b q a refl)
 
 pub returns : goal.returns
 returns c =
     λ b s a.
     let q = point_of s c.args.info in
-    proof-first (settings_of c.args.by.conf) q b (judging_of c.args.so_far) (judging_of c.judge_target-first-2.result) (judging_of c.judge_target-2.result)
+    proof-first (settings_of c.args.by.now.conf) q b (judging_of c.args.so_far) (judging_of c.judge_target-first-2.result) (judging_of c.judge_target-2.result)
     (sym c.is_trigger_first.ensures ∙ c.if-is_trigger_first.false) (c.judge_target-first-2.ensures b q a refl) (c.judge_target-2.ensures b q a refl)

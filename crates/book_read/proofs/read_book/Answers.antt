@@ -1,6 +1,6 @@
 -- `read_book` meets its contract: the settings, the entries, the zeros after them, and no id twice.
 use Rattle.std.specs.Prelude.{option_map}
-use mathlib.Core.Path.{◌≡◌, ap, sym, subst, ◌∙◌}
+use mathlib.Core.Path.{ap, sym, subst, ◌∙◌}
 use Rattle.schedule.specs.Code.{settings_of}
 use Rattle.id_index.specs.Code.{Built}
 use Rattle.book_read.proofs.Steps.{too_short, too_long, no_settings, no_book, no_zeros, id-twice, book-read}

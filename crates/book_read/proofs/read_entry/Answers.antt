@@ -17,7 +17,7 @@ begins : (c : Else-count-eq-MOST_KEPT) → eqb (get_or c.args.book.now c.args.pl
 begins c = not-true _ c.requires.book_len_bound.1
 
 room : (c : Else-count-eq-MOST_KEPT) → count_of c.args.index.now < 4096
-room c = omega (arith, c.if-count-eq-MOST_KEPT.false, c.count.ensures, c.requires.reading.noted.places.room)
+room c = omega (arith, c.if-count-eq-MOST_KEPT.false, c.count.ensures, c.args.index.now.room)
 
 pub returns-then-count-eq-MOST_KEPT : goal.returns-then-count-eq-MOST_KEPT
 returns-then-count-eq-MOST_KEPT c =
@@ -34,4 +34,4 @@ returns c =
     let at = (goal.at.returns c).Else-count-eq-MOST_KEPT in
     let to = c.in_ok-size.ensures in
     let kept = entry_at _ _ _ (rest c.args.place c.args.book.now) c.in_ok-size.size to c.requires.reading.within in
-    (omega arith, entry-added c.requires.reading (begins at) (room at) c.in_ok-size.size to.kept kept _ c.add.ensures)
+    (omega arith, entry-added c.requires.reading (begins at) (room at) c.in_ok-size.size to.kept kept c.add.ensures)

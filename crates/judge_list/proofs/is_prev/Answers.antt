@@ -11,14 +11,14 @@ use Rattle.judge_list.proofs.is_prev.Goals as goal
 pub returns-then-not-is_own_before : goal.returns-then-not-is_own_before
 returns-then-not-is_own_before c =
     let a = c.args in
-    sym (prev-other (point_id_of a.p.id) _ (option_map number a.p.prev_digest) (sym c.is_own_before.ensures ∙ c.if-not-is_own_before.true))
+    sym (prev-other (point_id_of a.p.now.id) _ (option_map number a.p.now.prev_digest) (sym c.is_own_before.ensures ∙ c.if-not-is_own_before.true))
 
 pub returns-in-Some : goal.returns-in-Some
 returns-in-Some c =
     let a = c.args in
     c.same.ensures
-    ∙ sym (ap (λ o. is_id (prev_of (point_id_of a.p.id) (option_map number o)) (point_id_of a.id)) c.in-Some.is
-    ∙ prev-digest (point_id_of a.p.id) (point_id_of a.id) _ (sym c.is_own_before.ensures ∙ c.if-not-is_own_before.false))
+    ∙ sym (ap (λ o. is_id (prev_of (point_id_of a.p.now.id) (option_map number o)) (point_id_of a.id)) c.in-Some.is
+    ∙ prev-digest (point_id_of a.p.now.id) (point_id_of a.id) _ (sym c.is_own_before.ensures ∙ c.if-not-is_own_before.false))
 
 pub returns-in-None : goal.returns-in-None
 returns-in-None c = rw c.in-None.is

@@ -1,9 +1,8 @@
 -- `end_bytes` meets its contract: a number after the word.
 use native.Mathlib.Omega.{arith}
 use mathlib.Core.Path.{subst}
-use mathlib.Core.List.{List, ◌∷◌}
+use mathlib.Core.List.{List}
 use Prim.Native.Nat.{ℕ}
-use Rattle.tally_line.specs.Text.{space}
 use Rattle.tally_line.specs.Code.{Put}
 use Rattle.tally_line.proofs.Laws.{joined, counts, end_pieces}
 use Rattle.tally_line.proofs.end_bytes.Goals as goal
@@ -12,8 +11,7 @@ pub returns : goal.returns
 returns c =
     let out = c.args.out.now in
     let u = c.put_number.ensures in
-    let first : Put out 0 (101 ∷ 110 ∷ 100 ∷ space) c.put_slice.new.out 4 = record { written = c.put_slice.ensures; ends = omega arith } in
-    let both = joined out 0 _ _ _ _ _ _ first u.put (omega (arith, u.within)) in
+    let both = joined out 0 _ _ _ _ _ _ c.put-word_end.ensures u.put (omega arith) in
     record {
       put = subst (λ (x : List ℕ). Put out 0 x c.put_number.new.out c.put_number.result) (end_pieces c.args.kept) both;
       counts = counts out _ c.put_number.new.out c.put_number.result both (omega (arith, u.within));

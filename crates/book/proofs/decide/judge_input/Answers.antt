@@ -14,7 +14,7 @@ returns-in_err-known c = λ s x w h.
     let k = c.in_err-known in
     let e : c.from_residual.result ≡ Err k.field-0.0 = grind (arith, common_steps) in
     let a = c.args in
-    subst (λ r. Decides s (offer_of a.schedule.now a.leader a.rec.now a.peers.now) r x c.before_list.new.peers) (sym e) (ready-refused h w _ k.ensures.buffer _ (sym k.ensures.same))
+    subst (λ r. Decides s (offer_of a.input.now.schedule.bytes.now a.leader a.input.now.point.rec.now a.peers.now) r x c.before_list.new.peers) (sym e) (ready-refused h w _ k.ensures.buffer _ (sym k.ensures.same))
 
 pub returns-in-Judged : goal.returns-in-Judged
 returns-in-Judged c = λ s x w h.
@@ -27,9 +27,9 @@ returns-in-Needed c = λ s x w h.
     let a = c.args in
     let k = c.in_ok-known in
     record {
-      input = input_of a.input a.schedule.now a.rec.now;
+      input = input_of a.input.now;
       ready = h;
-      reads = c.requires.reads;
+      bytes = refl;
       point = refl;
       list = sym k.ensures.same ∙ ap (λ b. before_of (Ok b)) c.in-Needed.is;
       peers = k.ensures.buffer;

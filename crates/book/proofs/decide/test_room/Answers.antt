@@ -11,13 +11,14 @@ use Rattle.schedule.specs.Settings.{Settings}
 use Rattle.books.specs.Kept.{Book, find_kept}
 use Rattle.books.specs.Offer.{is_full}
 use Rattle.id_index.specs.Code.{FoundAt}
+use Rattle.id_index.specs.declared.Index as code-index
 use Rattle.book_read.specs.Code.{Holds, IsRead}
 use Rattle.book_read.proofs.Laws.{found-kept, absent-kept}
 use Rattle.book.proofs.Tests.{is-there, no_room, all-taken, full_is}
 use Rattle.book.proofs.decide.test_room.Goals as goal
 use Rattle.book.proofs.decide.test_room.Goals.{Else-is_some, After-is_full}
 
-module _ (s x : List ℕ) (b : Book) (id : PointId) (h : Holds s b x) where
+module _ (s : List ℕ) (x : code-index.Index) (b : Book) (id : PointId) (h : Holds s b x) where
   there : (r : Option ℕ) → FoundAt s x id r → is_some r ≡ true → is_some (find_kept b id) ≡ true
   there (Some j) f e = rw (found-kept h _ _ f).found
   there None f e = impossible (cc)

@@ -3,5 +3,5 @@ use native.Mathlib.Omega.{arith}
 use Rattle.record.proofs.Laws.{next-within}
 use Rattle.book_certify.proofs.take.rows_back.Goals as goal
 
-pub content_at-requires-in_default : goal.content_at-requires-in_default
-content_at-requires-in_default c = omega (arith, c.next.ensures, next-within c.args.s.now 82)
+pub content_at-requires-in-Witness : goal.content_at-requires-in-Witness
+content_at-requires-in-Witness c = omega (arith, c.next.ensures, next-within c.args.s.now 82)

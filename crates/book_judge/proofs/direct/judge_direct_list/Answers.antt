@@ -18,33 +18,30 @@ use Rattle.book_judge.proofs.direct.judge_direct_list.Goals as goal
 use Rattle.book_judge.proofs.direct.judge_direct_list.Goals.{After-judge_map-both}
 
 abbrev point : After-judge_map-both → code-info.PointInfo → PointInfo
-point c i = point_of c.args.rec.now i
+point c i = point_of c.args.point.now.rec.now i
 
 maps : (c : After-judge_map-both) (b : Book) (i : code-info.PointInfo) →
-    Asked c.args.book.now b c.args.index.now c.args.by.view (point c i) → in_domain (point c i) ≡ true →
+    Asked c.args.book.now.bytes.now b c.args.book.now.index.now c.args.by.now.view (point c i) → in_domain (point c i) ≡ true →
     judging_of c.judge_map-both.result
-    ≡ in_maps (settings_of c.args.by.conf) c.args.by.required (point_view_of c.args.by.view) b (point c i) start
+    ≡ in_maps (settings_of c.args.by.now.conf) c.args.by.now.required (point_view_of c.args.by.now.view) b (point c i) start
 maps c b i a d =
-    maps_judged (settings_of c.args.by.conf) c.args.by.required (point_view_of c.args.by.view) b (point c i) start
+    maps_judged (settings_of c.args.by.now.conf) c.args.by.now.required (point_view_of c.args.by.now.view) b (point c i) start
     c.rounds_back-two.result c.rounds_back-one.result (pairs_of c.witness-far.result.now) (pairs_of c.includes-near.result.now)
     (judging_of c.judge_map-done.result) (judging_of c.judge_map-both.result)
     a.view d c.rounds_back-two.ensures c.rounds_back-one.ensures (ap pairs_of c.witness-far.ensures) (ap pairs_of c.includes-near.ensures)
     (c.judge_map-done.ensures b (point c i) a) (c.judge_map-both.ensures b (point c i) a)
 
-pub judge_versions-requires : goal.judge_versions-requires
-judge_versions-requires c = c.requires.entries
-
 pub returns-in-Some : goal.returns-in-Some
 returns-in-Some c =
     λ b i a d.
     let q = point (goal.at.returns-in-Some c).After-judge_map-both i in
-    direct-linked (settings_of c.args.by.conf) c.args.by.required (point_view_of c.args.by.view) b q start (judging_of c.judge_map-both.result)
-    (ap (λ (o : Option ℕ). is_some o) (sym (view-prev (point_view_of c.args.by.view) q a.view) ∙ ap (option_map number) c.in-Some.is)) (maps (goal.at.returns-in-Some c).After-judge_map-both b i a d)
+    direct-linked (settings_of c.args.by.now.conf) c.args.by.now.required (point_view_of c.args.by.now.view) b q start (judging_of c.judge_map-both.result)
+    (ap (λ (o : Option ℕ). is_some o) (sym (view-prev (point_view_of c.args.by.now.view) q a.view) ∙ ap (option_map number) c.in-Some.is)) (maps (goal.at.returns-in-Some c).After-judge_map-both b i a d)
 
 pub returns-in-None : goal.returns-in-None
 returns-in-None c =
     λ b i a d.
     let q = point (goal.at.returns-in-None c).After-judge_map-both i in
-    versions-after (settings_of c.args.by.conf) c.args.by.required (point_view_of c.args.by.view) b q start (judging_of c.judge_map-both.result) _ a.view
-    (sym (view-prev (point_view_of c.args.by.view) q a.view) ∙ ap (option_map number) c.in-None.is)
+    versions-after (settings_of c.args.by.now.conf) c.args.by.now.required (point_view_of c.args.by.now.view) b q start (judging_of c.judge_map-both.result) _ a.view
+    (sym (view-prev (point_view_of c.args.by.now.view) q a.view) ∙ ap (option_map number) c.in-None.is)
     (maps (goal.at.returns-in-None c).After-judge_map-both b i a d) (c.judge_versions.ensures b a.holds)

@@ -12,6 +12,6 @@ use Rattle.book_judge.proofs.direct.judge_map.Given as goal
 
 abbrev pub invariant-loop-i : goal.invariant-loop-i
 invariant-loop-i l =
-    (b : Book) (q : point.PointInfo) → Asked l.book b l.index l.by.view q → NoVersions q l.round (pairs_of l.rows) →
+    (b : Book) (q : point.PointInfo) → Asked l.book.bytes.now b l.book.index.now l.by.view q → NoVersions q l.round (pairs_of l.rows) →
     MapLeft (settings_of l.by.conf) l.by.required (point_view_of l.by.view) b q l.round (pairs_of l.rows)
     (direct_fold (settings_of l.by.conf) l.by.required (point_view_of l.by.view) (judging_of l.initial.judging) (lookups b q l.round (pairs_of l.rows))) l.i (judging_of l.judging)

@@ -9,5 +9,5 @@ use Rattle.book_judge.proofs.direct.judge_versions.Given as goal
 
 abbrev pub invariant-loop-j : goal.invariant-loop-j
 invariant-loop-j l =
-    (b : Book) → Holds l.book b l.index →
+    (b : Book) → Holds l.book.bytes.now b l.book.index.now →
     VersionsLeft (settings_of l.by.conf) l.by.required (point_view_of l.by.view) b (versions_fold (settings_of l.by.conf) l.by.required (point_view_of l.by.view) (versions_of l.initial.so_far) b) l.j (versions_of l.so_far)

@@ -35,13 +35,13 @@ long c = tag-inside _ _ (tagged c)
 pub returns-in_err-shape : goal.returns-in_err-shape
 returns-in_err-shape c = rw c.from_residual.ensures (front_endless _ c.in_err-shape.ensures)
 
-pub slice_bounds-rec-end : goal.slice_bounds-rec-end
-slice_bounds-rec-end c = sym (length-take-le _ _ (end-within _ _ c.in_ok-shape.ensures.end))
+pub slice_bounds-fields-end : goal.slice_bounds-fields-end
+slice_bounds-fields-end c = sym (length-take-le _ _ (end-within _ _ c.in_ok-shape.ensures.end))
 
-pub is_point-requires : goal.is_point-requires
-is_point-requires c =
+pub invariant_of-fields : goal.invariant_of-fields
+invariant_of-fields c =
     let x = c.in_ok-shape.ensures in
-    (front-shaped _ _ x.end, front-places _ _ x.end _ x.at)
+    record { shaped = front-shaped _ _ x.end; placed = front-places _ _ x.end _ x.at }
 
 pub returns-then-not-is_point : goal.returns-then-not-is_point
 returns-then-not-is_point c = front-unread _ _ _ c.in_ok-shape.ensures.end refl (unfound _ (sym c.is_point.ensures ∙ c.if-not-is_point.true))
@@ -65,9 +65,8 @@ slice_bounds-is_entry-end c = omega (arith, long (goal.at.slice_bounds-is_entry-
 
 pub is_entry-requires : goal.is_entry-requires
 is_entry-requires c =
-    let x = c.in_ok-shape.ensures in
     record {
-      reads = (sym c.is_point.ensures ∙ c.if-not-is_point.false, front-places _ _ x.end _ x.at);
+      reads = sym c.is_point.ensures ∙ c.if-not-is_point.false;
       long = tag-length _ _ (long (goal.at.is_entry-requires c).Else-not-field_ok);
     }
 

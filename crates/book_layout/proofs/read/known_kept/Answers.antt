@@ -40,4 +40,4 @@ pub returns : goal.returns
 returns c =
     let n = end (goal.at.returns c).After-known_end-n in
     let s = c.args.s.now in
-    known_kept s c.requires (take n s) n c.known_end-n.ensures refl _ (tag_part n s) _ _ c.known_point.ensures c.status_of.ensures
+    known_kept s c.requires (take n s) n c.known_end-n.ensures refl _ (tag_part n s) _ c.known_point.ensures c.status_of.ensures refl

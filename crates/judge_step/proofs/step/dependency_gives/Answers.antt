@@ -9,7 +9,7 @@ use Rattle.schedule.specs.Code.{settings_of}
 use Rattle.reasons.specs.Invalid.{InvalidDependency}
 use Rattle.rules.specs.DagPoint.{DagPoint, entry_id}
 use Rattle.rules.specs.Validate.{record_of, direct_through, point_rows}
-use Rattle.judge_entries.specs.Code.{dag_point_of, entry_of}
+use Rattle.judge_entries.specs.Entry.{entry_of}
 use Rattle.judge_valid.specs.Code.{point_view_of}
 use Rattle.judge_step.proofs.Laws.{all_found}
 use Rattle.judge_step.proofs.step.dependency_gives.Goals as goal
@@ -20,18 +20,11 @@ recorded : (c : Settings) (round : ℕ) (certified : Bool) (d : DagPoint) (t : T
 recorded c round certified d t i o h g e = h ∙ ap (λ (x : Through). record_of c round certified x d) (g ∙ ap (direct_through round) e)
 
 pub returns : goal.returns
-returns c = λ first.
-    let a = c.args in
-    let s = a.rec.now in
-    let conf = settings_of a.conf in
-    let p = point_view_of a.p in
-    all_found
-    conf
-    p.id.round
-    (direct_through p.id.round (entry_id (dag_point_of s a.point)))
-    (point_rows conf a.required a.is_prev_point p)
-    (entry_of s a.point a.certified first)
-    _
-    _
+returns c =
+    let by = c.args.by.now in
+    let e = entry_of c.args.entry.now in
+    let conf = settings_of by.conf in
+    let p = point_view_of by.view in
+    all_found conf p.id.round (direct_through p.id.round (entry_id e.state)) (point_rows conf by.required c.args.is_prev_point p) e _ _
     c.dependency_reason.ensures
-    (recorded conf p.id.round a.certified (dag_point_of s a.point) _ _ _ (c.record_of.ensures s) c.direct_through-direct.ensures (c.id.ensures s))
+    (recorded conf p.id.round e.certified e.state _ _ _ c.root_of.ensures c.direct_through-direct.ensures (c.id.ensures c.args.entry.now.rec.now))

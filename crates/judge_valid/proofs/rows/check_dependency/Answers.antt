@@ -1,6 +1,7 @@
 -- `check_dependency` meets its contract: the rows are asked from the last to the first, which is that of the previous point alone.
 use Rattle.std.specs.Prelude.{option_map}
 use Rattle.std.specs.Option.{option_or}
+use Rattle.std.proofs.Common.{rules}
 use mathlib.Core.Bool.{Bool}
 use mathlib.Core.Path.{◌≡◌, sym, ◌∙◌}
 use mathlib.Core.List.{List, [], ◌∷◌}
@@ -13,9 +14,9 @@ use Rattle.schedule.specs.Code.{settings_of}
 use Rattle.rules.specs.DagPoint.{PointView, DepView}
 use Rattle.rules.specs.Validate.{proof_row, time_row, newer_row, anchor_rows, point_rows}
 use Rattle.judge_valid.specs.Code.{point_view_of, dep_view_of}
-use Rattle.judge_valid.proofs.Laws.{or_given, or_none, last_empty, rows_last, rows_one}
+use Rattle.judge_valid.proofs.Laws.{or_else_told, or_none, last_empty, rows_last, rows_one}
 use Rattle.judge_valid.proofs.rows.check_dependency.Goals as goal
-use Rattle.judge_valid.proofs.rows.check_dependency.Goals.{After-or-later}
+use Rattle.judge_valid.proofs.rows.check_dependency.Goals.{After-or_else-later}
 
 -- the rows after the first
 abbrev after : Settings → PointView → DepView → List (List InvalidReason)
@@ -26,23 +27,28 @@ table : (s : Settings) (required is_prev : Bool) (p : PointView) (q : DepView) �
 unfolding point_rows
 table s required is_prev p q = rows_last (pick is_prev (proof_row required p q) []) (after s p q)
 
-later : (c : After-or-later) → option_map reason_of c.or-later.result ≡ last_of (concat (after (settings_of c.args.conf) (point_view_of c.args.p) (dep_view_of c.args.q)))
+later : (c : After-or_else-later) → option_map reason_of c.or_else-later.result ≡ last_of (concat (after (settings_of c.args.by.now.conf) (point_view_of c.args.by.now.view) (dep_view_of c.args.q.now)))
 later c =
-    let p = point_view_of c.args.p in
-    let q = dep_view_of c.args.q in
-    or_given _ _ _ _ _ c.or-later.ensures
-    (or_given _ _ _ _ _ c.or-2.ensures (or_given _ _ _ _ _ c.or.ensures c.check_links.ensures c.check_newer.ensures) c.check_newer-2.ensures)
-    c.check_time.ensures
+    let s = settings_of c.args.by.now.conf in
+    let p = point_view_of c.args.by.now.view in
+    let q = dep_view_of c.args.q.now in
+    or_else_told _ _ _ _ (last_of (time_row s p q)) c.or_else-later.ensures
+    (or_else_told _ _ _ _ (last_of (newer_row Proof p q)) c.or_else-2.ensures
+    (or_else_told _ _ _ _ (last_of (newer_row Trigger p q)) c.or_else.ensures c.check_links.ensures (λ k. search rules))
+    (λ k. search rules))
+    (λ k. search rules)
     ∙ sym (rows_last _ _ ∙ rw (rows_last (newer_row Proof p q), rows_last (newer_row Trigger p q), rows_one))
 
 pub returns-then-is_prev_point : goal.returns-then-is_prev_point
 returns-then-is_prev_point c =
-    let a = c.args in
-    rw (table (settings_of a.conf) a.required a.is_prev_point (point_view_of a.p) (dep_view_of a.q), c.if-is_prev_point.true)
-    (or_given _ _ _ _ _ c.or-then-is_prev_point.ensures (later (goal.at.returns-then-is_prev_point c).After-or-later) c.is_proof_ok.ensures)
+    let by = c.args.by.now in
+    let p = point_view_of by.view in
+    let q = dep_view_of c.args.q.now in
+    rw (table (settings_of by.conf) by.required c.args.is_prev_point p q, c.if-is_prev_point.true)
+    (or_else_told _ _ _ _ (last_of (proof_row by.required p q)) c.or_else-then-is_prev_point.ensures (later (goal.at.returns-then-is_prev_point c).After-or_else-later) (λ k. search rules))
 
 pub returns : goal.returns
 returns c =
-    let a = c.args in
-    rw (table (settings_of a.conf) a.required a.is_prev_point (point_view_of a.p) (dep_view_of a.q), c.if-is_prev_point.false, last_empty)
-    (later (goal.at.returns c).After-or-later ∙ sym (or_none _))
+    let by = c.args.by.now in
+    rw (table (settings_of by.conf) by.required c.args.is_prev_point (point_view_of by.view) (dep_view_of c.args.q.now), c.if-is_prev_point.false, last_empty)
+    (later (goal.at.returns c).After-or_else-later ∙ sym (or_none _))

@@ -2,7 +2,6 @@
 use Prim.Native.Nat.{◌+◌, ◌-◌}
 use native.Mathlib.Omega.{arith}
 use mathlib.Core.Path.{◌≡◌, sym, ◌∙◌}
-use borrow.Author.Tests.{not-true, not-false}
 use borrow.Author.Rules.{rules}
 use Rattle.base.specs.Base.{pick}
 use Rattle.record.specs.Record.{next_at}
@@ -14,30 +13,23 @@ use Rattle.tally_feed.proofs.front.schedule_end.Goals.{After-field_ok}
 
 -- one turn: the span at `at` and what is left it, or the last known round
 turn : (c : After-field_ok) →
-    let l = c in
-    let s = l.args.s.now in
-    schedule_end s ≡ pick c.field_ok.result (schedule_end_from (4 - (l.loop-spans.spans + 1)) s (next_at s l.loop-spans.at)) (last_known_end s l.loop-spans.at)
+    let s = c.args.s.now in
+    schedule_end s ≡ pick c.field_ok.result (schedule_end_from (4 - (c.loop-spans.spans + 1)) s (next_at s c.loop-spans.at)) (last_known_end s c.loop-spans.at)
 turn c =
-    let l = c in
-    let s = l.args.s.now in
-    rw c.field_ok.ensures (l.loop-spans.invariant.2 ∙ from_step (4 - l.loop-spans.spans) (4 - (l.loop-spans.spans + 1)) s l.loop-spans.at (omega arith))
+    rw c.field_ok.ensures (c.loop-spans.invariant.2 ∙ from_step (4 - c.loop-spans.spans) (4 - (c.loop-spans.spans + 1)) c.args.s.now c.loop-spans.at (omega arith))
 
 pub loop-spans-init : goal.loop-spans-init
 loop-spans-init c = (search rules, search rules, schedule-start _)
 
 pub returns-then-not-field_ok : goal.returns-then-not-field_ok
-returns-then-not-field_ok c = c.last_known_end.ensures ∙ sym (turn (goal.at.returns-then-not-field_ok c).After-field_ok ∙ rw (not-true c.field_ok.result c.if-not-field_ok.true-raw))
+returns-then-not-field_ok c = c.last_known_end.ensures ∙ sym (turn (goal.at.returns-then-not-field_ok c).After-field_ok ∙ rw c.if-not-field_ok.true)
 
 pub loop-spans-preserved : goal.loop-spans-preserved
 loop-spans-preserved c =
-    let f = c in
-    let l = f in
-    let s = l.args.s.now in
-    (search rules, omega (arith, next-within s l.loop-spans.at, c.next-at.ensures), turn (goal.at.loop-spans-preserved c).After-field_ok ∙ rw (not-false f.field_ok.result c.if-not-field_ok.false-raw, c.next-at.ensures))
+    let s = c.args.s.now in
+    (search rules, omega (arith, next-within s c.loop-spans.at, c.next-at.ensures), turn (goal.at.loop-spans-preserved c).After-field_ok ∙ rw (c.if-not-field_ok.false, c.next-at.ensures))
 
 pub returns : goal.returns
 returns c =
-    let l = c in
-    let s = l.args.s.now in
-    let e : 4 - l.loop-spans.spans ≡ 0 = omega arith in
-    c.last_known_end-2.ensures ∙ sym (l.loop-spans.invariant.2 ∙ rw (e, from-none s l.loop-spans.at))
+    let e : 4 - c.loop-spans.spans ≡ 0 = omega arith in
+    c.last_known_end-2.ensures ∙ sym (c.loop-spans.invariant.2 ∙ rw (e, from-none c.args.s.now c.loop-spans.at))

@@ -4,7 +4,8 @@ use native.Mathlib.Omega.{arith}
 use mathlib.Core.Path.{◌≡◌, refl, ap, sym, ◌∙◌}
 use mathlib.Core.List.{List}
 use lib.ListN.{length, get_or, take, drop, length-drop}
-use Rattle.point.specs.Code.{point_of}
+use Rattle.std.specs.Prelude.{Some}
+use Rattle.point.specs.Said.{said}
 use Rattle.point.specs.Reading.{read_point}
 use Rattle.base.proofs.Lists.{rest}
 use Rattle.judge.specs.Code.{judge_answer_of}
@@ -57,12 +58,13 @@ returns-in-Some c =
     let r = result at (bytes at) in
     let o = c.offer-answer in
     let e = same_bytes at in
+    let read : read_point (part at) ≡ Some (said c.in-Some.point) = rw (← c.in-Some.ensures) c.in-Some.point.reads.read in
     let told = gives-point a.book.now a.peers.now (length a.feed.now) (next at) a.place (size at) r (judge_answer_of o.result) o.new.book o.new.peers
     (o.ensures.result_value ∙ ap (λ (x : List ℕ). (result at x).answer) e)
     (o.ensures.book_after ∙ ap (λ (x : List ℕ). (result at x).after) e)
     (o.ensures.peers_after ∙ ap (λ (x : List ℕ). (result at x).peers) e)
-    (point_of (part at) c.in-Some.info) c.line_of.result
-    (offers at ∙ ap (offered_as a.place (suc (size at)) r) (ap read_point (sym e) ∙ c.in-Some.ensures.read)) c.line_of.ensures (inside at) in
+    (said c.in-Some.point) c.line_of.result
+    (offers at ∙ ap (offered_as a.place (suc (size at)) r) (ap read_point (sym e) ∙ read)) c.line_of.ensures (inside at) in
     record { same = told.0; left = told.1.0; unknown = told.1.1.0; within = told.1.1.1 }
 
 pub returns-in-None : goal.returns-in-None

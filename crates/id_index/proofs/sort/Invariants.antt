@@ -1,9 +1,0 @@
--- `sort`: the ids before j are sorted.
-use Rattle.id_index.specs.Code.{SameFront, Sorted}
-use Rattle.id_index.proofs.sort.Given as goal
-
-abbrev pub invariant-loop-j : goal.invariant-loop-j
-invariant-loop-j l = record {
-  same_front : SameFront l.initial.index l.index;
-  sorted : Sorted l.s l.index l.j;
-}

@@ -1,0 +1,35 @@
+// Why a case is not as it expects.
+use crate::answer::Answer;
+use crate::hex::Hex;
+use std::io;
+
+// What a call did otherwise: its answer, the bytes that it left of a book, or the number or the bytes of an opening.
+#[derive(Drop)]
+pub enum Difference<'a> {
+    Answer { want: &'a [u8], answer: Answer<'a> },
+    Book,
+    Opening,
+}
+
+// With no room for a case no call was made, so nothing was found different.
+#[derive(Drop)]
+pub enum Failure<'a> {
+    NoRoom,
+    Different(Difference<'a>),
+}
+
+impl Difference<'_> {
+    // Prints it as the first of a file, at the place of its case.
+    pub fn show(&self, rt: &impl Eprint, place: u64) -> io::Result<()> {
+        match self {
+            Difference::Answer { want, answer } => {
+                eprintln!(rt;
+                    "first difference: case {place}\nexpected {}\n{answer}",
+                    Hex(want)
+                )
+            }
+            Difference::Book => eprintln!(rt; "first difference: the book's bytes in case {place}"),
+            Difference::Opening => eprintln!(rt; "first difference: opening in case {place}"),
+        }
+    }
+}
