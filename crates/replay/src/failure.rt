@@ -1,6 +1,6 @@
 // Why a case is not as it expects.
-use crate::answer::Answer;
-use crate::hex::Hex;
+use crate::call_answer::Answer;
+use crate::hex_bytes::Hex;
 use std::io;
 
 // What a call did otherwise: its answer, the bytes that it left of a book, or the number or the bytes of an opening.

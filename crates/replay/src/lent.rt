@@ -1,5 +1,5 @@
 // The buffers that calls are lent.
-use crate::answer::LENT;
+use crate::call_answer::LENT;
 use crate::failure::Failure;
 
 // The little-endian number of a blob of four bytes.

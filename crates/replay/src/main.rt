@@ -9,12 +9,12 @@
 
 ghost use Rattle.std.specs.Prelude.{◌≤◌, length, IfOk};
 
-mod answer;
+mod call_answer;
 mod case;
 mod counts;
 mod failure;
 mod file;
-mod hex;
+mod hex_bytes;
 mod judge_case;
 mod kind;
 mod lent;

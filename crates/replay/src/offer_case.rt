@@ -1,6 +1,6 @@
 // A case of kind 5, and of kind 6 after the book that it is offered to: schedule, leader (1), point record, the peer
 // buffer's length (4), the sha256 of the book's slice afterwards, the answer.
-use crate::answer::{Answer, LENT};
+use crate::call_answer::{Answer, LENT};
 use crate::case::Case;
 use crate::failure::{Difference, Failure};
 use crate::file::Book;

@@ -1,17 +1,17 @@
 // A case of kind 3, and of kind 4, where the offers that follow go to this book: settings, the slice's length (4), the
 // number (1).
-use crate::answer::LENT;
+use crate::call_answer::LENT;
 use crate::case::Case;
 use crate::failure::{Difference, Failure};
 use crate::file::Book;
-use crate::{answer, lent};
+use crate::{call_answer, lent};
 
 // An opened book is its settings and zeros; with a number nothing that was lent has changed.
 fn is_laid_out(number: u8, settings: &[u8], book: &[u8]) -> bool {
     if number != 0 {
-        return answer::is_filled(book, LENT);
+        return call_answer::is_filled(book, LENT);
     }
-    book.starts_with(settings) && answer::is_filled(&book[settings.len()..], 0)
+    book.starts_with(settings) && call_answer::is_filled(&book[settings.len()..], 0)
 }
 
 pub fn replay<'a>(case: Case<'a>, book: &'a mut Book) -> Result<(), Failure<'a>> {

@@ -1,5 +1,5 @@
 // A case of kind 1: settings, schedule, point record, the peer buffer's length (4), the answer.
-use crate::answer::{Answer, LENT};
+use crate::call_answer::{Answer, LENT};
 use crate::case::Case;
 use crate::failure::Failure;
 use crate::lent;

@@ -1,7 +1,7 @@
 // A call's answer beside the one that a case expects: the number, 0 for a verdict (1); the answer's bytes but the last (113);
 // 40 zeros; how many unknown peers (1), and these. With a number, map and role are 255 and so is the verdict's kind.
 use crate::failure::{Difference, Failure};
-use crate::hex::Hex;
+use crate::hex_bytes::Hex;
 use std::fmt;
 use std::fmt::{Display, Formatter, Write};
 
