@@ -4,6 +4,8 @@ use Rattle.parts.specs.Code.{number}
 use Rattle.point.specs.Point.{PointId, no_point}
 use Rattle.point.specs.Code.{point_id_of}
 use Rattle.reasons.specs.Answer.{Answer, answer}
+use Rattle.answer.specs.declared.Kind.{Kind}
+use Rattle.answer.specs.declared.Kind.TheVariants.{Valid, TransInvalid, Invalid, IllFormed, Fail, Verified}
 use Rattle.answer.specs.declared.Values as code-values
 use Rattle.answer.specs.declared.Answer as code
 
@@ -20,6 +22,15 @@ values m g a b u = record { map = m; role = g; first = a; second = b; unknown = 
 
 abbrev pub values_in : Answer → Values
 values_in a = values a.map a.role a.first a.second a.unknown
+
+-- document 01's number of an answer's kind
+abbrev pub kind_number : Kind → ℕ
+kind_number Valid = 0
+kind_number TransInvalid = 1
+kind_number Invalid = 2
+kind_number IllFormed = 3
+kind_number Fail = 4
+kind_number Verified = 5
 
 -- an answer that names a point, and no root cause
 abbrev pub named : ℕ → ℕ → PointId → Values → Answer
@@ -38,10 +49,10 @@ answer_of a =
     a.kind
     a.reason
     (point_id_of a.id)
-    a.map
-    a.role
-    a.first
-    a.second
+    a.values.map
+    a.values.role
+    a.values.first
+    a.values.second
     a.root_reason
     (number a.peer)
-    a.unknown
+    a.values.unknown

@@ -4,20 +4,33 @@
 ghost use Rattle.std.specs.Prelude.{◌≡◌, ◌≤◌, length};
 ghost use Rattle.parts.specs.Bytes.{put_at};
 ghost use Rattle.point.specs.Code.{point_id_of};
+ghost use Rattle.reasons.specs.Answer.{map_number, role_number};
 ghost use Rattle.reasons.specs.Code.{reason_of, dependency_of, verdict_of};
 ghost use Rattle.reasons.specs.IllFormed.{issue_answer, ill_formed_answer, error_answer};
 ghost use Rattle.reasons.specs.Invalid.{invalid_answer};
 ghost use Rattle.reasons.specs.Verdict.{TransInvalid};
 ghost use Rattle.rules.specs.Answer.{verified_answer, verdict_answer, head_bytes, number_bytes, root_bytes, answer_bytes};
-ghost use Rattle.answer.specs.Code.{values_in, named, plain, values_of, answer_of};
+ghost use Rattle.answer.specs.Code.{values, values_in, kind_number, named, plain, values_of, answer_of};
 
 use parts::Id;
-use point::{PointId, PointMap};
+use point::{AnchorStageRole, PointId, PointMap};
 use reasons::{
     IllFormedReason, InvalidDependency, InvalidReason, StructureIssue, Verdict, VerifyError,
 };
 
-// What a reason carries beside its number.
+// Document 01's numbers of what an answer is.
+#[derive(Clone, Copy)]
+enum Kind {
+    Valid = 0,
+    TransInvalid = 1,
+    Invalid = 2,
+    IllFormed = 3,
+    Fail = 4,
+    Verified = 5,
+}
+
+// What a reason carries beside its number. Map and role are bytes of the answer, by document 01's numbers of them, as an answer's kind
+// is: nothing else is made of them.
 #[derive(Clone, Copy)]
 pub struct Values {
     pub map: u8,
@@ -32,15 +45,12 @@ pub struct Answer {
     pub kind: u8,
     pub reason: u8,
     pub id: PointId,
-    pub map: u8,
-    pub role: u8,
-    pub first: u32,
-    pub second: u32,
+    pub values: Values,
     pub root_reason: u8,
     pub peer: Id,
-    pub unknown: u8,
 }
 
+// Document 01's number for no map, and for no role.
 const NONE: u8 = 255;
 
 // What most reasons carry.
@@ -51,6 +61,30 @@ const NOTHING: Values = Values {
     second: 0,
     unknown: 0,
 };
+
+fn of_map(map: PointMap) -> Values
+    ensures { values_of result ≡ values (map_number map) 255 0 0 0 }
+{
+    Values {
+        map: map as u8,
+        ..NOTHING
+    }
+}
+
+fn of_role(role: AnchorStageRole) -> Values
+    ensures { values_of result ≡ values 255 (role_number role) 0 0 0 }
+{
+    Values {
+        role: role as u8,
+        ..NOTHING
+    }
+}
+
+fn of_first(first: u32) -> Values
+    ensures { values_of result ≡ values 255 255 first 0 0 }
+{
+    Values { first, ..NOTHING }
+}
 
 impl From<StructureIssue> for Values {
     ghost from_gives = { λ issue values. values_of values ≡ values_in (issue_answer issue) };
@@ -86,66 +120,46 @@ impl From<IllFormedReason> for Values {
             | IllFormedReason::BadLastStickyFlag
             | IllFormedReason::LinksAcrossGenesis
             | IllFormedReason::NotRegular => NOTHING,
-            IllFormedReason::TooLargePayload(first) => Values { first, ..NOTHING },
+            IllFormedReason::TooLargePayload(first) => of_first(first),
             IllFormedReason::Structure(issue) => issue.into(),
-            IllFormedReason::TooManyStickyAnchors(n) => Values {
-                first: n as u32,
-                ..NOTHING
+            IllFormedReason::TooManyStickyAnchors(n) => of_first(n as u32),
+            IllFormedReason::MustBeEmpty(map) => of_map(map),
+            IllFormedReason::UnknownPeers { unknown, map } => Values {
+                unknown,
+                ..of_map(map)
             },
-            IllFormedReason::MustBeEmpty(map) => Values {
-                map: map as u8,
-                ..NOTHING
-            },
-            IllFormedReason::UnknownPeers { unknown, map } => {
-                Values {
-                    map: map as u8,
-                    unknown,
-                    ..NOTHING
-                }
-            }
-            IllFormedReason::UnknownPeerInAnchorLink(role) => Values {
-                role: role as u8,
-                ..NOTHING
-            },
+            IllFormedReason::UnknownPeerInAnchorLink(role) => of_role(role),
             IllFormedReason::LackOfPeers { len, total, map } => Values {
-                map: map as u8,
                 first: len as u32,
                 second: total.0 as u32,
-                ..NOTHING
+                ..of_map(map)
             },
-            IllFormedReason::BadWaveLink(b) => Values {
-                first: b as u32,
-                ..NOTHING
-            },
+            IllFormedReason::BadWaveLink(b) => of_first(b as u32),
         }
     }
 }
 
 // An answer that names a point, and no root cause.
 #[tactic(auto, using(parts::proofs::Laws::number_zero))]
-fn named(kind: u8, reason: u8, id: PointId, v: Values) -> Answer
-    ensures { answer_of result ≡ named kind reason (point_id_of id) (values_of v) }
+fn named(kind: Kind, reason: u8, id: PointId, values: Values) -> Answer
+    ensures { answer_of result ≡ named (kind_number kind) reason (point_id_of id) (values_of values) }
 {
     Answer {
-        kind,
+        kind: kind as u8,
         reason,
         id,
-        map: v.map,
-        role: v.role,
-        first: v.first,
-        second: v.second,
+        values,
         root_reason: 0,
         peer: parts::NO_ID,
-        unknown: v.unknown,
     }
 }
 
 // An answer that names no point and no root cause.
 #[tactic(auto, using(parts::proofs::Laws::number_zero))]
-fn plain(kind: u8, reason: u8, v: Values) -> Answer
-    ensures { answer_of result ≡ plain kind reason (values_of v) }
+fn plain(kind: Kind, reason: u8, values: Values) -> Answer
+    ensures { answer_of result ≡ plain (kind_number kind) reason (values_of values) }
 {
-    named(kind, reason, point::NO_POINT, v)
+    named(kind, reason, point::NO_POINT, values)
 }
 
 impl From<VerifyError> for Answer {
@@ -156,14 +170,17 @@ impl From<VerifyError> for Answer {
         match error {
             VerifyError::Fail(u) => {
                 let values = Values {
-                    map: u.map as u8,
                     first: u.len as u32,
                     second: u.round,
-                    ..NOTHING
+                    ..of_map(u.map)
                 };
-                plain(4, 0, values)
+                plain(Kind::Fail, 0, values)
             }
-            VerifyError::IllFormed(reason) => plain(3, reason.number(), reason.into()),
+            VerifyError::IllFormed(reason) => plain(
+                Kind::IllFormed,
+                reason.number(),
+                reason.into(),
+            ),
         }
     }
 }
@@ -173,7 +190,7 @@ impl From<Result<(), VerifyError>> for Answer {
 
     fn from(verified: Result<(), VerifyError>) -> Answer {
         match verified {
-            Ok(()) => plain(5, 0, NOTHING),
+            Ok(()) => plain(Kind::Verified, 0, NOTHING),
             Err(error) => error.into(),
         }
     }
@@ -184,19 +201,11 @@ impl From<InvalidReason> for Values {
 
     fn from(reason: InvalidReason) -> Values {
         match reason {
-            InvalidReason::NoRoundInDag(map) => Values {
-                map: map as u8,
-                ..NOTHING
-            },
+            InvalidReason::NoRoundInDag(map) => of_map(map),
             InvalidReason::NewerAnchorInDependency { role, .. }
             | InvalidReason::AnchorLink { role, .. }
             | InvalidReason::AnchorLinkRole { role, .. }
-            | InvalidReason::AnchorLinkBadPath { role, .. } => {
-                Values {
-                    role: role as u8,
-                    ..NOTHING
-                }
-            }
+            | InvalidReason::AnchorLinkBadPath { role, .. } => of_role(role),
             InvalidReason::BadStickySequence {
                 prev_seq_no,
                 seq_no,
@@ -206,16 +215,8 @@ impl From<InvalidReason> for Values {
                 second: prev_seq_no.map_or(u32::MAX, u32::from),
                 ..NOTHING
             },
-            InvalidReason::TriggerProofMismatch { is_target, .. } => {
-                Values {
-                    first: is_target as u32,
-                    ..NOTHING
-                }
-            }
-            InvalidReason::DepIllFormed { reason: n, .. } => Values {
-                first: n as u32,
-                ..NOTHING
-            },
+            InvalidReason::TriggerProofMismatch { is_target, .. } => of_first(is_target as u32),
+            InvalidReason::DepIllFormed { reason: n, .. } => of_first(n as u32),
             InvalidReason::DependencyRoundDropped
             | InvalidReason::NotTrigger(_)
             | InvalidReason::TerminalTriggerBeforeLastProof(_)
@@ -263,16 +264,12 @@ impl From<InvalidDependency> for Answer {
     fn from(d: InvalidDependency) -> Answer {
         let through = d.through;
         Answer {
-            kind: 1,
+            kind: Kind::TransInvalid as u8,
             reason: 0,
             id: d.to,
-            map: PointMap::from(through) as u8,
-            role: NONE,
-            first: 0,
-            second: 0,
+            values: of_map(PointMap::from(through)),
             root_reason: d.reason,
             peer: through.peer(),
-            unknown: 0,
         }
     }
 }
@@ -285,14 +282,20 @@ impl From<Verdict> for Answer {
         match verdict {
             Verdict::Fail(u) => VerifyError::Fail(u).into(),
             Verdict::IllFormed(reason) => VerifyError::IllFormed(reason).into(),
-            Verdict::Invalid(reason) => named(2, reason.number(), id_of(reason), reason.into()),
+            Verdict::Invalid(reason) => named(
+                Kind::Invalid,
+                reason.number(),
+                id_of(reason),
+                reason.into(),
+            ),
             Verdict::TransInvalid(d) => d.into(),
-            Verdict::Valid => plain(0, 0, NOTHING),
+            Verdict::Valid => plain(Kind::Valid, 0, NOTHING),
         }
     }
 }
 
-// Each writes into any slice of 114 bytes or more: an array of 114 would ask more of callers.
+// Each writes into put_answer's slice, of 114 bytes or more: with an array of 114, cut out of it once, the proof of put_answer didn't
+// close, since what is written has to be joined with the rest of the slice.
 fn put_head(out: &mut [u8], a: Answer)
     requires { 114 ≤ length out.old }
     ensures { out.new ≡ put_at out.old 0 (head_bytes (answer_of a)) }
@@ -308,10 +311,10 @@ fn put_numbers(out: &mut [u8], a: Answer)
     requires { 114 ≤ length out.old }
     ensures { out.new ≡ put_at out.old 70 (number_bytes (answer_of a)) }
 {
-    out[70] = a.map;
-    out[71] = a.role;
-    write::put_u32(out, 72, a.first);
-    write::put_u32(out, 76, a.second);
+    out[70] = a.values.map;
+    out[71] = a.values.role;
+    write::put_u32(out, 72, a.values.first);
+    write::put_u32(out, 76, a.values.second);
 }
 
 fn put_root(out: &mut [u8], a: Answer)
@@ -320,7 +323,7 @@ fn put_root(out: &mut [u8], a: Answer)
 {
     out[80] = a.root_reason;
     write::put_id(out, 81, a.peer);
-    out[113] = a.unknown;
+    out[113] = a.values.unknown;
 }
 
 // Writes the 114 bytes.

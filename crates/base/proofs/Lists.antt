@@ -12,10 +12,6 @@ use borrow.Author.Tests.{lt-ltb, eq-eqb, ne_eqb}
 use Rattle.base.specs.Base.{is_empty, tabulate}
 use Rattle.base.proofs.Impossible.{impossible}
 
--- what a slice's part up to a place holds, and its part from a place on
-pub up_to : (n : ℕ) (s : List ℕ) → take (n - 0) s ≡ take n s
-up_to n s = let e : n - 0 ≡ n = omega arith in rw e
-
 pub rest : (k : ℕ) (s : List ℕ) → take (length s - k) (drop k s) ≡ drop k s
 rest k s = take_all (length s - k) (drop k s) (omega (arith, length-drop k s))
 

@@ -207,13 +207,6 @@ module _ (s : List ℕ) (w : Bytes s) (z : Opened) (r : read_book s ≡ Some z) 
 
 -- ---- what is decided
 
--- a number, with the book as it was
-pub number-written : (s : List ℕ) (o : Offer) (buffer : List ℕ) (n : ℕ) → Refuses s o n buffer → Written s o (Number n) buffer s
-number-written s o buffer n h = (
-  sym (ap (λ (y : Result (List ℕ)). y.answer) h),
-  (sym (ap (λ (y : Result (List ℕ)). y.peers) h), sym (ap (λ (y : Result (List ℕ)). y.after) h)),
-)
-
 module _ {s : List ℕ} {o : Offer} {buffer : List ℕ} where
   -- a verdict, with what it leaves
   pub verdict-written : {v : verdict.Verdict} {end : ℕ} → Judges s o v end buffer → (last : List ℕ) → LeftAt s end o.bytes v last → Written s o (Given v) buffer last

@@ -1,32 +1,21 @@
 -- Laws of the tests on the way to a decision: the numbers in their order, whether there is room, and the previous point's id.
-use Rattle.std.specs.Prelude.{Option, None, Some, is_some, Ok, Err}
-use Rattle.reasons.specs.declared.refusal.Refusal.TheVariants as Refusal
-use Prim.Native.Nat.{ℕ, ◌+◌, ◌-◌, ◌≤◌, ◌<◌}
+use Rattle.std.specs.Prelude.{Option, None, Some, is_some}
+use Prim.Native.Nat.{ℕ, ◌+◌, ◌-◌, ◌≤◌}
 use native.Mathlib.Omega.{arith}
-use native.Mathlib.Decide.{dec_lt}
 use mathlib.Core.Path.{◌≡◌, refl, ap, sym, ◌∙◌, subst}
 use mathlib.Core.Bool.{Bool, true, false, not, ◌&&◌, ◌||◌}
 use mathlib.Core.List.{List}
 use lib.ListN.{length}
 use lib.Dec.{leb, ltb}
-use borrow.Author.Tests.{ltb-false, lt-ltb, le-ltb, le-leb, lt-leb}
+use borrow.Author.Tests.{ltb-false}
 use Rattle.base.specs.Base.{pick}
 use Rattle.point.specs.Point.{PointId, PointInfo, prev_digest, prev_id, in_domain}
-use Rattle.point.specs.Code.{point_of}
-use Rattle.point.specs.declared.info.PointInfo as code-info
 use Rattle.point.specs.Reading.{read_point}
 use Rattle.schedule.specs.Settings.{Settings}
 use Rattle.schedule.specs.Schedule.{Schedule, read_schedule}
 use Rattle.rules.specs.Judge.{Input, Tested, refused, admitted, tested_with}
 use Rattle.books.specs.Kept.{find_kept, Opened}
 use Rattle.books.specs.Offer.{Offer, used, is_full, tested_room, input_tested, offer_tested}
-use Rattle.book.specs.Code.{InputTested}
-
-pub full-last : (a b : ℕ) → 108 ≤ a → ltb (a - 108) b ≡ ltb a (b + 108)
-full-last a b h = elim (dec_lt (a - 108) b) [
-  | yes g ↦ lt-ltb (a - 108) b g ∙ sym (lt-ltb a (b + 108) (omega arith))
-  | no g ↦ le-ltb (a - 108) b (omega arith) ∙ sym (le-ltb a (b + 108) (omega arith))
-]
 
 -- ---- the previous point
 
@@ -52,21 +41,6 @@ module _ (c : Settings) (o : Offer) where
 
     pub with_point : (p : PointInfo) → read_point o.bytes ≡ Some p → input_tested c o ≡ tested_with (Some c) (Some s) (Some p) (leb o.leader 1) (length o.peers)
     with_point p g = rw (h, g)
-
-module _ (rec : List ℕ) (info : code-info.PointInfo) (leader room : ℕ) where
-  pub no_domain : in_domain (point_of rec info) ≡ false → InputTested rec info leader room (Err Refusal.Domain)
-  no_domain d = λ c s. rw d
-
-  module _ (d : in_domain (point_of rec info) ≡ true) where
-    pub no_leader : 1 < leader → InputTested rec info leader room (Err Refusal.Domain)
-    no_leader l = λ c s. rw (d, lt-leb leader 1 l)
-
-    module _ (l : leader ≤ 1) where
-      pub no_buffer : room < 8160 → InputTested rec info leader room (Err Refusal.Short)
-      no_buffer m = λ c s. rw (d, le-leb leader 1 l, lt-ltb room 8160 m)
-
-      pub all-passed : 8160 ≤ room → InputTested rec info leader room (Ok tt)
-      all-passed m = λ c s. rw (d, le-leb leader 1 l, le-ltb room 8160 m)
 
 abbrev Roomy : ℕ → Tested → Type 0
 Roomy size (refused n) = Unit

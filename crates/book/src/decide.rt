@@ -76,7 +76,7 @@ fn test_room(book: &[u8], end: usize, index: &Index, rec: &[u8], id: PointId) ->
     Ok(())
 }
 
-// Judges an offer that passed the tests, as far as no list is needed.
+// Judges an offer that passed the tests, as far as no list is needed. The buffer's room is asked for as verify_peers does.
 fn judge_input<'a>(
     input: &Input<'a>,
     end: usize,
@@ -85,13 +85,13 @@ fn judge_input<'a>(
 ) -> Result<Decided<'a>, Refusal>
     requires { peers_room ≤ length peers.old }
     ensures { (s : List ℕ) (x : index.Index) → Bytes s →
-        Ready s (offer_of input.now.schedule.bytes.now leader input.now.point.rec.now peers.old) (settings_of input.now.conf) end x (input_of input.now) →
+        Ready s (offer_of input.now.schedule.bytes.now leader input.now.point.rec.now peers.old)
+        (settings_of input.now.conf) end x (input_of input.now) →
         Decides s (offer_of input.now.schedule.bytes.now leader input.now.point.rec.now peers.old) result x peers.new }
 {
     let conf = input.conf;
     let point = input.point;
-    let known = judge::before_list(conf, &input.schedule, &point, leader == 1, peers)?;
-    match known {
+    match judge::before_list(conf, &input.schedule, &point, leader == 1, peers)? {
         Before::Judged(verdict) => Ok(Decided::Judged(verdict, end)),
         Before::Needed(required) => Ok(Decided::Needed(Needs {
             conf,
@@ -103,6 +103,7 @@ fn judge_input<'a>(
 }
 
 // Decides an offer over a book as it stands, the numbers 10, 2 to 5, 11 and 12 first, and makes the book's index.
+// The index is the caller's: as a part of the result its 32 KB would be moved.
 pub fn decide<'a>(
     book: &[u8],
     schedule: &'a [u8],
@@ -115,8 +116,7 @@ pub fn decide<'a>(
     ensures { Decides book.now (offer_of schedule.now leader rec.now peers.old) result
         index.new peers.new }
 {
-    let read = book_read::read_book(book, index).ok_or(Refusal::Book)?;
-    let (conf, end) = read;
+    let (conf, end) = book_read::read_book(book, index).ok_or(Refusal::Book)?;
     let peer_schedule = schedule::read_peer_schedule(schedule).ok_or(Refusal::Schedule)?;
     let point = point::read_point(rec).ok_or(Refusal::Record)?;
     test_input(point.info, leader, peers.len())?;

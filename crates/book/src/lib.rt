@@ -75,6 +75,7 @@ fn judge_needed(book: &mut [u8], index: &Index, needs: &Needs) -> Verdict
 }
 
 // Offers a point to a book: a number of document 01, or its verdict. Fail leaves the book as it was; any other verdict is kept.
+// The parameters are document 01's, in its order.
 pub fn offer(
     book: &mut [u8],
     schedule: &[u8],
@@ -90,8 +91,7 @@ pub fn offer(
         (offer_of schedule.now leader rec.now peers.old)).after }
 {
     let mut index = Index::new();
-    let decided = decide::decide(book, schedule, leader, rec, peers, &mut index)?;
-    match decided {
+    match decide::decide(book, schedule, leader, rec, peers, &mut index)? {
         Decided::Judged(verdict, end) => {
             keep(book, end, rec, verdict);
             Ok(verdict)

@@ -201,10 +201,6 @@ module _ (c : Settings) {s : List ℕ} {end : ℕ} {x : Index} (h : Stands s end
       full i lt (omega (arith, passed-round c k deps (id_in s x i) p, kept-least c (book_in s) h.shape k (member h j k rest e), one_or_two deps))
 
   module _ (depth : ℕ) (some-deep : 1 ≤ depth) {w v : Walk} where
-    pub reached-full : Passed c s x t depth Includes w v true → DepthReached c s x t depth w v
-    reached-full p =
-        record { grown = p.grown; sound = p.sound; done = λ d. done_more depth some-deep p.grown p.taken (λ m. full-taken depth Witness w v (p.full refl)) d }
-
     pub reached-first : {r : Bool} → depth < 2 → Passed c s x t depth Includes w v r → DepthReached c s x t depth w v
     reached-first m p =
         record { grown = p.grown; sound = p.sound; done = λ d. done_more depth some-deep p.grown p.taken (λ n. absurd (omega arith)) d }

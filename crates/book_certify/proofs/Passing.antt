@@ -2,7 +2,7 @@
 use Prim.Native.Nat.{ℕ, ◌+◌, ◌-◌, ◌≤◌, ◌<◌}
 use native.Mathlib.Omega.{arith}
 use mathlib.Core.Path.{◌≡◌, refl, ap, sym, ◌∙◌}
-use mathlib.Core.Bool.{Bool, true, false, ◌&&◌, and-false}
+use mathlib.Core.Bool.{Bool, true, false, ◌&&◌}
 use mathlib.Core.List.{List, ◌∷◌}
 use lib.ListN.{get_or, drop}
 use Rattle.base.proofs.Bool.{clash, and_both}
@@ -17,7 +17,7 @@ use Rattle.books.specs.Spread.{has_deps}
 use Rattle.book_certify.specs.declared.Walk.{Walk}
 use Rattle.book_certify.specs.declared.spread.Deps.{Deps}
 use Rattle.book_certify.specs.Code.{book_in, rounds_of, map_back, rows_back, passes, DepsTold, Reached, Grown, Adds, Taken, Cursor, IsLast, Chained, Sound, Passed}
-use Rattle.book_certify.proofs.Adds.{grown-same, grown_then, adds_none, adds_as}
+use Rattle.book_certify.proofs.Adds.{grown-same, grown_then, adds_as}
 use Rattle.book_certify.proofs.Chains.{cursor_as, cursor_next, link-of, chained_grown}
 use Rattle.book_certify.proofs.Entries.{Stands, entry_at, numbered, entry-id, entry-rows}
 use Rattle.book_certify.proofs.Depths.{sound_more, full-taken}
@@ -28,15 +28,7 @@ both_true : (a b m : Bool) → a ≡ true → b ≡ true → (a && (b && m)) ≡
 both_true a b m h g = rw (h, g)
 
 module _ (c : Settings) {s : List ℕ} {end : ℕ} {x : Index} (h : Stands s end x (book_in s)) (j : ℕ) (deps : Deps) (w : Walk) where
-  pub taken_none : get_or w.reached j false ≡ false → Taken c s x j deps w w
-  taken_none d k rest e = adds_none w (λ i lt. rw d)
-
   module _ (r : Bool) (told : DepsTold c s j r) where
-    pub taken_barred : r ≡ false → Taken c s x j deps w w
-    taken_barred f k rest e =
-        let barred : has_deps c k ≡ false = sym (told k rest e) ∙ f in
-        adds_none w (λ i lt. rw barred (and-false (get_or w.reached j false)))
-
     pub taken-rows : r ≡ true → Reached w j → (rows : List ℕ) (v : Walk) (round : ℕ) → rows ≡ rows_back deps (drop (place_in x j) s) →
         round ≡ (id_in s x j).round - rounds_of deps → Adds s x (is_among round (pairs_of rows)) w v → Taken c s x j deps w v
     taken-rows f g rows v round er en a k rest e =

@@ -1,12 +1,11 @@
 -- The rows of a map, reached one after the other.
 use Prim.Native.Nat.{ℕ, ◌+◌, ◌≤◌, ◌<◌}
 use native.Mathlib.Numerals.{add-one}
-use mathlib.Core.Path.{◌≡◌, refl, ap, sym, ◌∙◌}
+use mathlib.Core.Path.{◌≡◌, refl}
 use mathlib.Core.List.{List}
 use lib.ListN.{length, get_or, drop, drop_of_length-le}
 use lib.Seq.{drop-cons}
-use Rattle.map.specs.Rows.{Pair, peers_of, pairs_of, digests}
-use Rattle.map.proofs.Laws.{peers_of-length, pairs_of-length, peers-pairs_of, peers-at, digests-at}
+use Rattle.map.specs.Rows.{Pair}
 use Rattle.point.specs.Point.{PointId, same_id}
 use Rattle.rules.specs.Mismatch.{pair_id, is_among}
 use Rattle.judge_mismatch.specs.Code.{no_pair}
@@ -14,16 +13,6 @@ use Rattle.id_index.specs.declared.Index.{Index}
 use Rattle.book_certify.specs.declared.Walk.{Walk}
 use Rattle.book_certify.specs.Code.{Adds}
 use Rattle.book_certify.proofs.Adds.{adds_none, adds_then}
-
-pub row_id : (s : List ℕ) (i round digest author : ℕ) → i < length (pairs_of s) → digest ≡ get_or (digests (pairs_of s)) i 0 → author ≡ get_or (peers_of 64 s) i 0 →
-    ◌≡◌ {A = PointId} (record { round = round; digest = digest; author = author }) (pair_id round (get_or (pairs_of s) i no_pair))
-row_id s i round digest author h d a =
-    let x : digest ≡ (get_or (pairs_of s) i no_pair).digest = d ∙ digests-at (pairs_of s) i no_pair h in
-    let y : author ≡ (get_or (pairs_of s) i no_pair).peer = a ∙ (ap (λ (l : List ℕ). get_or l i 0) (sym (peers-pairs_of s)) ∙ peers-at (pairs_of s) i no_pair h) in
-    rw (x, y)
-
-pub row_count : (s : List ℕ) → length (peers_of 64 s) ≡ length (pairs_of s)
-row_count s = peers_of-length 64 s ∙ sym (pairs_of-length s)
 
 module _ {s : List ℕ} {x : Index} (l : List Pair) (n round : ℕ) where
   pub rows_next : n < length l → (i : PointId) → i ≡ pair_id round (get_or l n no_pair) → {u v w : Walk} →

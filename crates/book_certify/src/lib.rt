@@ -29,7 +29,8 @@ use spread::Spread;
 // Which entries are reached. Those within the history are chained by their depths: `heads` has for each depth one more than its
 // last entry, `links` for each entry one more than the last before it of its depth, 0 if there is none: as `Option`s they
 // would take twice the memory. No heap: the arrays have room for all entries and depths, and a link with its mark in one array
-// would take 4 bytes in place of 3.
+// would take 4 bytes in place of 3. That the chains are those of these entries is asked of each function that follows them: it
+// joins the walk, which changes, and what it goes over.
 #[derive(Drop)]
 struct Walk {
     reached: [bool; parts::MOST_KEPT],

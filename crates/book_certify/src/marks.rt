@@ -1,4 +1,4 @@
-// Writes the marks of the entries that are reached.
+// Writes the marks of the entries that are reached. The book is written here, so no Spread, which borrows it.
 ghost use Rattle.std.specs.Prelude.{◌≡◌, ℕ, Bool, false, ◌-◌, ◌≤◌, ◌<◌, length, get_or, set};
 ghost use Rattle.base.specs.Base.{pick};
 ghost use Rattle.point.specs.Point.{PointId};

@@ -7,8 +7,8 @@ use point::PointId;
 use schedule::Settings;
 
 // A book that was read: its settings, its bytes, where its entries end, and their index. And the previous point, from which the
-// certificate spreads. That it was read is asked of each function: it says which entries there are, and a fact with a value in it is
-// none that a ghost field holds.
+// certificate spreads. That it was read is asked of each function: it says which entries there are, so a ghost field would hold it
+// in `∥ ∥₁`. From there it doesn't go into what `take` promises, since `Adds` has a choice in it: no plainer.
 #[derive(Drop)]
 pub struct Spread<'a> {
     pub conf: Settings,
@@ -47,7 +47,7 @@ impl Spread<'_> {
     ghost use Rattle.book_certify.specs.Code.{DepsTold};
     ghost use Rattle.book_certify.specs.Spread.{IsReadBy};
 
-    // The round of an entry's id.
+    // The round of an entry's id. That there is an entry of this number is asked, as in IndexedBook of book_judge.
     pub fn round_of(&self, j: usize) -> u32
         requires places { Places self.now.book.now self.now.index.now }
         requires j_bound { j < count_of self.now.index.now }
@@ -56,7 +56,7 @@ impl Spread<'_> {
         parts::u32_at(self.book, self.index.place_at(j) + 3)
     }
 
-    // Whether an entry passes its mark on: if it lies above genesis and is not ill-formed.
+    // Whether an entry passes its mark on: if it lies above genesis and is not ill-formed. 3 is tag 33's byte of an ill-formed entry.
     pub fn has_deps(&self, j: usize) -> bool
         requires read { IsReadBy self.now }
         requires j_bound { j < count_of self.now.index.now }

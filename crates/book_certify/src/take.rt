@@ -41,12 +41,7 @@ impl Walk {
         ensures { Adds by.now.book.now by.now.index.now (is_among round (pairs_of rows.now)) self.old self.new }
     {
         for i in 0..map::count(rows, 64) {
-            let id = PointId {
-                round,
-                digest: map::digest_at(rows, i),
-                author: map::peer_at(rows, 64, i),
-            };
-            self.reach_id(by, id);
+            self.reach_id(by, point::pair_id(rows, i, round));
         }
     }
 
@@ -56,10 +51,7 @@ impl Walk {
         requires j_bound { j < count_of by.now.index.now }
         ensures { Taken (settings_of by.now.conf) by.now.book.now by.now.index.now j deps self.old self.new }
     {
-        if !self.reached[j] {
-            return;
-        }
-        if !by.has_deps(j) {
+        if !self.reached[j] || !by.has_deps(j) {
             return;
         }
         let place = by.index.place_at(j);

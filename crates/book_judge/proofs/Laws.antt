@@ -13,8 +13,7 @@ use borrow.Author.Tests.{eqb-true, ne_eqb, leb-true}
 use Rattle.base.specs.Base.{pick}
 use Rattle.base.proofs.Bool.{and_left, clash, last-false}
 use Rattle.base.proofs.Lists.{member-at}
-use Rattle.map.specs.Rows.{Pair, get, peers_of, pairs_of, digests}
-use Rattle.map.proofs.Laws.{peers_of-length, pairs_of-length, peers-pairs_of, peers-at, digests-at}
+use Rattle.map.specs.Rows.{Pair, get}
 use Rattle.map.proofs.Pairs.{get-there}
 use Rattle.point.specs.Point.{PointId, Through, PointInfo, AnchorLink, Indirect, prev_digest, prev_id, anchor_link, in_domain}
 use Rattle.point.specs.declared.data.AnchorStageRole.{AnchorStageRole}
@@ -130,17 +129,6 @@ module _ (c : Settings) (required : Bool) (p : PointView) (b : Book) (q : PointI
     pub map-end : length l ≤ i → j ≡ all
     unfolding lookups direct_fold
     map-end le = rw (drop_of_length-le l le) at h
-
--- the id of a row
-pub row_id : (s : List ℕ) (i round digest author : ℕ) → i < length (pairs_of s) → digest ≡ get_or (digests (pairs_of s)) i 0 → author ≡ get_or (peers_of 64 s) i 0 →
-    ◌≡◌ {A = PointId} (record { round = round; digest = digest; author = author }) (pair_id round (get_or (pairs_of s) i no_pair))
-row_id s i round digest author h d a =
-    let x : digest ≡ (get_or (pairs_of s) i no_pair).digest = d ∙ digests-at (pairs_of s) i no_pair h in
-    let y : author ≡ (get_or (pairs_of s) i no_pair).peer = a ∙ (ap (λ (l : List ℕ). get_or l i 0) (sym (peers-pairs_of s)) ∙ peers-at (pairs_of s) i no_pair h) in
-    rw (x, y)
-
-pub row_count : (s : List ℕ) → length (peers_of 64 s) ≡ length (pairs_of s)
-row_count s = peers_of-length 64 s ∙ sym (pairs_of-length s)
 
 -- ---- lists one after the other
 

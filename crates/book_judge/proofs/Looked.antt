@@ -1,11 +1,11 @@
 -- Laws of what was looked up: an entry that was read at a place is the one that stands there.
-use Rattle.std.specs.Prelude.{is_some, None, Some}
-use Prim.Native.Nat.{ℕ, ◌+◌}
+use Rattle.std.specs.Prelude.{is_some, option_map, None, Some}
+use Prim.Native.Nat.{ℕ, ◌+◌, ◌<◌}
 use native.Mathlib.Omega.{arith}
 use mathlib.Core.Path.{◌≡◌, ap, sym, ◌∙◌}
 use mathlib.Core.Bool.{Bool, false}
 use mathlib.Core.List.{List}
-use lib.ListN.{length, drop}
+use lib.ListN.{length, drop, length-drop}
 use Rattle.judge_valid.specs.Code.{point_view_of}
 use Rattle.point.specs.Point.{PointId, Through, AnchorLink, Indirect, PointInfo, prev_id, anchor_link}
 use Rattle.point.specs.declared.data.AnchorStageRole.{AnchorStageRole}
@@ -15,7 +15,7 @@ use Rattle.judge_step.specs.Code.{Judging, direct_step, indirect_step, indirect_
 use Rattle.judge_valid.specs.declared.view.PointView as code_view
 use Rattle.rules.specs.Mismatch.{is_version, is_id}
 use Rattle.judge_list.specs.Code.{prev_in}
-use Rattle.id_index.specs.Code.{place_in, FoundAt, IsIndex}
+use Rattle.id_index.specs.Code.{count_of, place_in, FoundAt, IsIndex}
 use Rattle.id_index.specs.declared.Index as code-index
 use Rattle.judge_entries.specs.Entry.{entry_of}
 use Rattle.judge_entries.specs.declared.entry.Entry as code-entry
@@ -25,7 +25,8 @@ use Rattle.base.proofs.Option.{some-injective}
 use Rattle.books.specs.Layout.{KeptFront, kept_front}
 use Rattle.book_layout.specs.Code.{kept_of, KeptAt, shown}
 use Rattle.book_layout.specs.declared.read.Kept as code-kept
-use Rattle.book_judge.specs.Code.{Entries, Asked, looked_of, Looks}
+use Rattle.book_judge.specs.Entries.{Entries}
+use Rattle.book_judge.specs.Code.{Asked, looked_of, Looks, RecordAt}
 use Rattle.book_read.specs.Code.{Holds}
 use Rattle.book_read.proofs.Laws.{standing, found-kept, absent-kept}
 use Rattle.book_judge.proofs.Laws.{looked_kept, looked_absent, step_looked, indirect-judged}
@@ -33,6 +34,16 @@ use Rattle.book_judge.proofs.Laws.{looked_kept, looked_absent, step_looked, indi
 -- an entry that was read at a place is the book's that stands there
 pub same-kept : (s : List ℕ) (k : code-kept.Kept) → KeptAt s k → (x : Kept) (size : ℕ) → kept_front s ≡ Some (record { kept = x; size = size }) → kept_of k ≡ x
 same-kept s k h x size e = ap (λ (y : KeptFront). y.kept) (some-injective _ _ (sym h.front ∙ e))
+
+-- its record stands where it begins
+pub record_at : {s : List ℕ} {x : code-index.Index} {j : ℕ} → IsIndex s x → j < count_of x → {k : code-kept.Kept} →
+    KeptAt (drop (place_in x j) s) k → RecordAt s (place_in x j) k.point.rec.now
+record_at {s} {x} {j} i lt h =
+    record {
+      kept = ap (option_map (λ (y : KeptFront). y.kept.bytes)) h.front;
+      part = h.part;
+      inside = omega (arith, h.inside, i.places j lt, length-drop (place_in x j) s);
+    }
 
 -- the entries of a book stand at the places of its index
 pub held-entries : {s : List ℕ} {b : Book} {x : code-index.Index} → Holds s b x → IsIndex s x → Entries s x

@@ -1,6 +1,8 @@
 -- Judging a point by the lists that a book builds of its entries, and what the code's values stand for.
-use Rattle.std.specs.Prelude.{ℕ, ◌-◌, ◌<◌, ◌≡◌, Bool, true, false, not, ◌&&◌, ◌||◌, drop, Some, is_some}
+use Rattle.std.specs.Prelude.{ℕ, ◌+◌, ◌-◌, ◌≤◌, ◌≡◌, Bool, true, false, not, ◌&&◌, ◌||◌, [], length, drop, Option, None, Some}
+use Rattle.std.specs.Prelude.{option_map}
 use mathlib.Core.List.{List, Memᴰ}
+use Rattle.parts.specs.Bytes.{bytes_at}
 use Rattle.judge_valid.specs.Code.{point_view_of}
 use Rattle.base.specs.Base.{pick}
 use Rattle.map.specs.Rows.{Pair, pairs_of}
@@ -15,7 +17,7 @@ use Rattle.judge_step.specs.Code.{as_first, Judging, direct_step, judging_of, st
 use Rattle.rules.specs.Mismatch.{pair_id, is_version}
 use Rattle.books.specs.Kept.{Kept, Book}
 use Rattle.books.specs.Lists.{is_valid, is_of, direct_list, indirect_list, lookup, lookups, versions, target_entry}
-use Rattle.id_index.specs.Code.{count_of, place_in, id_in, IsIndex}
+use Rattle.id_index.specs.Code.{place_in, id_in, FoundAt}
 use Rattle.id_index.specs.declared.Index as code-index
 use Rattle.book_layout.specs.Code.{shown}
 use Rattle.book_read.specs.Code.{Holds}
@@ -24,7 +26,7 @@ use Rattle.book_judge.specs.declared.direct.Versions as code-versions
 use Rattle.parts.specs.Code.{number}
 use Rattle.point.specs.Code.{point_of}
 use Rattle.point.specs.declared.data.AnchorStageRole.{AnchorStageRole}
-use Rattle.books.specs.Layout.{kept_front}
+use Rattle.books.specs.Layout.{KeptFront, kept_front}
 use Rattle.point.specs.declared.info.PointInfo as code-info
 
 -- the verdict over the lists that the book builds, its marks made before; all rounds are present
@@ -32,11 +34,6 @@ abbrev pub over_book : Settings → Bool → PointInfo → Book → Verdict
 over_book c required p b = validate c required 3 p (direct_list b p) (indirect_list b p)
 
 -- ---- for contracts between functions
-
--- x is an index of the entries in the bytes s
-pub record Entries (s : List ℕ) (x : code-index.Index) : Type 0 where
-  pub index : IsIndex s x
-  pub fronts : (j : ℕ) → j < count_of x → is_some (kept_front (drop (place_in x j) s)) ≡ true
 
 -- a book whose entries stand in the bytes, and the point that a view is of
 pub record Asked (s : List ℕ) (b : Book) (x : code-index.Index) (v : code_view.PointView) (p : PointInfo) : Type 0 where
@@ -84,6 +81,23 @@ version_step c required p w k =
 -- what was looked up is what the book says of an id
 abbrev pub LookedUp : List ℕ → code-index.Index → code_view.PointView → PointId → code-entry.Entry → Type 0
 LookedUp s x v i r = (b : Book) (p : PointInfo) → Asked s b x v p → (r.first_valid ≡ false) × Looks r (lookup b p i)
+
+-- a record is that of the entry at a place, and stands in the bytes from there on
+pub record RecordAt (s : List ℕ) (place : ℕ) (rec : List ℕ) : Type 0 where
+  pub kept : option_map (λ (k : KeptFront). k.kept.bytes) (kept_front (drop place s)) ≡ Some rec
+  pub part : rec ≡ bytes_at (length rec) s place
+  pub inside : place + length rec ≤ length s
+
+-- where none was found it is empty
+abbrev pub RecordFound : List ℕ → code-index.Index → Option ℕ → List ℕ → Type 0
+RecordFound s x (Some j) rec = RecordAt s (place_in x j) rec
+RecordFound s x None rec = rec ≡ []
+
+-- the record of what the index finds of an id
+pub record RecordOf (s : List ℕ) (x : code-index.Index) (i : PointId) (rec : List ℕ) : Type 0 where
+  pub found : Option ℕ
+  pub there : FoundAt s x i found
+  pub is : RecordFound s x found rec
 
 -- the dependencies that a map's rows name at a round were judged, none of which is a version
 abbrev pub MapJudged : Settings → Bool → code_view.PointView → ℕ → List ℕ → List ℕ → code-index.Index → Judging → Judging → Type 0

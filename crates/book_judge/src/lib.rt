@@ -12,10 +12,10 @@ ghost use Rattle.schedule.specs.Code.{settings_of};
 ghost use Rattle.reasons.specs.Code.{verdict_of};
 ghost use Rattle.judge_step.specs.Code.{judging_of};
 ghost use Rattle.books.specs.Lists.{is_trigger_first};
-ghost use Rattle.book_judge.specs.Code.{Entries, TargetJudged, TargetsJudged, BookJudged};
+ghost use Rattle.book_judge.specs.Code.{TargetJudged, TargetsJudged, BookJudged};
 
 use judge_step::Judging;
-use judge_valid::By;
+use judge_valid::{By, PointView};
 pub use look::IndexedBook;
 use point::{AnchorLink, AnchorStageRole, Point, PointInfo};
 use reasons::Verdict;
@@ -29,8 +29,8 @@ fn judge_target(
     book: &IndexedBook,
     so_far: Judging,
 ) -> Judging
-    requires { Entries book.now.bytes.now book.now.index.now }
-    ensures { TargetJudged (settings_of by.now.conf) by.now.view role (link_of link) book.now.bytes.now book.now.index.now (judging_of so_far) (judging_of result) }
+    ensures { TargetJudged (settings_of by.now.conf) by.now.view role (link_of link)
+        book.now.bytes.now book.now.index.now (judging_of so_far) (judging_of result) }
 {
     let AnchorLink::Indirect(indirect) = link else {
         return so_far;
@@ -54,8 +54,8 @@ fn is_trigger_first(proof: AnchorLink, trigger: AnchorLink) -> bool
 
 // Judges the indirect entries: the target with the higher round first, the proof's on a tie.
 fn judge_targets(by: &By, info: PointInfo, book: &IndexedBook, so_far: Judging) -> Judging
-    requires { Entries book.now.bytes.now book.now.index.now }
-    ensures { TargetsJudged (settings_of by.now.conf) by.now.view info book.now.bytes.now book.now.index.now (judging_of so_far) (judging_of result) }
+    ensures { TargetsJudged (settings_of by.now.conf) by.now.view info
+        book.now.bytes.now book.now.index.now (judging_of so_far) (judging_of result) }
 {
     let proof = info.anchor_proof;
     let trigger = info.anchor_trigger;
@@ -69,13 +69,12 @@ fn judge_targets(by: &By, info: PointInfo, book: &IndexedBook, so_far: Judging) 
 
 // Judges a point whose list is needed.
 pub fn judge_book(conf: Settings, required: bool, point: &Point, book: &IndexedBook) -> Verdict
-    requires { Entries book.now.bytes.now book.now.index.now }
     ensures { BookJudged (settings_of conf) required (said point.now) book.now.bytes.now book.now.index.now (verdict_of result) }
 {
     let by = By {
         conf,
         required,
-        view: judge_valid::point_view(point),
+        view: PointView::from(point),
     };
     let direct = direct::judge_direct_list(&by, point, book);
     judge_list::verdict(judge_targets(&by, point.info, book, direct))

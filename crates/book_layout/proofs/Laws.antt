@@ -1,14 +1,14 @@
 -- Laws of one entry: runs of zeros, the steps of reading it, and how its bytes are put together.
 use Rattle.std.specs.Prelude.{Option, None, Some, option_map, is_some}
 use Rattle.std.specs.Bool.{then_some}
-use Prim.Native.Nat.{ℕ, zero, suc, max, ◌+◌, ◌-◌, ◌≤◌, ◌<◌}
+use Prim.Native.Nat.{ℕ, zero, suc, max, ◌+◌, ◌≤◌, ◌<◌}
 use native.Mathlib.Omega.{arith}
 use native.Mathlib.Decide.{ℕ_discrete}
 use native.Mathlib.Numerals.{add-one}
 use mathlib.Core.Path.{◌≡◌, refl, ap, sym, ◌∙◌}
 use mathlib.Core.Bool.{Bool, true, false, ◌&&◌}
 use mathlib.Core.List.{List, [], ◌∷◌, ◌++◌, append_assoc}
-use lib.ListN.{length, get_or, take, drop, length-take, length-drop}
+use lib.ListN.{length, get_or, take, drop}
 use lib.Seq.{drop-cons, length-take-le}
 use lib.Dec.{leb, eqb}
 use borrow.Author.Tests.{le-leb, lt-leb, eq-eqb, ne_eqb}
@@ -22,13 +22,13 @@ use Rattle.write.proofs.Laws.{put_three}
 use Rattle.record.specs.Record.{field_row, field_ok, record_end}
 use Rattle.record.proofs.Laws.{fitting}
 use Rattle.point.specs.Point.{PointId, Through, PointInfo, in_domain}
-use Rattle.point.specs.Reading.{point_id_at, read_point}
+use Rattle.point.specs.Reading.{point_id_at, through_at, read_point}
 use Rattle.point.specs.Said.{said}
 use Rattle.point.proofs.Known.{picked-some}
 use Rattle.reasons.specs.Invalid.{dag_round}
 use Rattle.rules.specs.List.{is_named, is_listable}
 use Rattle.books.specs.Kept.{Status, Valid, TransInvalid, Invalid, IllFormed, Kept}
-use Rattle.books.specs.Layout.{id_bytes, is_zeros, through_at, root_at, is_root_ok, read_status, is_keepable, read_kept, KeptFront, kept_front}
+use Rattle.books.specs.Layout.{id_bytes, is_zeros, root_at, is_root_ok, read_status, is_keepable, read_kept, KeptFront, kept_front}
 use Rattle.book_layout.specs.Code.{status_of, KeptAt, EntryTo, KeptEnd}
 use Rattle.book_layout.specs.declared.read.Kept as code-kept
 
@@ -187,17 +187,11 @@ pub front_endless : (s : List ℕ) → record_end s ≡ None → kept_front s �
 unfolding kept_front
 front_endless s h = rw h
 
--- tag 33 after a record, and its 105 bytes
+-- tag 33 after a record
 pub tag-inside : (n : ℕ) (s : List ℕ) → field_ok (field_row 33 105 105) s n ≡ true → n + tag33_length ≤ length s
 tag-inside n s f =
     let g = fitting (field_row 33 105 105) s n f in
     omega (arith, g.least, g.end)
-
-pub tag_part : (n : ℕ) (s : List ℕ) → take (n + tag33_length - (n + 3)) (drop (n + 3) s) ≡ take 105 (drop (n + 3) s)
-tag_part n s = let e : n + tag33_length - (n + 3) ≡ 105 = omega arith in rw e
-
-pub tag-length : (n : ℕ) (s : List ℕ) → n + tag33_length ≤ length s → length (take (n + tag33_length - (n + 3)) (drop (n + 3) s)) ≡ 105
-tag-length n s h = simp (length-take, length-drop) (omega arith)
 
 -- the part of a slice up to where its record ends
 module _ (s part : List ℕ) (n : ℕ) (e : record_end s ≡ Some n) (p : part ≡ take n s) where
@@ -284,6 +278,7 @@ module _ (s : List ℕ) (h : is_some (kept_front s) ≡ true) where
           let z : length part ≡ n = rw p (length-take-le n s (omega (arith, known-inside))) in
           record {
             front = front_read s part n e p (said k.point) r known-tag tag g ∙ rw (y.1, w.2, x, f, m, z);
+            part = rw (ap length f ∙ z) (f ∙ p);
             inside = omega (arith, known-inside, z, ap length f);
           }
 
@@ -297,3 +292,10 @@ put_right l at xs ys zs m n e f h = put_three l at xs ys zs m n e f h ∙ ap (pu
 pub id_length : (i : PointId) → length (id_bytes i) ≡ 68
 unfolding little_bytes big_bytes
 id_length i = refl
+
+-- what the 105 bytes of tag 33 tell of a status, and what they and a record tell of an entry
+pub ruleset status_some = (valid_some, trans_some, invalid_some, ill_formed_some, status_none)
+
+pub ruleset status_read = (valid, trans_invalid_lem, invalid, ill_formed, state_three)
+
+pub ruleset entry_told = (entry_unflagged, entry_statusless, entry_outside, entry_ill_formed, entry_listed)

@@ -83,3 +83,6 @@ module _ (s : List ℕ) (q : PointInfo) (h : read_point s ≡ Some q) (r : List 
 
   pub trigger_read : r ≡ content_of s 6 → read_link r ≡ Some q.anchor_trigger
   trigger_read e = ap read_link e ∙ (parts-of _ q h).trigger
+
+-- the links of a record that was read
+pub ruleset links_read = (shaped, proof_long, trigger_long, proof_read, trigger_read)

@@ -34,9 +34,10 @@ kept_of k =
 abbrev pub shown : Kept → Bool → Entry
 shown k first = record { state = dag_point k.point k.status; certified = k.certified; first_valid = first }
 
--- an entry stands at the front of a slice, which holds its record and tag 33
+-- an entry stands at the front of a slice, which holds its record, where it begins, and tag 33
 pub record KeptAt (s : List ℕ) (k : code-kept.Kept) : Type 0 where
   pub front : kept_front s ≡ Some (record { kept = kept_of k; size = length k.point.rec.now + tag33_length })
+  pub part : k.point.rec.now ≡ take (length k.point.rec.now) s
   pub inside : length k.point.rec.now + tag33_length ≤ length s
 
 -- the entry at the front of a slice, whose record takes n bytes

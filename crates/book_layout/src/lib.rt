@@ -1,6 +1,7 @@
 // One entry of the book: read from the front of a slice, written at a place, and what it is made of.
 #![tactic(auto)]
 
+mod point_fields;
 mod put;
 mod read;
 mod status;

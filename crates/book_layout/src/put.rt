@@ -25,7 +25,7 @@ fn put_point_id(out: &mut [u8], at: usize, id: PointId)
     write::put_id(out, at + 36, id.author);
 }
 
-// A root's reason, and the map and the peer that it came through.
+// A root's reason, and the map and the peer that it came through. The map's byte is tag 33's, not PointMap's number.
 #[tactic(auto, using(write::proofs::Laws::put_put))]
 fn put_through(out: &mut [u8], at: usize, reason: u8, through: Through)
     requires { at + 34 ≤ length out.old }

@@ -21,7 +21,7 @@ pub enum Status {
     IllFormed(u8),
 }
 
-// No From, since Fail leaves nothing.
+// No From, and no TryFrom: Fail leaves nothing, which is no error.
 pub fn of_verdict(verdict: Verdict) -> Option<Status>
     ensures { (s : List ℕ) (q : point.PointInfo) → left_of s q result ≡ left_by s q (verdict_of verdict) }
 {
@@ -34,7 +34,7 @@ pub fn of_verdict(verdict: Verdict) -> Option<Status>
     }
 }
 
-// What the judge is told of a kept point.
+// What the judge is told of a kept point. No From, since it is of two values, and a pair of them is no type of this crate.
 pub fn dag_point(info: PointInfo, status: Status) -> DagPoint
     ensures same { (s : List ℕ) → dag_point_of s result ≡ dag_point (point_of s info) (status_of status) }
     ensures from { (s : List ℕ) → Reads s info → ReadFrom s result }

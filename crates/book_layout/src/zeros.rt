@@ -16,11 +16,3 @@ pub fn is_zeros(s: &[u8], from: usize) -> bool
 {
     are_zeros(&s[from..])
 }
-
-// Whether the 102 bytes of tag 33 after the reason are 0.
-pub fn is_tail_zero(t: &[u8]) -> bool
-    requires { length t.now ≡ 105 }
-    ensures { result ≡ is_zeros (drop 3 t.now) }
-{
-    are_zeros(&t[3..])
-}

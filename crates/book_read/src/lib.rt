@@ -13,10 +13,7 @@ use schedule::Settings;
 fn is_entry_at(book: &[u8], place: usize) -> bool
     ensures { result ≡ not (eqb (get_or book.now place 0) 0) }
 {
-    if book.len() <= place {
-        return false;
-    }
-    book[place] != 0
+    book.get(place).is_some_and(|&byte| byte != 0)
 }
 
 // Reads the entry at a place, and notes the place, unless there are too many.
@@ -34,7 +31,8 @@ fn read_entry(book: &[u8], place: usize, index: &mut Index) -> Option<usize>
     Some(end)
 }
 
-// A `while`, since no iterator yields the entries: each says where the next begins.
+// A `while`: the index counts the entries that are read, and where one ends says where the next begins. An iterator of them would have
+// the index too, and would have to be told to end after an entry that doesn't read.
 fn read_entries(book: &[u8], index: &mut Index) -> Option<usize>
     requires entries_start_in_bounds { (entries_start ≤ length book.now) × (length book.now ≤ longest_book) }
     requires index_value { IsEmpty index.old }
@@ -53,10 +51,7 @@ pub fn read_book(book: &[u8], index: &mut Index) -> Option<(Settings, usize)>
     requires { IsEmpty index.old }
     ensures { BookRead book.now index.new result }
 {
-    if book.len() < parts::ENTRIES_START {
-        return None;
-    }
-    if parts::LONGEST_BOOK < book.len() {
+    if book.len() < parts::ENTRIES_START || parts::LONGEST_BOOK < book.len() {
         return None;
     }
     let conf = schedule::read_settings(&book[..parts::SETTINGS_LENGTH])?;

@@ -23,7 +23,7 @@ use Rattle.record.specs.Record.{field_row, field_ok, record_end}
 use Rattle.record.proofs.Laws.{Fitting, fitting, end-within}
 use Rattle.write.proofs.Numbers.{little-fits, rest-bytes, little-of, big-of}
 use Rattle.point.specs.Point.{Includes, Witness, PointInfo, through_peer, in_domain}
-use Rattle.point.specs.Reading.{point_id_at, read_point}
+use Rattle.point.specs.Reading.{point_id_at, through_at, read_point}
 use Rattle.schedule.specs.Settings.{Settings, read_settings}
 use Rattle.reasons.specs.Answer.{flag}
 use Rattle.reasons.specs.Invalid.{dag_round}
@@ -31,7 +31,7 @@ use Rattle.rules.specs.List.{is_listable}
 use Rattle.books.specs.Kept.{Status, Valid, TransInvalid, Invalid, IllFormed, Kept, Book, is_twice, Opened}
 use Rattle.books.specs.Lists.{dag_point}
 use Rattle.books.specs.Offer.{used, is_state_ok}
-use Rattle.books.specs.Layout.{id_bytes, through_bytes, status_bytes, kept_bytes, entries_bytes, book_bytes, is_zeros, through_at, root_at, is_root_ok, read_status, is_keepable, read_kept, KeptFront, kept_front, entries_from, read_book}
+use Rattle.books.specs.Layout.{id_bytes, through_bytes, status_bytes, kept_bytes, entries_bytes, book_bytes, is_zeros, root_at, is_root_ok, read_status, is_keepable, read_kept, KeptFront, kept_front, entries_from, read_book}
 use Rattle.books.proofs.Shape.{RootFits, StatusShape, KeptShape, Shape}
 use Rattle.books.proofs.RoundTrip.{settings-length}
 

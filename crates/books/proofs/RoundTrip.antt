@@ -19,7 +19,7 @@ use Rattle.record.proofs.Laws.{append-end, field-last, front-field}
 use Rattle.write.proofs.Laws.{bytes-length, big-bytes}
 use Rattle.write.proofs.Numbers.{little-back}
 use Rattle.point.specs.Point.{PointId, Through, Includes, Witness, PointInfo, through_peer}
-use Rattle.point.specs.Reading.{point_id_at, read_point}
+use Rattle.point.specs.Reading.{point_id_at, through_at, read_point}
 use Rattle.point.proofs.Laws.{readable}
 use Rattle.schedule.specs.Settings.{Settings, settings_in, read_settings}
 use Rattle.reasons.specs.Answer.{flag}
@@ -27,7 +27,7 @@ use Rattle.reasons.specs.Invalid.{InvalidDependency}
 use Rattle.rules.specs.List.{is_listable}
 use Rattle.books.specs.Kept.{Status, Valid, TransInvalid, Invalid, IllFormed, Kept, Book, is_twice, Opened}
 use Rattle.books.specs.Offer.{used}
-use Rattle.books.specs.Layout.{id_bytes, through_bytes, status_bytes, kept_bytes, entries_bytes, book_bytes, is_zeros, through_at, root_at, is_root_ok, read_status, read_kept, KeptFront, kept_front, entries_from, read_book}
+use Rattle.books.specs.Layout.{id_bytes, through_bytes, status_bytes, kept_bytes, entries_bytes, book_bytes, is_zeros, root_at, is_root_ok, read_status, read_kept, KeptFront, kept_front, entries_from, read_book}
 use Rattle.rules.proofs.Fits.{IdFits}
 use Rattle.rules.proofs.Roots.{Recorded}
 use Rattle.books.proofs.Roots.{Root}

@@ -2,11 +2,11 @@
 -- and how a book is laid out.
 use Rattle.std.specs.Prelude.{ℕ, zero, suc, ◌+◌, ◌-◌, Bool, true, ◌&&◌, List, [], ◌∷◌, ◌++◌, length, get_or, take, drop, replicate, leb, eqb, Option, None, Some, option_map, is_some}
 use Rattle.base.specs.Base.{pick, and_then}
-use Rattle.parts.specs.Bytes.{id_at, big_bytes, little_bytes}
+use Rattle.parts.specs.Bytes.{big_bytes, little_bytes}
 use Rattle.parts.specs.Limits.{first_round, last_round, settings_length, entries_start, tag33_length, most_kept, longest_book}
 use Rattle.record.specs.Record.{field_row, field_ok, record_end}
 use Rattle.point.specs.Point.{PointId, Through, Includes, Witness, PointInfo, in_domain}
-use Rattle.point.specs.Reading.{point_id_at, read_point}
+use Rattle.point.specs.Reading.{point_id_at, through_at, read_point}
 use Rattle.schedule.specs.Settings.{read_settings}
 use Rattle.reasons.specs.Answer.{flag}
 use Rattle.reasons.specs.Invalid.{dag_round, InvalidDependency}
@@ -54,9 +54,6 @@ book_bytes settings len b = settings ++ (entries_bytes b ++ replicate (len - ent
 unfoldable pub is_zeros : List ℕ → Bool
 is_zeros [] = true
 is_zeros (x ∷ l) = eqb x 0 && is_zeros l
-
-abbrev pub through_at : List ℕ → ℕ → Through
-through_at t at = pick (eqb (get_or t at 0) 0) (Includes (id_at t (at + 1))) (Witness (id_at t (at + 1)))
 
 abbrev pub root_at : List ℕ → InvalidDependency
 root_at t = record { to = point_id_at t 3; reason = get_or t 71 0; through = through_at t 72 }

@@ -10,8 +10,9 @@ use point::PointId;
 const LONGEST_CHAIN: usize = 16;
 
 impl Index {
-    // The number of an id among the first n, by the chain of its bucket, or else how many ids the chain has. A `while`, since no
-    // iterator yields a chain: where the next id stands is read at the one before.
+    // The number of an id among the first n, by the chain of its bucket, or else how many ids the chain has. A `while`: it ends, since
+    // each link lies below the one before. `iter::successors` counts as endless, so that a `for` over it would take a `take`, and
+    // a closure with a clause for where it may be called.
     #[tactic(auto, using(crate::proofs::Laws::search_next))]
     pub(crate) fn walk_chain(&self, s: &[u8], n: usize, id: PointId) -> Result<usize, usize>
         requires { Places s.now self.now × ((n ≤ count_of self.now) × Chains s.now self.now n) }
@@ -57,7 +58,8 @@ impl Index {
         true
     }
 
-    // Chains all ids, unless one stands twice or a chain is long.
+    // Chains all ids, unless one stands twice or a chain is long. `sort` is the same loop over another step. With `all`, or in one function
+    // for both, the step would be a closure that changes the index, whose clauses would be longer than this.
     pub(crate) fn chain(&mut self, s: &[u8]) -> bool
         requires { Noted s.now self.old }
         ensures same_front { SameFront self.old self.new }

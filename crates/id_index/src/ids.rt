@@ -25,8 +25,8 @@ pub fn has_id(s: &[u8], place: usize, id: PointId) -> bool
     point::point_id_at(s, place + 3) == id
 }
 
-// The order of the id of the field at a place and an id: by digest, author and round. Not a derived one, since the bytes are
-// compared in place, up to the first that differs.
+// The order of the id of the field at a place and an id: by digest, author and round. Not a derived one, which would ask the round
+// first.
 #[tactic(auto, unfolding(parts::specs::Parts::order, point::specs::Reading::point_id_at, point::specs::Point::same_id))]
 pub fn compare(s: &[u8], place: usize, id: PointId) -> Ordering
     requires { place + 71 ≤ length s.now }

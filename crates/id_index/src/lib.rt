@@ -1,5 +1,6 @@
 // An index of ids in a slice, by which an id is found without a walk over all of them. Each stands in a field, after its tag and
-// length, and the field's place stands for it.
+// length, and the field's place stands for it. The slice is no part of the index: marks are written into a book while its index is
+// in use, which a borrow in here would forbid. So each method that reads ids has it beside the index.
 #![tactic(auto)]
 
 mod chains;
@@ -70,8 +71,8 @@ impl Index {
         self.count += 1;
     }
 
-    // Makes the index of the ids that were noted, unless one stands twice. There is one way to fail, and nothing to say of it,
-    // so this and what it calls return whether it was done, as `HashSet::insert` does.
+    // Makes the index of the ids that were noted, unless one stands twice. Why it wasn't done is never asked, so this and what it
+    // calls return whether it was, as `HashSet::insert` does.
     #[tactic(auto, using(crate::proofs::Laws::built_chained, crate::proofs::Laws::built_twice))]
     pub fn build(&mut self, s: &[u8]) -> bool
         requires { Noted s.now self.old }

@@ -9,7 +9,8 @@ use std::cmp::Ordering;
 
 impl Index {
     // The number of an id among the first n, which are sorted, or else how many of these lie below it. `binary_search_by` asks
-    // for a closure that may be called at any number: this one may only at those of ids.
+    // for a closure that may be called at any number: this one may only at those of ids. `map::search` halves rows alike: one
+    // function for both would take the comparison as a closure, with a clause for where it may be called.
     pub(crate) fn seek(&self, s: &[u8], n: usize, id: PointId) -> Result<usize, usize>
         requires { Places s.now self.now × ((n ≤ count_of self.now) × Sorted s.now self.now n) }
         ensures { InOrder s.now self.now n (point_id_of id) result }
@@ -44,7 +45,7 @@ impl Index {
         true
     }
 
-    // Sorts all ids, unless one stands twice.
+    // Sorts all ids, unless one stands twice. A `for`, as in `chain`.
     pub(crate) fn sort(&mut self, s: &[u8]) -> bool
         requires { Places s.now self.old }
         ensures same_front { SameFront self.old self.new }

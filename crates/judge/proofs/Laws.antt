@@ -1,29 +1,30 @@
 -- Laws of the call: the numbers and the verdict in their order.
-use Rattle.std.specs.Prelude.{Option, None, Some, is_some, Result, Err}
+use Rattle.std.specs.Prelude.{Option, None, Some, Result, Err}
 use Prim.Native.Nat.{ℕ, ◌≤◌, ◌<◌}
 use native.Mathlib.Omega.{arith}
 use mathlib.Core.Path.{◌≡◌, refl, ap, sym, ◌∙◌}
 use mathlib.Core.Bool.{Bool, true, false, not, ◌&&◌}
 use mathlib.Core.List.{List}
 use lib.Dec.{eqb}
-use borrow.Author.Tests.{eq-eqb, ne_eqb, le-leb, lt-ltb, le-ltb}
+use borrow.Author.Tests.{ne_eqb, lt-ltb, le-ltb}
 use Rattle.base.specs.Base.{pick, is_empty}
 use Rattle.base.proofs.Impossible.{impossible}
 use Rattle.parts.specs.Limits.{peers_room}
 use Rattle.point.specs.Point.{PointInfo, in_domain, prev_id}
+use Rattle.point.proofs.Said.{said_read}
 use Rattle.point.specs.declared.data.PointMap.TheVariants as case-map
 use Rattle.schedule.specs.Settings.{Settings}
 use Rattle.schedule.specs.Schedule.{Schedule}
+use Rattle.schedule.proofs.Said.{schedule_read}
 use Rattle.reasons.specs.Invalid.{NoRoundInDag}
-use Rattle.reasons.specs.Verdict.{Verdict, Invalid, Valid, of_error}
+use Rattle.reasons.specs.Verdict.{Verdict, Invalid, of_error}
 use Rattle.reasons.specs.declared.ill_formed.VerifyError.{VerifyError}
 use Rattle.rules.specs.Verify.{scheduled, verify, buffer_with}
 use Rattle.rules.specs.DagPoint.{Entry, IndirectEntry}
 use Rattle.rules.specs.Validate.{over_lists, validate}
-use Rattle.rules.specs.Judge.{Input, Tested, refused, admitted, tested_with, verify_buffer, JudgeAnswer, Number, Given, Before, answered, needed, before_with, before, judge_from, over_list, judge_with}
+use Rattle.rules.specs.Judge.{Input, Tested, refused, admitted, tested_with, verify_buffer, JudgeAnswer, Given, Before, answered, needed, before_with, before, judge_from, over_list, judge_with}
 use Rattle.rules.specs.CheckIllFormed.{wave_checked}
-use Rattle.reasons.specs.declared.ill_formed.WaveChecked.{WaveChecked}
-use Rattle.rules.specs.List.{Listed, read_list, directs, indirects}
+use Rattle.rules.specs.List.{Listed, directs, indirects}
 use Rattle.rules.specs.Mismatch.{mismatch, uncovered}
 use Rattle.judge_list.specs.Code.{ListJudged, judged_with}
 use Rattle.judge.specs.Code.{judge_answer_of}
@@ -42,10 +43,6 @@ module _ (c : Settings) (required : Bool) (p : PointInfo) where
   abbrev pub Over : Option (List Listed) → Option ListJudged → Type 0
   Over o j = j ≡ judged_with c required p o
 
-  pub was_read : (o : Option (List Listed)) (j : ListJudged) → Over o (Some j) → is_some o ≡ true
-  was_read None j h = impossible (cc)
-  was_read (Some l) j h = refl
-
   over-is : (l : List Listed) (j : ListJudged) → Over (Some l) (Some j) →
       j
       ≡ record {
@@ -58,20 +55,6 @@ module _ (c : Settings) (required : Bool) (p : PointInfo) where
   is-uncovered l j h = sym (ap (λ (k : ListJudged). k.uncovered) (over-is l j h))
 
 module _ (c : Settings) (required : Bool) (presence : ℕ) (p : PointInfo) where
-  pub answer-unread : (o : Option (List Listed)) → Over c required p o None → Number 7 ≡ over_list c required presence p o
-  answer-unread None h = refl
-  answer-unread (Some l) h = impossible (cc)
-
-  pub answer-mismatch : (o : Option (List Listed)) (j : ListJudged) → Over c required p o (Some j) → Mismatch presence p o true →
-      Number 8 ≡ over_list c required presence p o
-  answer-mismatch None j h m = impossible (cc)
-  answer-mismatch (Some l) j h m = rw (sym (m l refl))
-
-  pub answer-uncovered : (o : Option (List Listed)) (j : ListJudged) → Over c required p o (Some j) →
-      Mismatch presence p o false → j.uncovered ≡ true → Number 9 ≡ over_list c required presence p o
-  answer-uncovered None j h m u = impossible (cc)
-  answer-uncovered (Some l) j h m u = rw (sym (m l refl), is-uncovered c required p l j h, u)
-
   -- past the numbers
   answer-judged : (l : List Listed) (j : ListJudged) → Over c required p (Some l) (Some j) →
       Mismatch presence p (Some l) false → j.uncovered ≡ false →
@@ -115,18 +98,7 @@ module _ (c : Settings) (presence : ℕ) (p : PointInfo) (list : List ℕ) where
     unfolding validate
     answer-includes h = rw h
 
-    pub answer-needed : (a : JudgeAnswer) → 2 ≤ presence → a ≡ over_list c required presence p (read_list list) → From (needed required) a
-    answer-needed a h e = e ∙ rw (le-leb 2 presence h)
-
 -- ---- what is known before the list
-
-module _ (round genesis : ℕ) (wave : WaveChecked) where
-  pub before-genesis : round ≡ genesis → answered (Given Valid) ≡ before_with None (eqb round genesis) wave
-  before-genesis h = rw (eq-eqb round genesis h)
-
-  pub before_wave : (found : WaveChecked) (b : Before) → (round ≡ genesis → ⊥) → found ≡ wave → b ≡ before_with None false found →
-      b ≡ before_with None (eqb round genesis) wave
-  before_wave found b h e f = f ∙ rw (ne_eqb round genesis h, e)
 
 module _ (c : Settings) (s : Schedule) (leader : Bool) (p : PointInfo) (o : Option VerifyError) (e : o ≡ verify c s p) where
   -- a verification that didn't pass
@@ -138,10 +110,6 @@ module _ (c : Settings) (s : Schedule) (leader : Bool) (p : PointInfo) (o : Opti
   pub before-passed : (b : Before) → o ≡ None → b ≡ before_with None (eqb p.id.round c.genesis_round) (wave_checked s leader p) → b ≡ before c s leader p
   unfolding before
   before-passed b f g = g ∙ rw (← e, f)
-
-pub buffered : (c : Settings) (s : Schedule) (p : PointInfo) (o : Option VerifyError) (old new : List ℕ) → o ≡ verify c s p →
-    new ≡ buffer_with (scheduled c s p) p o old → new ≡ buffer_with (scheduled c s p) p (verify c s p) old
-buffered c s p o old new e b = rw (← e) b
 
 -- ---- the call's answer and the buffer, from what its input was tested for
 
@@ -168,3 +136,6 @@ module _ (leader presence : ℕ) (list : List ℕ) where
       Answered t a old new
   unfolding judge_with
   answer-taken t i a b old new h e f g = rw h (f ∙ ap (judge_from i.settings presence i.point list) e, g)
+
+-- what the readers of a schedule and of a record say
+pub ruleset parts_read = (schedule_read, said_read)

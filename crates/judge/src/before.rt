@@ -24,25 +24,26 @@ pub enum Before {
 // What is known of a verified point: genesis is Valid, else check_ill_formed tells.
 fn before_verified(
     conf: Settings,
-    spans: Schedule,
+    schedule: Schedule,
     point: &Point,
     is_leader: bool,
 ) -> Result<Before, Refusal>
     ensures { (s : List ℕ) →
         before_of result ≡ before_with None (eqb point.now.info.id.round (settings_of conf).genesis_round)
-        (wave_checked (schedule_of s spans) is_leader (said point.now)) }
+        (wave_checked (schedule_of s schedule) is_leader (said point.now)) }
 {
     if point.info.id.round == conf.genesis_round {
         return Ok(Before::Judged(Verdict::Valid));
     }
-    match judge_ill_formed::check_ill_formed(spans, point, is_leader) {
+    match judge_ill_formed::check_ill_formed(schedule, point, is_leader) {
         WaveChecked::Horizon => Err(Refusal::Horizon),
         WaveChecked::IllFormed(reason) => Ok(Before::Judged(Verdict::IllFormed(reason))),
         WaveChecked::Sound(required) => Ok(Before::Needed(required)),
     }
 }
 
-// A verification that didn't pass ends the judgement. Unknown peers go into the buffer.
+// A verification that didn't pass ends the judgement. Unknown peers go into the buffer, whose room is asked for as verify_peers
+// does.
 pub fn before_list(
     conf: Settings,
     schedule: &PeerSchedule,
@@ -56,7 +57,7 @@ pub fn before_list(
         (verify (settings_of conf) (peer_schedule_of schedule.now) (said point.now)) peers.old peers.new }
 {
     let Err(error) = verify::verify_point(conf, schedule, point, peers) else {
-        return before_verified(conf, schedule.spans, point, is_leader);
+        return before_verified(conf, schedule.schedule, point, is_leader);
     };
     Ok(Before::Judged(error.into()))
 }

@@ -33,7 +33,8 @@ fn lacks_witness(presence: u8, point: &Point) -> bool
     presence == 2 && 0 < map::count(point.witness(), 64)
 }
 
-// Numbers 7 to 9, and the verdict over the list.
+// Numbers 7 to 9, and the verdict over the list. Settings, point and whether regular points are required stay apart here: a By is made
+// of them where the list is walked.
 fn judge_over_list(
     conf: Settings,
     required: bool,
@@ -75,8 +76,8 @@ fn judge_needed(
     }
 }
 
-// Numbers 1 to 5 in number order, then the judgement.
-#[tactic(auto, unfolding(rules::specs::Judge::tested, rules::specs::Judge::judge_with), using(schedule::proofs::Said::schedule_read, point::proofs::Said::said_read))]
+// Numbers 1 to 5 in number order, then the judgement. The parameters are document 01's, in its order.
+#[tactic(auto, unfolding(rules::specs::Judge::tested, rules::specs::Judge::judge_with), using(crate::proofs::Laws::parts_read))]
 pub fn judge(
     settings: &[u8],
     schedule: &[u8],

@@ -40,7 +40,8 @@ pub fn record_of(
     through: Through,
     state: &DagPoint,
 ) -> Option<InvalidDependency>
-    ensures { (s : List ℕ) → option_map dependency_of result ≡ record_of (settings_of conf.now) round certified (through_of through) (dag_point_of s state.now) }
+    ensures { (s : List ℕ) → option_map dependency_of result
+        ≡ record_of (settings_of conf.now) round certified (through_of through) (dag_point_of s state.now) }
 {
     match *state {
         DagPoint::TransInvalid(_, to, reason) => {

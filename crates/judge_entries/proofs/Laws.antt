@@ -1,7 +1,8 @@
 -- Laws of entries: the steps of reading one.
 use Rattle.std.specs.Prelude.{Option, None, Some, option_map}
 use Rattle.std.proofs.Common.{length-take-le}
-use Prim.Native.Nat.{ℕ, ◌+◌, ◌≤◌, ◌<◌}
+use Rattle.std.proofs.lemmas.List.{drop-drop}
+use Prim.Native.Nat.{ℕ, ◌+◌, ◌-◌, ◌≤◌, ◌<◌}
 use native.Mathlib.Omega.{arith}
 use mathlib.Core.Path.{◌≡◌, refl, ap, sym, ◌∙◌}
 use mathlib.Core.Bool.{Bool, true, false, ◌&&◌}
@@ -22,7 +23,7 @@ use Rattle.point.specs.declared.data.AnchorStageRole.{AnchorStageRole}
 use Rattle.point.specs.declared.data.AnchorStageRole.TheVariants.{Proof, Trigger}
 use Rattle.rules.specs.DagPoint.{DagPoint, TransInvalid, Dropped}
 use Rattle.rules.specs.List.{is_listable, Stated, RecordFront, record_front, record_at, is_root, read_state, Listed, entry_at, read_entry}
-use Rattle.judge_entries.specs.Entry.{record_front_of, listed_of, Sized}
+use Rattle.judge_entries.specs.Entry.{record_front_of, listed_of, Sized, EndsWith}
 use Rattle.judge_entries.specs.declared.entry.Listed as code-listed
 
 -- ---- the record of a listed point
@@ -44,13 +45,21 @@ module _ (s : List ℕ) (n : ℕ) (e : record_end s ≡ Some n) where
     says : read_point (take n s) ≡ Some (said p)
     says = ap read_point (sym same) ∙ p.reads.read
 
+    front-length : length p.rec.now ≡ n
+    front-length = ap length same ∙ length-take-le n s front-within
+
     pub front_unlisted : is_listable (said p) ≡ false → record_front s ≡ None
     unfolding record_front
     front_unlisted g = rw (e, says, g)
 
     pub front-listed : is_listable (said p) ≡ true → record_front s ≡ Some (record_front_of p)
     unfolding record_front
-    front-listed g = let l : length p.rec.now ≡ n = ap length same ∙ length-take-le n s front-within in rw (e, says, g, l)
+    front-listed g = rw (e, says, g, front-length)
+
+    pub front-placed : EndsWith s (length p.rec.now) p.rec.now
+    front-placed =
+        let z : length p.rec.now - length p.rec.now ≡ 0 = omega arith in
+        record { fits = omega arith; part = rw z (rw front-length same) }
 
 -- the parts of a record that was read at the front of a slice
 pub record Fronted (s : List ℕ) (x : RecordFront) : Type 0 where
@@ -74,6 +83,17 @@ module _ (s part : List ℕ) (front : ℕ) (e : part ≡ drop front s) (r : Opti
   record-some p g =
       let o : record_front (drop front s) ≡ Some (record_front_of p) = ap record_front (sym e) ∙ (sym h ∙ ap (option_map record_front_of) g) in
       rw o
+
+-- ---- where a record stands
+
+-- with `front` bytes before the part that ends with it
+pub ends_after : (s part rec : List ℕ) (front n : ℕ) → part ≡ drop front s → EndsWith part n rec → EndsWith s (front + n) rec
+ends_after s part rec front n e h =
+    let m : front + n - length rec ≡ front + (n - length rec) = omega (arith, h.fits) in
+    record {
+      fits = omega (arith, h.fits);
+      part = rw m (h.part ∙ ap (take (length rec)) (ap (drop (n - length rec)) e ∙ drop-drop (n - length rec) front s));
+    }
 
 -- ---- how long a slice is in which these were found
 
@@ -165,3 +185,6 @@ pub read_empty : (s : List ℕ) → length s ≡ 0 → read_entry s ≡ None
 unfolding read_entry entry_at field_ok
 read_empty [] h = refl
 read_empty (b ∷ s) h = absurd (omega arith)
+
+-- the front of an entry
+pub ruleset front_read = (target_long, read_empty)

@@ -1,5 +1,6 @@
 -- What an entry stands for. It stands apart from Code, on which the struct Entry rests.
-use Rattle.std.specs.Prelude.{ℕ, ◌≤◌, ◌<◌, List, length, Option, None, Some}
+use Rattle.std.specs.Prelude.{ℕ, ◌-◌, ◌≤◌, ◌<◌, ◌≡◌, List, length, Option, None, Some}
+use Rattle.parts.specs.Bytes.{bytes_at}
 use Rattle.point.specs.Said.{said}
 use Rattle.rules.specs.DagPoint.{Entry}
 use Rattle.rules.specs.List.{Stated, RecordFront, Listed}
@@ -19,6 +20,11 @@ listed_of x = record { aim = x.aim; entry = entry_of x.entry; size = x.size }
 abbrev pub Sized : List ℕ → Option code-listed.Listed → Type 0
 Sized s (Some x) = (0 < x.size) × (x.size ≤ length s)
 Sized s None = Unit
+
+-- a record is the last of the first n bytes of a slice
+pub record EndsWith (s : List ℕ) (n : ℕ) (rec : List ℕ) : Type 0 where
+  pub fits : length rec ≤ n
+  pub part : rec ≡ bytes_at (length rec) s (n - length rec)
 
 abbrev pub stated_of : code-stated.Stated → Stated
 stated_of x = record { point = dag_point_of x.rec.now x.state; size = x.size }

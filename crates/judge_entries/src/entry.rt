@@ -19,7 +19,8 @@ pub enum DagPoint {
     Dropped,
 }
 
-// What stands after an entry's flags: the point with its record, if it has one, and how many bytes they take.
+// What stands after an entry's flags: the point with its record, if it has one, and how many bytes they take. The record stands once
+// beside the state, and not in three of its cases, so that what is said of it is said once.
 #[derive(Clone, Copy)]
 pub(crate) struct Stated<'a> {
     pub rec: &'a [u8],
@@ -29,7 +30,7 @@ pub(crate) struct Stated<'a> {
 }
 
 // A dependency as a list or a book says it. That it is certified and that it is the first valid one are facts of their own beside the
-// state.
+// state, and the record stands beside it as in Stated.
 #[derive(Clone, Copy)]
 pub struct Entry<'a> {
     pub rec: &'a [u8],
@@ -71,7 +72,8 @@ impl DagPoint {
 impl<'a> Entry<'a> {
     // The entry's point, if it has one.
     pub fn point(&self) -> Option<Point<'a>>
-        ensures { MatchOption result (info_of self.now.state ≡ None) (λ p. (info_of self.now.state ≡ Some p.info) × (p.rec.now ≡ self.now.rec.now)) }
+        ensures { MatchOption result (info_of self.now.state ≡ None)
+            (λ p. (info_of self.now.state ≡ Some p.info) × (p.rec.now ≡ self.now.rec.now)) }
     {
         match self.state {
             DagPoint::Valid(info)

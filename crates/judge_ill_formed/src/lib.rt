@@ -13,11 +13,11 @@ use schedule::Schedule;
 
 // Either the role or the wave link is tested, never both.
 #[tactic(auto, unfolding(rules::specs::CheckIllFormed::wave_checked))]
-pub fn check_ill_formed(spans: Schedule, point: &Point, is_leader: bool) -> WaveChecked
-    ensures { (s : List ℕ) → result ≡ wave_checked (schedule_of s spans) is_leader (said point.now) }
+pub fn check_ill_formed(schedule: Schedule, point: &Point, is_leader: bool) -> WaveChecked
+    ensures { (s : List ℕ) → result ≡ wave_checked (schedule_of s schedule) is_leader (said point.now) }
 {
     let info = &point.info;
-    let Some(required) = schedule::require_regular_points(spans, info.id.round) else {
+    let Some(required) = schedule.require_regular_points(info.id.round) else {
         return WaveChecked::Horizon;
     };
     if required {

@@ -1,5 +1,6 @@
 -- Laws of judging over a list: the previous point, and the walk.
 use Rattle.std.specs.Prelude.{Option, None, Some, option_map, is_some}
+use Rattle.std.specs.Option.{MatchOption}
 use Prim.Native.Nat.{ℕ, zero, suc, ◌-◌, ◌<◌}
 use mathlib.Core.Path.{◌≡◌, refl, ap, sym, ◌∙◌}
 use mathlib.Core.Bool.{Bool, true, false, not, ◌||◌, and-true, and-false, or-false}
@@ -10,6 +11,8 @@ use borrow.Author.Tests.{eqb-true, eq-eqb, ne_eqb}
 use Rattle.base.specs.Base.{and_then}
 use Rattle.base.proofs.Bool.{never, clash, and_left, and_right, and_both}
 use native.Mathlib.Omega.{arith}
+use Rattle.parts.specs.Code.{number}
+use Rattle.parts.specs.declared.Id.{Id}
 use Rattle.point.specs.Point.{PointId, same_id, Through, through}
 use Rattle.point.proofs.Ids.{same_fields}
 use Rattle.rules.specs.DagPoint.{PointView, point_view, Entry, is_by}
@@ -43,6 +46,12 @@ prev-digest i j d h =
     let r = eqb-true j.round (i.round - 1) (and_left (eqb j.round (i.round - 1)) _ h) in
     let a = eqb-true j.author i.author (and_right (eqb j.round (i.round - 1)) _ h) in
     rw (eq-eqb (i.round - 1) j.round (sym r), eq-eqb i.author j.author (sym a), and-true (eqb d j.digest))
+
+-- by the previous digest as the code has it, if it has one
+pub prev-digested : (i j : PointId) (o : Option Id) (r : Bool) → is_by (i.round - 1) i.author j ≡ true →
+    MatchOption o (r ≡ false) (λ d. r ≡ eqb (number d) j.digest) → r ≡ is_id (prev_of i (option_map number o)) j
+prev-digested i j None r h e = e
+prev-digested i j (Some d) r h e = e ∙ sym (prev-digest i j (number d) h)
 
 -- an entry that passed the quick test doesn't leave the previous point uncovered
 covers : {c : Settings} (p : PointView) (e : code-entry.Entry) → Passed c p e → uncovers (prev_in p) (entry_of e) ≡ false

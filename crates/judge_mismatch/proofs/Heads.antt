@@ -27,6 +27,7 @@ use Rattle.reasons.specs.Invalid.{dag_round}
 use Rattle.judge_entries.proofs.Order.{list_then, Parted, parted, in_order_lem, after-target}
 use Rattle.judge_entries.proofs.Laws.{listed_as, fronted}
 use Rattle.judge_mismatch.specs.Code.{Head, head_of, id_of, head_from, flags_at, aim_at, id_place, id_after, placed_at, end_in, entry_end, listed}
+use Rattle.judge_mismatch.specs.Entries.{Front}
 
 -- ---- the record at the front
 
@@ -390,32 +391,29 @@ listed-end s h =
 
 -- ---- an entry of the code at the front of a list that reads
 
-pub record Front (s : List ℕ) (h : Head) : Type 0 where
-  pub first : Listed
-  pub next : Next s first
-  pub for : h.aim ≡ first.aim
-  pub id : h.id ≡ id_of first.entry.state
-  pub size : h.size ≡ first.size
-  pub least : 7 ≤ h.size
-  pub small : h.size ≤ length s
+record Stands (s : List ℕ) (h : Head) : Type 0 where
+  front : Front (listed s) h (listed (drop h.size s))
+  least : 7 ≤ h.size
+  small : h.size ≤ length s
+  left : is_some (read_list (drop h.size s)) ≡ true
 
-front_with_lem : (s : List ℕ) (h : Head) (x : Listed) → Next s x → Some h ≡ head_from (read_entry s) → Front s h
-front_with_lem s h x n e =
+stands-first : (s : List ℕ) (h : Head) (x : Listed) → Next s x → Some h ≡ head_from (read_entry s) → Stands s h
+stands-first s h x n e =
     let g : Some h ≡ Some (head_of x) = e ∙ ap head_from n.entry in
     let i = head-is s x n.entry in
     let size : h.size ≡ x.size = cc in
     record {
-      first = x;
-      next = n;
-      for = cc;
-      id = cc;
-      size = size;
+      front = record {
+        first = x;
+        all = n.all ∙ ap (λ (k : ℕ). x ∷ listed (drop k s)) (sym size);
+        for = cc;
+        id = cc;
+        last = λ b. ap (λ (k : ℕ). directs (listed (drop k s))) size ∙ n.last b;
+      };
       least = omega (arith, i.least);
       small = omega (arith, i.small);
+      left = ap (λ (k : ℕ). is_some (read_list (drop k s))) size ∙ n.left;
     }
-
-front_of : (s : List ℕ) (h : Head) → is_some (read_list s) ≡ true → 0 < length s → Some h ≡ head_from (read_entry s) → Front s h
-front_of s h r g e = let n = next_of s r g in front_with_lem s h n.0 n.1 e
 
 -- an entry has an id exactly if it was not dropped
 kept : (d : DagPoint) (i : PointId) → Some i ≡ id_of d → (is_dropped d ≡ false) × (i ≡ entry_id d)
@@ -432,63 +430,61 @@ gone d h = by (is_dropped d) refl h
     by true e h = sym e
     by false e h = none-some h
 
-module _ {s : List ℕ} {h : Head} (f : Front s h) where
+module _ {l r : List Listed} {h : Head} (f : Front l h r) where
   pub front_kept : (i : PointId) → h.id ≡ Some i → (is_dropped f.first.entry.state ≡ false) × (i ≡ entry_id f.first.entry.state)
   front_kept i e = kept f.first.entry.state i (sym e ∙ f.id)
 
   pub front_dropped : h.id ≡ None → is_dropped f.first.entry.state ≡ true
   front_dropped e = gone f.first.entry.state (sym e ∙ f.id)
 
--- `head` may be called at the front of a list that reads
-head-reads : (s : List ℕ) → is_some (read_list s) ≡ true → 0 < length s → is_some (read_entry s) ≡ true
-head-reads s r g = ap is_some (next_of s r g).1.entry
+  pub directs-next : h.aim ≡ None → directs l ≡ f.first.entry ∷ directs r
+  directs-next e = ap directs f.all ∙ directs-here f.first r (sym f.for ∙ e)
+
+  pub indirects-same : h.aim ≡ None → indirects l ≡ indirects r
+  indirects-same e = ap indirects f.all ∙ indirects-after f.first r (sym f.for ∙ e)
+
+  pub indirects-next : (g : AnchorStageRole) → h.aim ≡ Some g → indirects l ≡ record { role = g; entry = f.first.entry } ∷ indirects r
+  indirects-next g e = ap indirects f.all ∙ indirects-here f.first r g (sym f.for ∙ e)
+
+  -- from an indirect entry on there is no direct one
+  pub directs-last : is_some h.aim ≡ true → (directs l ≡ []) × (directs r ≡ [])
+  directs-last e =
+      let none = f.last (ap is_some (sym f.for) ∙ e) in
+      let g = some_of h.aim e in
+      (ap directs f.all ∙ (directs-after f.first r g.0 (sym f.for ∙ g.1) ∙ none), none)
 
 -- ---- places in a list that reads
 
-pub record Reads (s : List ℕ) (at : ℕ) : Type 0 where
-  pub within : at ≤ length s
-  pub left : is_some (read_list (drop at s)) ≡ true
+pub reads_end : (s : List ℕ) (at : ℕ) → length s ≤ at → listed (drop at s) ≡ []
+reads_end s at h = listed-end (drop at s) (omega (arith, length-drop at s))
 
-module _ (s : List ℕ) (at : ℕ) where
-  pub reads-front : Reads s at → at < length s → (h : Head) → Some h ≡ head_from (read_entry (take (length s - at) (drop at s))) → Front (drop at s) h
-  reads-front r g h e =
-      front_of (drop at s) h r.left (omega (arith, length-drop at s)) (e ∙ ap (λ (t : List ℕ). head_from (read_entry t)) (rest at s))
+module _ (s : List ℕ) (at : ℕ) (r : is_some (read_list (drop at s)) ≡ true) (g : at < length s) where
+  next_at_lem : (x : Listed) × Next (drop at s) x
+  next_at_lem = next_of (drop at s) r (omega (arith, length-drop at s))
 
-  pub reads-head : Reads s at → at < length s → is_some (read_entry (take (length s - at) (drop at s))) ≡ true
-  reads-head r g = ap (λ (t : List ℕ). is_some (read_entry t)) (rest at s) ∙ head-reads (drop at s) r.left (omega (arith, length-drop at s))
+  pub entry-reads : is_some (read_entry (take (length s - at) (drop at s))) ≡ true
+  entry-reads = ap (λ (t : List ℕ). is_some (read_entry t)) (rest at s) ∙ ap is_some next_at_lem.1.entry
 
-  pub reads_end : length s ≤ at → listed (drop at s) ≡ []
-  reads_end h = listed-end (drop at s) (omega (arith, length-drop at s))
+  module _ (h : Head) (e : Some h ≡ head_from (read_entry (take (length s - at) (drop at s)))) where
+    pub entry-given : Some h ≡ head_from (read_entry (drop at s))
+    entry-given = e ∙ ap (λ (t : List ℕ). head_from (read_entry t)) (rest at s)
 
-  module _ (h : Head) (f : Front (drop at s) h) where
-    after_first : drop f.first.size (drop at s) ≡ drop (at + h.size) s
-    after_first = drop-drop f.first.size at s ∙ ap (λ (n : ℕ). drop (at + n) s) (sym f.size)
+    stands : Stands (drop at s) h
+    stands = stands-first (drop at s) h next_at_lem.0 next_at_lem.1 entry-given
 
-    pub reads-next : Reads s at → Reads s (at + h.size)
-    reads-next r = record {
-      within = omega (arith, r.within, f.small, length-drop at s);
-      left = ap (λ (t : List ℕ). is_some (read_list t)) (sym after_first) ∙ f.next.left;
-    }
+    past : drop h.size (drop at s) ≡ drop (at + h.size) s
+    past = drop-drop h.size at s
 
-    pub listed_next : listed (drop at s) ≡ f.first ∷ listed (drop (at + h.size) s)
-    listed_next = f.next.all ∙ ap (λ (t : List ℕ). f.first ∷ listed t) after_first
+    pub entry-front : Front (listed (drop at s)) h (listed (drop (at + h.size) s))
+    entry-front = rw (← past) stands.front
 
-    pub directs-next : h.aim ≡ None → directs (listed (drop at s)) ≡ f.first.entry ∷ directs (listed (drop (at + h.size) s))
-    directs-next e = ap directs listed_next ∙ directs-here f.first _ (sym f.for ∙ e)
+    pub entry-within : at + h.size ≤ length s
+    entry-within = omega (arith, stands.small, length-drop at s)
 
-    pub indirects-same : h.aim ≡ None → indirects (listed (drop at s)) ≡ indirects (listed (drop (at + h.size) s))
-    indirects-same e = ap indirects listed_next ∙ indirects-after f.first _ (sym f.for ∙ e)
+    pub entry-least : 7 ≤ h.size
+    entry-least = stands.least
 
-    pub indirects-next : (g : AnchorStageRole) → h.aim ≡ Some g →
-        indirects (listed (drop at s)) ≡ record { role = g; entry = f.first.entry } ∷ indirects (listed (drop (at + h.size) s))
-    indirects-next g e = ap indirects listed_next ∙ indirects-here f.first _ g (sym f.for ∙ e)
+    pub entry-left : is_some (read_list (drop (at + h.size) s)) ≡ true
+    entry-left = ap (λ (t : List ℕ). is_some (read_list t)) (sym past) ∙ stands.left
 
-    -- from an indirect entry on there is no direct one
-    pub directs-last : is_some h.aim ≡ true → (directs (listed (drop at s)) ≡ []) × (directs (listed (drop (at + h.size) s)) ≡ [])
-    directs-last e =
-        let rest = ap (λ (t : List ℕ). directs (listed t)) (sym after_first) ∙ f.next.last (ap is_some (sym f.for) ∙ e) in
-        let g = some_of h.aim e in
-        (ap directs listed_next ∙ (directs-after f.first _ g.0 (sym f.for ∙ g.1) ∙ rest), rest)
-
-pub reads-start : (s : List ℕ) → is_some (read_list s) ≡ true → Reads s 0
-reads-start s h = record { within = omega arith; left = h }
+pub ruleset entry_facts = (entry-reads, entry-within, entry-least)

@@ -23,16 +23,18 @@ use Rattle.point.specs.declared.data.AnchorStageRole.TheVariants.{Proof, Trigger
 use Rattle.point.specs.Code.{point_of, link_in}
 use Rattle.point.specs.declared.info.PointInfo as code-info
 use Rattle.point.proofs.Laws.{link_in_lem}
-use Rattle.point.proofs.Maps.{pairs_many}
+use Rattle.point.proofs.Maps.{pairs_many, pairs_peers}
 use Rattle.point.proofs.Ids.{same_sym, same_refl}
 use Rattle.rules.specs.DagPoint.{DagPoint, Entry, IndirectEntry, entry_id, is_dropped, is_by}
 use Rattle.rules.specs.List.{Listed, read_list, directs, indirects}
-use Rattle.judge_mismatch.specs.Code.{Head, listed, round_in, pairs_in, maps_in, no_pair, IsRow, own_ids, is_twice_in, is_version_twice, is_new_version, is_target_with, id_of, unmarked}
-use Rattle.judge_mismatch.specs.Maps.{Marked, MapsMarked, lacks, zeros, AllPlaced}
+use Rattle.judge_mismatch.specs.Code.{Head, listed, round_in, pairs_in, maps_in, no_pair, IsRow, among_to, own_ids, is_twice_in, is_version_twice, is_new_version, is_target_with, id_of, unmarked}
+use Rattle.judge_mismatch.specs.Maps.{Marked, MapsMarked, IdMarked, lacks, zeros, AllPlaced}
 use Rattle.judge_mismatch.specs.declared.maps.MarkedMap.{MarkedMap}
-use Rattle.judge_mismatch.proofs.Heads.{Front, front_kept, front_dropped, Reads, next_of, listed-is, directs-here, indirects-here, reads-start, reads-next, reads_end, directs-next, directs-last, indirects-same, indirects-next}
+use Rattle.judge_mismatch.proofs.Heads.{front_kept, front_dropped, next_of, listed-is, directs-here, indirects-here, reads_end, directs-next, indirects-same, indirects-next}
+use Rattle.judge_mismatch.specs.Entries.{left_of, Front}
+use Rattle.judge_mismatch.specs.declared.entries.Entries.{Entries}
 use Rattle.rules.specs.Mismatch.{is_target_of, same_role, stood_before, all_targets, mismatch, has_id, pair_id, is_among, is_version, has_place, all_placed, ids_of, dropped_in, lacking_in, lacking}
-use Rattle.judge_mismatch.proofs.Rows.{among_to, Maps, among-at, among_not, among-to-same, has_same, row_once, stood}
+use Rattle.judge_mismatch.proofs.Rows.{Maps, among-at, among_not, among-to-same, has_same, row_once, stood}
 use Rattle.judge_mismatch.proofs.Own.{own-here, own-passed, none-twice, twice-next, own-has, once_tail, version-once}
 use Rattle.rules.proofs.Mismatch.{has_first, has-next, has-none}
 
@@ -108,10 +110,16 @@ unfolding among_to
 among_next m p x = rw (add-one m)
 
 module _ {p : PointInfo} {x : PointId} {before : List PointId} {m : ℕ} {found : Bool} {maps : List MarkedMap}
-    (w : Marking p x before m found maps) (f : Maps p) (lt : m < length maps) (d : MarkedMap) where
+    (w : Marking p x before m found maps) (lt : m < length maps) (d : MarkedMap) where
   -- the map that comes next
   here : Marked (round_in p m) (pairs_in p m) before (get_or maps m d)
   here = w.left m d (omega arith) lt
+
+  few : length (pairs_in p m) ≤ 255
+  few = let y = get_or maps m d in rw (← here.rows) (omega (arith, pairs_many y.rows.now, y.few))
+
+  rise : rising (peers (pairs_in p m)) ≡ true
+  rise = let y = get_or maps m d in rw (← here.rows) (ap rising (pairs_peers y.rows.now) ∙ y.rises)
 
   module _ (i : ℕ) (row : IsRow (get_or maps m d).round (pairs_of (get_or maps m d).rows.now) x (Some i)) where
     there : (i < length (pairs_in p m)) × (same_id (pair_id (round_in p m) (get_or (pairs_in p m) i no_pair)) x ≡ true)
@@ -134,7 +142,7 @@ module _ {p : PointInfo} {x : PointId} {before : List PointId} {m : ℕ} {found 
     }
       where
         at_row : (k : ℕ) (g : MarkedMap) → k ≡ m → Marked (round_in p k) (pairs_in p k) (x ∷ before) (get_or (set maps m z) k g)
-        at_row k g r = rw (r, get_or-set_same maps m z g lt) (mark_at here x i there.0 there.1 (f.few m) (f.rise m) z a b c)
+        at_row k g r = rw (r, get_or-set_same maps m z g lt) (mark_at here x i there.0 there.1 few rise z a b c)
 
         other : {ids : List PointId} (k : ℕ) (g : MarkedMap) → (k ≡ m → ⊥) → Marked (round_in p k) (pairs_in p k) ids (get_or maps k g) → Marked (round_in p k) (pairs_in p k) ids (get_or (set maps m z) k g)
         other k g n r = rw (get_or-set_other maps m k z g n) r
@@ -156,9 +164,21 @@ module _ {p : PointInfo} {x : PointId} {before : List PointId} {m : ℕ} {found 
       at_row : is_among (round_in p m) (pairs_in p m) x ≡ false → (k : ℕ) (g : MarkedMap) → k ≡ m → Marked (round_in p k) (pairs_in p k) (x ∷ before) (get_or maps k g)
       at_row none k g r = rw r (mark_absent (w.left m g (omega arith) lt) x none)
 
-pub marking_whole : {p : PointInfo} {x : PointId} {before : List PointId} {m n : ℕ} {found : Bool} {maps : List MarkedMap} →
-    Marking p x before m found maps → m ≡ n → Marking p x before n found maps
-marking_whole k e = rw (← e) k
+pub marking_start : {p : PointInfo} {x : PointId} {before : List PointId} {maps : List MarkedMap} → MapsMarked p before maps → Marking p x before 0 false maps
+unfolding among_to
+marking_start w = record {
+  within = omega arith;
+  among = refl;
+  new = λ h. clash false h refl;
+  done = λ k g h. absurd (omega arith);
+  left = λ k g h. w k g;
+}
+
+pub marking_end : {p : PointInfo} {x : PointId} {before : List PointId} {m : ℕ} {found : Bool} {maps : List MarkedMap} →
+    Marking p x before m found maps → length maps ≤ m → IdMarked p before x maps (Some found)
+marking_end {p} {x} {before} {m} {found} {maps} w h =
+    let whole : m ≡ length maps = omega (arith, w.within) in
+    (w.among ∙ ap (λ k. among_to k p x) whole, w.new, λ k d g. w.done k d (omega arith))
 
 -- ---- the walk over the direct entries: what is left gives what the whole list gives, with the ids that stood before
 
@@ -290,16 +310,6 @@ module _ {presence : ℕ} {p : PointInfo} {all rest : List Entry} {maps₀ : Lis
   }
 
   module _ {x : PointId} (d : is_dropped e.state ≡ false) (same : x ≡ entry_id e.state) where
-    walk_marking : Marking p x w.before 0 false maps₀
-    unfolding among_to
-    walk_marking = record {
-      within = omega arith;
-      among = refl;
-      new = λ h. clash false h refl;
-      done = λ k g h. absurd (omega arith);
-      left = λ k g h. w.marks k g;
-    }
-
     here_or_rest : (i : PointId) → has_id (ids_of (e ∷ es)) i ≡ (same_id x i || has_id (ids_of es) i)
     here_or_rest i = ap (λ (l : List PointId). has_id l i) (ids-here e es x d same) ∙ has-next x i (ids_of es)
 
@@ -310,12 +320,15 @@ module _ {presence : ℕ} {p : PointInfo} {all rest : List Entry} {maps₀ : Lis
     walk-twice : has_id w.before x ≡ true → all_placed presence p [] all ≡ false
     walk-twice h = not_placed (stood (has_place presence p x) (has_id w.before x) (all_placed presence p (x ∷ w.before) es) h)
 
-    module _ {found : Bool} {maps : List MarkedMap} (k : Marking p x w.before (maps_in presence) found maps) where
+    module _ {found : Bool} (maps : List MarkedMap) (k : IdMarked p w.before x maps (Some found)) (many : length maps ≡ maps_in presence) where
+      among : found ≡ among_to (maps_in presence) p x
+      among = k.0 ∙ ap (λ m. among_to m p x) many
+
       -- an id that has no place, or that stands again though it has no row
       walk_fails : (found || is_new_version p es x) ≡ false → all_placed presence p [] all ≡ false
       unfolding is_new_version
       walk_fails h =
-          let absent : among_to (maps_in presence) p x ≡ false = sym k.among ∙ or_left found _ h in
+          let absent : among_to (maps_in presence) p x ≡ false = sym among ∙ or_left found _ h in
           let old = or_right found _ h in
           ⊎_elim
           (λ v. not_placed (last-false (has_place presence p x && not (has_id w.before x)) (all_placed presence p (x ∷ w.before) es)
@@ -338,9 +351,9 @@ module _ {presence : ℕ} {p : PointInfo} {all rest : List Entry} {maps₀ : Lis
       for-first h =
           ⊎_elim
           (λ f. record {
-            place = has-place presence p x ∙ ap (λ (b : Bool). b || is_version p x) (sym k.among ∙ f);
-            new = k.new f;
-            once = λ a. clash found f (k.among ∙ a);
+            place = has-place presence p x ∙ ap (λ (b : Bool). b || is_version p x) (sym among ∙ f);
+            new = k.1 f;
+            once = λ a. clash found f (among ∙ a);
           })
           (λ n.
           let version = and_left (is_version p x) _ n in
@@ -348,15 +361,15 @@ module _ {presence : ℕ} {p : PointInfo} {all rest : List Entry} {maps₀ : Lis
           record {
             place = has-place presence p x ∙ (ap (λ (b : Bool). among_to (maps_in presence) p x || b) version ∙ or-true (among_to (maps_in presence) p x));
             new = ⊎_elim
-                (λ a. k.new (k.among ∙ a))
+                (λ a. k.1 (among ∙ a))
                 (λ a. never _ (λ b. clash (has_id (ids_of (e ∷ es)) x) (here_or_rest x ∙ rw (same_refl x)) (all-fresh x a b)))
                 (cases (among_to (maps_in presence) p x));
             once = λ a. once;
           })
           (or_cases found _ h)
 
-      walk-placed : length maps ≡ maps_in presence → (found || is_new_version p es x) ≡ true → Walking presence p all es maps dropped
-      walk-placed many h =
+      walk-placed : (found || is_new_version p es x) ≡ true → Walking presence p all es maps dropped
+      walk-placed h =
           let f = for-first h in
           record {
             before = x ∷ w.before;
@@ -364,7 +377,7 @@ module _ {presence : ℕ} {p : PointInfo} {all rest : List Entry} {maps₀ : Lis
             count = omega (arith, count-here e es x d same, all-count);
             ids = λ i. rw (has-next x i w.before) (or_swap (same_id x i) (has_id w.before i) (has_id (ids_of es) i) ∙ (rw (← here_or_rest i) (all_ids i)));
             fresh = λ i a b. fresh i a (or_cases (same_id x i) (has_id w.before i) (sym (has-next x i w.before) ∙ b)) f;
-            marks = λ m d g. k.done m d (omega arith);
+            marks = k.2;
             many = many;
           }
         where
@@ -445,7 +458,7 @@ aim-cases : (o : Option AnchorStageRole) → (o ≡ None) ⊎ ((g : AnchorStageR
 aim-cases None = inl refl
 aim-cases (Some g) = inr (g, refl)
 
-no_entries : directs [] ≡ []
+pub no_entries : directs [] ≡ []
 unfolding directs
 no_entries = refl
 
@@ -469,18 +482,17 @@ targets-none : (p : PointInfo) (proof trigger : Bool) → all_targets p proof tr
 unfolding all_targets
 targets-none p proof trigger = refl
 
-targets_next : (s : List ℕ) (at : ℕ) (h : Head) (f : Front (drop at s) h) (g : AnchorStageRole) → h.aim ≡ Some g →
-    (p : PointInfo) (proof trigger : Bool) → all_targets p proof trigger (indirects (listed (drop at s))) ≡
+targets_next : {l r : List Listed} {h : Head} (f : Front l h r) (g : AnchorStageRole) → h.aim ≡ Some g →
+    (p : PointInfo) (proof trigger : Bool) → all_targets p proof trigger (indirects l) ≡
     ((is_target_with (anchor_link g p) h.id && not (stood_before g proof trigger))
-    && all_targets p (proof || same_role g Proof) (trigger || same_role g Trigger) (indirects (listed (drop (at + h.size) s))))
-targets_next s at h f g e p proof trigger =
-    let rest = indirects (listed (drop (at + h.size) s)) in
-    let more = all_targets p (proof || same_role g Proof) (trigger || same_role g Trigger) rest in
+    && all_targets p (proof || same_role g Proof) (trigger || same_role g Trigger) (indirects r))
+targets_next {r = r} {h = h} f g e p proof trigger =
+    let more = all_targets p (proof || same_role g Proof) (trigger || same_role g Trigger) (indirects r) in
     let is : is_target_of (anchor_link g p) f.first.entry.state ≡ is_target_with (anchor_link g p) h.id =
     target_with (anchor_link g p) f.first.entry.state ∙ rw f.id
     in
-    ap (all_targets p proof trigger) (indirects-next s at h f g e)
-    ∙ (targets-step p proof trigger (record { role = g; entry = f.first.entry }) rest
+    ap (all_targets p proof trigger) (indirects-next f g e)
+    ∙ (targets-step p proof trigger (record { role = g; entry = f.first.entry }) (indirects r)
     ∙ ap (λ (b : Bool). (b && not (stood_before g proof trigger)) && more) is)
 
 -- what the code told of a link
@@ -488,16 +500,16 @@ pub target-told : (g : AnchorStageRole) (s : List ℕ) (info : code-info.PointIn
     told ≡ is_target_with link i → link ≡ link_in g info → is_target_with (anchor_link g (point_of s info)) i ≡ told
 target-told g s info i e d = sym (e ∙ ap (λ (l : AnchorLink). is_target_with l i) (d ∙ link_in_lem g s info))
 
-module _ (s : List ℕ) (at : ℕ) (h : Head) (f : Front (drop at s) h) (g : AnchorStageRole) (e : h.aim ≡ Some g) (p : PointInfo) (proof trigger : Bool) where
-  pub target-false : is_target_with (anchor_link g p) h.id ≡ false → all_targets p proof trigger (indirects (listed (drop at s))) ≡ false
-  target-false t = targets_next s at h f g e p proof trigger ∙ first-false (is_target_with (anchor_link g p) h.id) (not (stood_before g proof trigger)) (all_targets p (proof || same_role g Proof) (trigger || same_role g Trigger) (indirects (listed (drop (at + h.size) s)))) t
+module _ {l r : List Listed} {h : Head} (f : Front l h r) (g : AnchorStageRole) (e : h.aim ≡ Some g) (p : PointInfo) (proof trigger : Bool) where
+  pub target-false : is_target_with (anchor_link g p) h.id ≡ false → all_targets p proof trigger (indirects l) ≡ false
+  target-false t = targets_next f g e p proof trigger ∙ first-false (is_target_with (anchor_link g p) h.id) (not (stood_before g proof trigger)) (all_targets p (proof || same_role g Proof) (trigger || same_role g Trigger) (indirects r)) t
 
-  pub target-again : stood_before g proof trigger ≡ true → all_targets p proof trigger (indirects (listed (drop at s))) ≡ false
-  target-again t = targets_next s at h f g e p proof trigger ∙ stood (is_target_with (anchor_link g p) h.id) (stood_before g proof trigger) _ t
+  pub target-again : stood_before g proof trigger ≡ true → all_targets p proof trigger (indirects l) ≡ false
+  target-again t = targets_next f g e p proof trigger ∙ stood (is_target_with (anchor_link g p) h.id) (stood_before g proof trigger) _ t
 
   pub target-true : is_target_with (anchor_link g p) h.id ≡ true → stood_before g proof trigger ≡ false →
-      all_targets p proof trigger (indirects (listed (drop at s))) ≡ all_targets p (proof || same_role g Proof) (trigger || same_role g Trigger) (indirects (listed (drop (at + h.size) s)))
-  target-true t n = targets_next s at h f g e p proof trigger ∙ rw (t, n)
+      all_targets p proof trigger (indirects l) ≡ all_targets p (proof || same_role g Proof) (trigger || same_role g Trigger) (indirects r)
+  target-true t n = targets_next f g e p proof trigger ∙ rw (t, n)
 
 -- the roles that stood, once an entry of a role has stood
 pub record Stood (g : AnchorStageRole) (proof trigger stood proof_now trigger_now : Bool) : Type 0 where
@@ -518,110 +530,86 @@ no_listed : indirects [] ≡ []
 unfolding indirects
 no_listed = refl
 
-pub targets-left : (s : List ℕ) (at : ℕ) (p : PointInfo) (proof trigger : Bool) → length s ≤ at → all_targets p proof trigger (indirects (listed (drop at s))) ≡ true
-targets-left s at p proof trigger h =
-    ap (λ (l : List Listed). all_targets p proof trigger (indirects l)) (reads_end s at h)
+pub targets-left : {l : List Listed} (p : PointInfo) (proof trigger : Bool) → l ≡ [] → all_targets p proof trigger (indirects l) ≡ true
+targets-left p proof trigger h =
+    ap (λ (l : List Listed). all_targets p proof trigger (indirects l)) h
     ∙ (ap (all_targets p proof trigger) no_listed ∙ targets-none p proof trigger)
 
 -- where no direct entry is left none stands first
-pub no_direct {ℓ} : {A : Type ℓ} (s : List ℕ) (at : ℕ) (h : Head) → Front (drop at s) h → h.aim ≡ None → directs (listed (drop at s)) ≡ [] → A
-no_direct s at h f e n = let d = directs-next s at h f e in impossible (cc)
+pub no_direct {ℓ} : {A : Type ℓ} {l r : List Listed} {h : Head} → Front l h r → h.aim ≡ None → directs l ≡ [] → A
+no_direct f e n = let d = directs-next f e in impossible (cc)
 
 -- ---- the walk in the list's bytes
 
-pub record Going (presence : ℕ) (p : PointInfo) (s : List ℕ) (maps : List MarkedMap) (dropped at : ℕ) : Type 0 where
-  pub reads : Reads s at
-  pub targets : indirects (listed (drop at s)) ≡ indirects (listed s)
-  pub walk : Walking presence p (directs (listed s)) (directs (listed (drop at s))) maps dropped
-  pub small : dropped ≤ at
-  pub once : is_version_twice p (directs (listed (drop at s))) ≡ false
+pub record Going (presence : ℕ) (p : PointInfo) (l r : List Listed) (maps : List MarkedMap) (dropped : ℕ) : Type 0 where
+  pub targets : indirects r ≡ indirects l
+  pub walk : Walking presence p (directs l) (directs r) maps dropped
+  pub once : is_version_twice p (directs r) ≡ false
 
-pub going_start : (presence : ℕ) (p : PointInfo) (s : List ℕ) (maps : List MarkedMap) → MapsMarked p [] maps → length maps ≡ maps_in presence →
-    is_some (read_list s) ≡ true → is_version_twice p (directs (listed s)) ≡ false → Going presence p s maps 0 0
-going_start presence p s maps w n r o = record {
-  reads = reads-start s r;
-  targets = refl;
-  walk = walk_start presence p (directs (listed s)) maps w n;
-  small = omega arith;
-  once = o;
-}
+module _ {presence : ℕ} {p : PointInfo} {all l r : List Listed} {maps : List MarkedMap} {dropped : ℕ} (g : Going presence p all l maps dropped)
+    {h : Head} (f : Front l h r) (a : h.aim ≡ None) where
+  once-next : is_version_twice p (f.first.entry ∷ directs r) ≡ false
+  once-next = ap (is_version_twice p) (sym (directs-next f a)) ∙ g.once
 
--- the walk has ended: nothing direct is left
-ended_with : {presence : ℕ} {p : PointInfo} {s : List ℕ} {maps : List MarkedMap} {dropped at : ℕ} → Going presence p s maps dropped at →
-    directs (listed (drop at s)) ≡ [] → AllPlaced presence p s maps dropped at
-ended_with {presence} {p} {s} {maps} {dropped} g e =
-    let w : Walking presence p (directs (listed s)) [] maps dropped = rw e at g.walk in
-    record {
-      placed = walk-end-placed w;
-      count = walk-end-count w;
-      marks = walk-end-marks w;
-      within = g.reads.within;
-      left = g.reads.left;
-      after = e;
-      targets = g.targets;
-    }
+  pub going_dropped : h.id ≡ None → Going presence p all r maps (dropped + 1)
+  going_dropped d = record {
+    targets = sym (indirects-same f a) ∙ g.targets;
+    walk = walk-dropped g.walk (directs-next f a) (front_dropped f d);
+    once = once_tail p _ _ once-next;
+  }
 
-module _ {presence : ℕ} {p : PointInfo} {s : List ℕ} {maps : List MarkedMap} {dropped at : ℕ} (g : Going presence p s maps dropped at) where
-  pub going_end : length s ≤ at → AllPlaced presence p s maps dropped at
-  going_end e = ended_with g (ap directs (reads_end s at e) ∙ no_entries)
+  module _ (i : PointId) (e : h.id ≡ Some i) where
+    own : (is_dropped f.first.entry.state ≡ false) × (i ≡ entry_id f.first.entry.state)
+    own = front_kept f i e
 
-  module _ {h : Head} (f : Front (drop at s) h) where
-    pub going_target : is_some h.aim ≡ true → AllPlaced presence p s maps dropped at
-    going_target e = ended_with g (directs-last s at h f e).0
+    pub going_twice : has_id g.walk.before i ≡ true → all_placed presence p [] (directs all) ≡ false
+    going_twice = walk-twice g.walk (directs-next f a) own.0 own.1
 
-    module _ (a : h.aim ≡ None) where
-      once-next : is_version_twice p (f.first.entry ∷ directs (listed (drop (at + h.size) s))) ≡ false
-      once-next = ap (is_version_twice p) (sym (directs-next s at h f a)) ∙ g.once
+    module _ {found : Bool} (marks : List MarkedMap) (k : IdMarked p g.walk.before i marks (Some found)) (n : length marks ≡ maps_in presence) where
+      -- no version stands again, so that each is a new one
+      new-version : is_version p i ≡ is_new_version p (directs r) i
+      new-version = version-once p f.first.entry _ i own.0 own.1 once-next
 
-      pub going_dropped : h.id ≡ None → Going presence p s maps (dropped + 1) (at + h.size)
-      going_dropped d = record {
-        reads = reads-next s at h f g.reads;
-        targets = sym (indirects-same s at h f a) ∙ g.targets;
-        walk = walk-dropped g.walk (directs-next s at h f a) (front_dropped f d);
-        small = omega (arith, g.small, f.least);
+      pub going_fails : (found || is_version p i) ≡ false → all_placed presence p [] (directs all) ≡ false
+      going_fails t = walk_fails g.walk (directs-next f a) own.0 own.1 marks k n (ap (λ (b : Bool). found || b) (sym new-version) ∙ t)
+
+      pub going_placed : (found || is_version p i) ≡ true → Going presence p all r marks dropped
+      going_placed t = record {
+        targets = sym (indirects-same f a) ∙ g.targets;
+        walk = walk-placed g.walk (directs-next f a) own.0 own.1 marks k n (ap (λ (b : Bool). found || b) (sym new-version) ∙ t);
         once = once_tail p _ _ once-next;
       }
 
-      module _ (i : PointId) (e : h.id ≡ Some i) (w : Walking presence p (directs (listed s)) (directs (listed (drop at s))) maps dropped) where
-        own : (is_dropped f.first.entry.state ≡ false) × (i ≡ entry_id f.first.entry.state)
-        own = front_kept f i e
-
-        pub going_marking : Marking p i w.before 0 false maps
-        going_marking = walk_marking w (directs-next s at h f a) own.0 own.1
-
-        pub going_twice : has_id w.before i ≡ true → all_placed presence p [] (directs (listed s)) ≡ false
-        going_twice = walk-twice w (directs-next s at h f a) own.0 own.1
-
-        module _ {marks : List MarkedMap} {found : Bool} (k : Marking p i w.before (maps_in presence) found marks) where
-          -- no version stands again, so that each is a new one
-          new-version : is_version p i ≡ is_new_version p (directs (listed (drop (at + h.size) s))) i
-          new-version = version-once p f.first.entry _ i own.0 own.1 once-next
-
-          pub going_fails : (found || is_version p i) ≡ false → all_placed presence p [] (directs (listed s)) ≡ false
-          going_fails t = walk_fails w (directs-next s at h f a) own.0 own.1 k (ap (λ (b : Bool). found || b) (sym new-version) ∙ t)
-
-          pub going_placed : length marks ≡ maps_in presence → (found || is_version p i) ≡ true → Going presence p s marks dropped (at + h.size)
-          going_placed n t = record {
-            reads = reads-next s at h f g.reads;
-            targets = sym (indirects-same s at h f a) ∙ g.targets;
-            walk = walk-placed w (directs-next s at h f a) own.0 own.1 k n (ap (λ (b : Bool). found || b) (sym new-version) ∙ t);
-            small = omega (arith, g.small);
-            once = once_tail p _ _ once-next;
-          }
-
 -- the walk so far, however many maps there are
-pub record Gone (p : PointInfo) (s : List ℕ) (first maps : List MarkedMap) (dropped at : ℕ) : Type 0 where
-  pub reads : Reads s at
-  pub small : dropped ≤ at
-  pub going : (presence : ℕ) → length first ≡ maps_in presence → Going presence p s maps dropped at
+pub record Gone (p : PointInfo) (s : List ℕ) (first maps : List MarkedMap) (dropped : ℕ) (e : Entries) : Type 0 where
+  pub whole : e.list.now ≡ s
+  pub small : dropped ≤ e.at
+  pub going : (presence : ℕ) → length first ≡ maps_in presence → Going presence p (listed s) (left_of e) maps dropped
 
-pub gone_start : (p : PointInfo) (s : List ℕ) (maps : List MarkedMap) → MapsMarked p [] maps → is_some (read_list s) ≡ true →
-    is_version_twice p (directs (listed s)) ≡ false → Gone p s maps maps 0 0
-gone_start p s maps w r o = record {
-  reads = reads-start s r;
+pub gone_start : (p : PointInfo) (s : List ℕ) (maps : List MarkedMap) (e : Entries) → e.list.now ≡ s → e.at ≡ 0 → MapsMarked p [] maps →
+    is_version_twice p (directs (listed s)) ≡ false → Gone p s maps maps 0 e
+gone_start p s maps e w z m o = record {
+  whole = w;
   small = omega arith;
-  going = λ presence n. going_start presence p s maps w n r o;
+  going = λ presence n. rw (w, z) (record { targets = refl; walk = walk_start presence p (directs (listed s)) maps m n; once = o });
 }
+
+-- the walk has ended: nothing direct is left
+pub gone_end : {p : PointInfo} {s : List ℕ} {first maps : List MarkedMap} {dropped : ℕ} {e : Entries} → Gone p s first maps dropped e →
+    (presence : ℕ) → length first ≡ maps_in presence → directs (left_of e) ≡ [] → AllPlaced presence p s maps dropped e.at
+gone_end {p} {s} {first} {maps} {dropped} {e} g presence n d =
+    let going = g.going presence n in
+    let w : Walking presence p (directs (listed s)) [] maps dropped = rw d at going.walk in
+    record {
+      placed = walk-end-placed w;
+      count = walk-end-count w;
+      many = w.many;
+      marks = walk-end-marks w;
+      within = rw (← g.whole) e.within;
+      left = rw (← g.whole) e.reads;
+      after = rw (← g.whole) d;
+      targets = ap (λ (t : List ℕ). indirects (listed (drop e.at t))) (sym g.whole) ∙ going.targets;
+    }
 
 -- ---- number 8
 
@@ -666,7 +654,7 @@ module _ (presence : ℕ) (p : PointInfo) (s : List ℕ) (l : List Listed) (e : 
   unfolding is_version_twice
   mismatch-twice h = mismatch_failed (own-twice (directs (listed s)) presence p [] (and_right (not (is_some (prev_digest p))) _ h))
 
-  module _ {maps : List MarkedMap} {dropped end : ℕ} (f : Maps p) (n : length maps ≡ maps_in presence) (w : AllPlaced presence p s maps dropped end) where
+  module _ {maps : List MarkedMap} {dropped end : ℕ} (f : Maps p) (w : AllPlaced presence p s maps dropped end) where
     -- past the walk
     past : mismatch presence p (directs (listed s)) (indirects (listed s)) ≡
         (ltb dropped (zeros maps) || (not (all_targets p false false (indirects (listed (drop end s)))) || (not (eqb presence 3) && ltb end (length s))))
@@ -676,7 +664,7 @@ module _ (presence : ℕ) (p : PointInfo) (s : List ℕ) (l : List Listed) (e : 
         (not (all_targets p false false (indirects (listed s))) || (not (eqb presence 3) && not (is_empty (indirects (listed s))))) w.placed
         ∙ rw (
           ← w.count,
-          ← zeros-lack presence p (ids_of (directs (listed s))) maps f w.marks n,
+          ← zeros-lack presence p (ids_of (directs (listed s))) maps f w.marks w.many,
           ← w.targets,
           none-left-at s end w.left w.after,
         ))

@@ -1,21 +1,20 @@
 -- Laws of the versions of the author's point at the round before: their ids, which of them stand twice, and an index of a block of them.
-use Rattle.std.specs.Prelude.{Option, None, Some, is_some}
+use Rattle.std.specs.Prelude.{Option, None, Some, is_some, option_map}
 use Rattle.std.specs.Bool.{then_some}
 use Prim.Native.Nat.{ℕ, zero, suc, ◌+◌, ◌-◌, ◌≤◌, ◌<◌}
 use native.Mathlib.Omega.{arith}
-use native.Mathlib.Decide.{dec_lt, ℕ_discrete}
+use native.Mathlib.Decide.{dec_lt}
 use mathlib.Core.Path.{◌≡◌, refl, ap, sym, ◌∙◌}
 use mathlib.Core.Logic.{◌⊎◌, inl, inr, ⊎_elim}
 use mathlib.Core.Bool.{Bool, true, false, not, ◌&&◌, ◌||◌}
 use mathlib.Core.List.{List, [], ◌∷◌, ◌++◌, append_assoc}
-use lib.ListN.{length, get_or, take, drop, length-append, length-drop, get_or-append}
-use lib.Seq.{get_or-append_seam, drop-drop}
+use lib.ListN.{length, get_or, drop, length-append, length-drop, get_or-append}
+use lib.Seq.{get_or-append_seam}
 use lib.Dec.{eqb}
 use borrow.Author.Tests.{eqb-false, not-true}
 use Rattle.base.specs.Base.{pick}
 use Rattle.base.proofs.Bool.{clash, never, and_left, and_right, or_left, or_right, or_first, or_second, or_none, or_rest}
-use Rattle.base.proofs.Option.{some_of, unfound}
-use Rattle.base.proofs.Lists.{rest}
+use Rattle.base.proofs.Option.{some_of, unfound, some-none, none-some}
 use Rattle.point.specs.Point.{PointId, PointInfo, no_point, prev_digest, same_id}
 use Rattle.point.specs.Reading.{point_id_at}
 use Rattle.point.specs.declared.data.AnchorStageRole.{AnchorStageRole}
@@ -24,12 +23,15 @@ use Rattle.id_index.specs.Code.{count_of, field_id, id_in, Added, IsEmpty, Noted
 use Rattle.id_index.specs.declared.Index.{Index}
 use Rattle.id_index.proofs.Laws.{added-old, added-noted, none-noted}
 use Rattle.rules.specs.DagPoint.{Entry, entry_id, is_dropped, is_by}
-use Rattle.rules.specs.List.{read_entry, read_list, directs}
+use Rattle.rules.specs.List.{Listed, read_entry, directs}
 use Rattle.rules.specs.Mismatch.{has_id, ids_of, is_version}
-use Rattle.judge_mismatch.specs.Code.{Head, head_of, head_from, flags_at, id_place, id_after, id_of, is_own_id, is_own, own_ids, own_in, is_twice_in, any_in, is_version_twice, is_new_version}
-use Rattle.judge_mismatch.specs.Code.{field_at, IsPlace, VersionAt, HasRoom, HasIds, NotedTo, Meets, BlockEnds, BlockRead}
-use Rattle.judge_mismatch.specs.declared.versions.Version as code-version
-use Rattle.judge_mismatch.proofs.Heads.{Front, front_kept, front_dropped, Reads, head-is, reads-start, reads-front, reads-next, reads_end, directs-next, directs-last}
+use Rattle.judge_mismatch.specs.Code.{Head, head_of, head_from, flags_at, id_place, id_after, id_of, is_own_id, is_own, own_id, code_head_of, listed, own_ids, own_in, is_twice_in, any_in, is_version_twice, is_new_version}
+use Rattle.judge_mismatch.specs.Code.{field_at, HasIds, NotedTo, Meets, BlockRead}
+use Rattle.judge_mismatch.specs.declared.head.Head as code-head
+use Rattle.judge_mismatch.specs.Entries.{left_of, Front, EntryGiven}
+use Rattle.judge_mismatch.specs.declared.entries.Entries.{Entries}
+use Rattle.judge_mismatch.specs.declared.entries.ReadableList.{ReadableList}
+use Rattle.judge_mismatch.proofs.Heads.{front_kept, front_dropped, head-is, reads_end, directs-next, directs-last}
 
 -- ---- ids in two parts
 
@@ -178,18 +180,18 @@ pub twice-next : (i : PointId) (l : List PointId) → is_twice_in (i ∷ l) ≡ 
 unfolding is_twice_in
 twice-next i l = refl
 
-module _ (own : PointId) (s : List ℕ) (at : ℕ) (h : Head) (f : Front (drop at s) h) where
+module _ (own : PointId) {l r : List Listed} {h : Head} (f : Front l h r) where
   -- an entry that is a version stands first, any other is passed over
-  pub own-next : (i : PointId) → h.id ≡ Some i → is_own own h ≡ true → own_in own (drop at s) ≡ i ∷ own_in own (drop (at + h.size) s)
+  pub own-next : (i : PointId) → h.id ≡ Some i → is_own own h ≡ true → own_ids own (directs l) ≡ i ∷ own_ids own (directs r)
   unfolding is_own
   own-next i e o =
       let k = front_kept f i e in
       let direct = unfound h.aim (not-true (is_some h.aim) (and_left (not (is_some h.aim)) _ o)) in
       let by_own : is_by (own.round - 1) own.author i ≡ true = rw e at (and_right (not (is_some h.aim)) _ o) in
-      ap (own_ids own) (directs-next s at h f direct) ∙ (own-here own f.first.entry _ k.0 (ap (is_by (own.round - 1) own.author) (sym k.1) ∙ by_own)
-      ∙ ap (λ (j : PointId). j ∷ own_in own (drop (at + h.size) s)) (sym k.1))
+      ap (own_ids own) (directs-next f direct) ∙ (own-here own f.first.entry _ k.0 (ap (is_by (own.round - 1) own.author) (sym k.1) ∙ by_own)
+      ∙ ap (λ (j : PointId). j ∷ own_ids own (directs r)) (sym k.1))
 
-  pub other-next : is_own own h ≡ false → own_in own (drop at s) ≡ own_in own (drop (at + h.size) s)
+  pub other-next : is_own own h ≡ false → own_ids own (directs l) ≡ own_ids own (directs r)
   unfolding is_own
   other-next o = by_aim h.aim refl
     where
@@ -197,9 +199,9 @@ module _ (own : PointId) (s : List ℕ) (at : ℕ) (h : Head) (f : Front (drop a
       by_id None e a = rw (front_dropped f e)
       by_id (Some i) e a = let k = front_kept f i e in rw (k.0, ← k.1) (rw (a, e) at o)
 
-      by_aim : (g : Option AnchorStageRole) → h.aim ≡ g → own_in own (drop at s) ≡ own_in own (drop (at + h.size) s)
-      by_aim None a = ap (own_ids own) (directs-next s at h f a) ∙ own-passed own f.first.entry _ (by_id h.id refl a)
-      by_aim (Some g) a = let d = directs-last s at h f (ap is_some a) in ap (own_ids own) (d.0 ∙ sym d.1)
+      by_aim : (g : Option AnchorStageRole) → h.aim ≡ g → own_ids own (directs l) ≡ own_ids own (directs r)
+      by_aim None a = ap (own_ids own) (directs-next f a) ∙ own-passed own f.first.entry _ (by_id h.id refl a)
+      by_aim (Some g) a = let d = directs-last f (ap is_some a) in ap (own_ids own) (d.0 ∙ sym d.1)
 
 -- ---- versions that stand once
 
@@ -243,21 +245,6 @@ module _ (p : PointInfo) (e : Entry) (es : List Entry) where
 
 -- ---- an entry of the code
 
-field-near : (s : List ℕ) → field_at s ≤ 83
-field-near s = go (eqb (get_or s 0 0) 19) (λ f. eqb (get_or s (f + 3) 0) 1)
-  where
-    go : (b : Bool) (g : ℕ → Bool) → pick (g (pick b 4 0)) (pick b 4 0 + 79) (pick b 4 0 + 7) ≤ 83
-    go true g = by (g 4)
-      where
-        by : (c : Bool) → pick c 83 11 ≤ 83
-        by true = omega arith
-        by false = omega arith
-    go false g = by (g 0)
-      where
-        by : (c : Bool) → pick c 79 7 ≤ 83
-        by true = omega arith
-        by false = omega arith
-
 after_dropped : (s : List ℕ) (state at : ℕ) → eqb state 5 ≡ true → id_after state at s ≡ None
 unfolding id_after
 after_dropped s state at g = rw g
@@ -285,108 +272,94 @@ own-field own s h r e o =
     go f true g i = (omega arith, ap Some (ap (point_id_at s) (omega arith)) ∙ sym i)
     go f false g i = (omega arith, ap Some (ap (point_id_at s) (omega arith)) ∙ sym i)
 
-pub version-is : (own : PointId) (s : List ℕ) (h : Head) (v : code-version.Version) → is_some (read_entry s) ≡ true → Some h ≡ head_from (read_entry s) →
-    v.size ≡ h.size → v.place ≡ then_some (is_own own h) (field_at s) → VersionAt own s v
-version-is own s h v r e size place = (h, e, size, rw place (by (is_own own h) refl))
-  where
-    by : (b : Bool) → b ≡ is_own own h → IsPlace own s h (then_some b (field_at s))
-    by true t = let f = own-field own s h r e (sym t) in (sym t, field-near s, f.0, f.1)
-    by false t = sym t
+-- an entry that is given, which has its id if it is a version
+module _ (own : PointId) (h : Head) where
+  owned : (i : PointId) → own_id own h ≡ Some i → (is_own own h ≡ true) × (h.id ≡ Some i)
+  owned i e = by (is_own own h) refl e
+    where
+      by : (b : Bool) → is_own own h ≡ b → pick b h.id None ≡ Some i → (is_own own h ≡ true) × (h.id ≡ Some i)
+      by true t e = (t, e)
+      by false t e = none-some e
 
--- the entry at a place of a list that reads
-pub record Met (own : PointId) (s : List ℕ) (at : ℕ) (v : code-version.Version) : Type 0 where
-  pub next : Reads s (at + v.size)
-  pub least : 7 ≤ v.size
-  pub own_first : (place : ℕ) → v.place ≡ Some place →
-      (place ≤ 83) × (at + place + 71 ≤ length s) × (own_in own (drop at s) ≡ point_id_at s (at + place + 3) ∷ own_in own (drop (at + v.size) s))
-  pub passed : v.place ≡ None → own_in own (drop at s) ≡ own_in own (drop (at + v.size) s)
+  not_owned : own_id own h ≡ None → is_own own h ≡ false
+  unfolding is_own
+  not_owned e = never (is_own own h) (λ t. clash (is_own_id own h.id) (and_right (not (is_some h.aim)) _ t) (ap (is_own_id own) (sym (ap (λ (b : Bool). pick b h.id None) t) ∙ e)))
 
-pub met : (own : PointId) (s : List ℕ) (at : ℕ) (v : code-version.Version) → Reads s at → at < length s →
-    VersionAt own (take (length s - at) (drop at s)) v → Met own s at v
-met own s at v r g a =
-    let h = a.0 in
-    let f = reads-front s at r g h a.1 in
-    let size : v.size ≡ h.size = a.2 in
-    let i : IsPlace own (drop at s) h v.place = rw (← rest at s) a.3 in
-    record {
-      next = rw size (reads-next s at h f r);
-      least = rw size f.least;
-      own_first = λ place e. let p : IsPlace own (drop at s) h (Some place) = rw e at i in (
-        p.1,
-        omega (arith, p.2, length-drop at s),
-        rw size (own-next own s at h f (point_id_at (drop at s) (place + 3)) (sym p.3) p.0 ∙ ap (λ (z : PointId). z ∷ own_in own (drop (at + h.size) s)) (id_shift at (place + 3) s ∙ ap (point_id_at s) (omega arith))),
-      );
-      passed = λ e. let p : IsPlace own (drop at s) h None = rw e at i in rw size (other-next own s at h f p);
-    }
+module _ {old new : Entries} {at : ℕ} {h : code-head.Head} (g : EntryGiven old at h new) where
+  pub given-reads : is_some (read_entry (drop at old.list.now)) ≡ true
+  given-reads = by (read_entry (drop at old.list.now)) refl
+    where
+      by : (o : Option Listed) → o ≡ read_entry (drop at old.list.now) → is_some o ≡ true
+      by None t = some-none (g.read ∙ ap head_from (sym t))
+      by (Some x) t = refl
+
+  module _ (own : PointId) where
+    pub other_given : own_id own (code_head_of h) ≡ None → own_ids own (directs (left_of old)) ≡ own_ids own (directs (left_of new))
+    other_given e = other-next own g.front (not_owned own (code_head_of h) e)
+
+    module _ (i : PointId) (e : own_id own (code_head_of h) ≡ Some i) where
+      pub own_given : own_ids own (directs (left_of old)) ≡ i ∷ own_ids own (directs (left_of new))
+      own_given = let o = owned own (code_head_of h) i e in own-next own g.front i o.1 o.0
+
+      field : (field_at (drop at old.list.now) + 71 ≤ length (drop at old.list.now)) × (Some (point_id_at (drop at old.list.now) (field_at (drop at old.list.now) + 3)) ≡ Some i)
+      field =
+          let o = owned own (code_head_of h) i e in
+          let f = own-field own (drop at old.list.now) (code_head_of h) given-reads g.read o.0 in
+          (f.0, f.1 ∙ o.1)
+
+      -- where the field of its id stands
+      pub field-within : at + field_at (drop at old.list.now) + 71 ≤ length old.list.now
+      field-within = omega (arith, field.0, length-drop at old.list.now)
+
+      pub field-is : field_id old.list.now (at + field_at (drop at old.list.now)) ≡ i
+      field-is =
+          let there : point_id_at (drop at old.list.now) (field_at (drop at old.list.now) + 3) ≡ i = let f = field.1 in cc in
+          ap (point_id_at old.list.now) (omega arith) ∙ (sym (id_shift at (field_at (drop at old.list.now) + 3) old.list.now) ∙ there)
 
 -- ---- a block is noted
 
-pub record Noting (own : PointId) (s : List ℕ) (x : Index) (at : ℕ) : Type 0 where
+pub record Noting (own : PointId) (s : List ℕ) (x : Index) (e : Entries) : Type 0 where
   pub block : List PointId
   pub has : HasIds s x block
   pub noted : Noted s x
-  pub reads : Reads s at
-  pub left : own_in own s ≡ block ++ own_in own (drop at s)
-  pub begun : at ≡ 0 → count_of x ≡ 0
+  pub whole : e.list.now ≡ s
+  pub left : own_in own s ≡ block ++ own_ids own (directs (left_of e))
+  pub begun : e.at ≡ 0 → count_of x ≡ 0
 
-pub noting_start : (own : PointId) (s : List ℕ) (x : Index) → IsEmpty x → is_some (read_list s) ≡ true → Noting own s x 0
-noting_start own s x e r = record {
+pub noting_start : (own : PointId) (s : List ℕ) (x : Index) (e : Entries) → IsEmpty x → e.list.now ≡ s → left_of e ≡ listed s → Noting own s x e
+noting_start own s x e n w l = record {
   block = [];
-  has = ids-start s x e;
-  noted = none-noted s e;
-  reads = reads-start s r;
-  left = refl;
-  begun = λ z. e.none;
+  has = ids-start s x n;
+  noted = none-noted s n;
+  whole = w;
+  left = ap (λ (k : List Listed). own_ids own (directs k)) (sym l);
+  begun = λ z. n.none;
 }
 
-module _ {own : PointId} {s : List ℕ} {x : Index} {at : ℕ} (n : Noting own s x at) where
-  pub noting_full : HasRoom (count_of x) at false → NotedTo own s x at
-  noting_full h = record {
+module _ {own : PointId} {s : List ℕ} {x : Index} {e : Entries} (n : Noting own s x e)
+    {new : Entries} {at : ℕ} {h : code-head.Head} (g : EntryGiven e at h new) where
+  pub noting_own : {y : Index} (i : PointId) → own_id own (code_head_of h) ≡ Some i → Added x (at + field_at (drop at s)) y → Noting own s y new
+  noting_own i o a =
+      let within : at + field_at (drop at s) + 71 ≤ length s = rw (← n.whole) (field-within g own i o) in
+      let is : field_id s (at + field_at (drop at s)) ≡ i = rw (← n.whole) (field-is g own i o) in
+      record {
+        block = n.block ++ (i ∷ []);
+        has = ids-added n.has (at + field_at (drop at s)) i a is;
+        noted = added-noted a within n.noted;
+        whole = g.list ∙ n.whole;
+        left = n.left ∙ (ap (λ (l : List PointId). n.block ++ l) (own_given g own i o) ∙ sym (append_assoc n.block (i ∷ []) (own_ids own (directs (left_of new)))));
+        begun = λ z. absurd (omega (arith, g.next, g.least));
+      }
+
+  pub noting_other : own_id own (code_head_of h) ≡ None → Noting own s x new
+  noting_other o = record {
     block = n.block;
     has = n.has;
     noted = n.noted;
-    left = n.left;
-    within = n.reads.within;
-    reads = n.reads.left;
-    more = λ g. elim (ℕ_discrete at 0) [
-      | yes z ↦ absurd (h (omega (arith, n.begun z)) (omega arith))
-      | no z ↦ omega arith
-    ];
+    whole = g.list ∙ n.whole;
+    left = n.left ∙ ap (λ (l : List PointId). n.block ++ l) (other_given g own o);
+    begun = λ z. absurd (omega (arith, g.next, g.least));
   }
-
-  pub noting_end : length s ≤ at → NotedTo own s x at
-  noting_end h = record {
-    block = n.block;
-    has = n.has;
-    noted = n.noted;
-    left = n.left;
-    within = n.reads.within;
-    reads = n.reads.left;
-    more = λ g. omega arith;
-  }
-
-  module _ (v : code-version.Version) (m : Met own s at v) where
-    pub noting_own : {y : Index} (place : ℕ) → v.place ≡ Some place → Added x (at + place) y → Noting own s y (at + v.size)
-    noting_own place t g =
-        let i = point_id_at s (at + place + 3) in
-        record {
-          block = n.block ++ (i ∷ []);
-          has = ids-added n.has (at + place) i g refl;
-          noted = added-noted g (m.own_first place t).1 n.noted;
-          reads = m.next;
-          left = n.left ∙ (ap (λ (l : List PointId). n.block ++ l) (m.own_first place t).2 ∙ sym (append_assoc n.block (i ∷ []) (own_in own (drop (at + v.size) s))));
-          begun = λ z. absurd (omega (arith, m.least));
-        }
-
-    pub noting_other : v.place ≡ None → Noting own s x (at + v.size)
-    noting_other t = record {
-      block = n.block;
-      has = n.has;
-      noted = n.noted;
-      reads = m.next;
-      left = n.left ∙ ap (λ (l : List PointId). n.block ++ l) (m.passed t);
-      begun = λ z. absurd (omega (arith, m.least));
-    }
 
 -- ---- a block is tested
 
@@ -394,41 +367,30 @@ any_here : (a : List PointId) (i : PointId) (l : List PointId) → any_in a (i �
 unfolding any_in
 any_here a i l = refl
 
-any-end : (a : List PointId) (own : PointId) (s : List ℕ) (at : ℕ) → length s ≤ at → any_in a (own_in own (drop at s)) ≡ false
+any-end : (a : List PointId) (own : PointId) {l : List Listed} → l ≡ [] → any_in a (own_ids own (directs l)) ≡ false
 unfolding any_in own_ids directs
-any-end a own s at h = rw (reads_end s at h)
+any-end a own h = rw h
 
-pub found-is : (s : List ℕ) (x : Index) (i k : PointId) (p : Option ℕ) (j : ℕ) → p ≡ Some j → i ≡ k → FoundAt s x i p → IsAt s x (count_of x) k j
-found-is s x i k p j e g f = rw (e, g) at f
+-- what is left of the entries meets the index exactly if all of them do
+pub record Meeting (own : PointId) (s left : List ℕ) (x : Index) (e : Entries) : Type 0 where
+  pub same : (block : List PointId) → HasIds s x block → any_in block (own_ids own (directs (left_of e))) ≡ any_in block (own_in own left)
 
-pub absent-is : (s : List ℕ) (x : Index) (i k : PointId) (p : Option ℕ) → p ≡ None → i ≡ k → FoundAt s x i p → NoneIs s x (count_of x) k
-absent-is s x i k p e g f = rw (e, g) at f
+module _ {own : PointId} {s left : List ℕ} {x : Index} {e : Entries} (n : Meeting own s left x e) where
+  pub meeting_end : left_of e ≡ [] → Meets own s left x false
+  meeting_end h block b = sym (sym (n.same block b) ∙ any-end block own h)
 
--- what is left of the list meets the index exactly if the whole of it does
-pub record Meeting (own : PointId) (s : List ℕ) (from : ℕ) (x : Index) (at : ℕ) : Type 0 where
-  pub reads : Reads s at
-  pub left : (block : List PointId) → HasIds s x block → any_in block (own_in own (drop at s)) ≡ any_in block (own_in own (drop from s))
+  module _ {new : Entries} {at : ℕ} {h : code-head.Head} (g : EntryGiven e at h new) where
+    pub meeting_other : own_id own (code_head_of h) ≡ None → Meeting own s left x new
+    meeting_other o = record { same = λ block b. ap (any_in block) (sym (other_given g own o)) ∙ n.same block b }
 
-pub meeting_start : (own : PointId) (s : List ℕ) (x : Index) (from : ℕ) → from ≤ length s → is_some (read_list (drop from s)) ≡ true → Meeting own s from x from
-meeting_start own s x from w r = record { reads = record { within = w; left = r }; left = λ block b. refl }
+    module _ (i : PointId) (o : own_id own (code_head_of h) ≡ Some i) where
+      pub meeting_found : (j : ℕ) → FoundAt s x i (Some j) → Meets own s left x true
+      meeting_found j a block b =
+          sym (sym (n.same block b) ∙ (ap (any_in block) (own_given g own i o) ∙ (any_here block i _ ∙ or_first _ _ (ids-found b i j a))))
 
-module _ {own : PointId} {s : List ℕ} {x : Index} {from at : ℕ} (n : Meeting own s from x at) where
-  pub meeting_end : length s ≤ at → Meets own s from x false
-  meeting_end h block b = sym (sym (n.left block b) ∙ any-end block own s at h)
-
-  module _ (v : code-version.Version) (m : Met own s at v) where
-    pub meeting_found : (place : ℕ) → v.place ≡ Some place → (j : ℕ) → IsAt s x (count_of x) (point_id_at s (at + place + 3)) j → Meets own s from x true
-    meeting_found place t j a block b =
-        let i = point_id_at s (at + place + 3) in
-        sym (sym (n.left block b) ∙ (ap (any_in block) (m.own_first place t).2 ∙ (any_here block i _ ∙ or_first _ _ (ids-found b i j a))))
-
-    pub meeting_absent : (place : ℕ) → v.place ≡ Some place → NoneIs s x (count_of x) (point_id_at s (at + place + 3)) → Meeting own s from x (at + v.size)
-    meeting_absent place t a =
-        let i = point_id_at s (at + place + 3) in
-        record { reads = m.next; left = λ block b. sym (ap (any_in block) (m.own_first place t).2 ∙ (any_here block i _ ∙ or_rest _ _ (ids-absent b i a))) ∙ n.left block b }
-
-    pub meeting_other : v.place ≡ None → Meeting own s from x (at + v.size)
-    meeting_other t = record { reads = m.next; left = λ block b. ap (any_in block) (sym (m.passed t)) ∙ n.left block b }
+      pub meeting_absent : FoundAt s x i None → Meeting own s left x new
+      meeting_absent a =
+          record { same = λ block b. sym (ap (any_in block) (own_given g own i o) ∙ (any_here block i _ ∙ or_rest _ _ (ids-absent b i a))) ∙ n.same block b }
 
 module _ {own : PointId} {s : List ℕ} {y : Index} {end : ℕ} (n : NotedTo own s y end) where
   all-twice : is_twice_in (own_in own s) ≡ (is_twice_in n.block || (any_in n.block (own_in own (drop end s)) || is_twice_in (own_in own (drop end s))))
@@ -437,56 +399,22 @@ module _ {own : PointId} {s : List ℕ} {y : Index} {end : ℕ} (n : NotedTo own
   pub block-twice : (x : Index) → Built s y x false → BlockRead own s None
   block-twice x h = all-twice ∙ or_first _ _ (ids-twice (ids-built n.has h) h.index)
 
-  pub block-met : (x : Index) (b : Bool) → Built s y x true → Meets own s end x b → BlockRead own s (then_some (not b) end)
-  block-met x b h m = by b (m n.block has)
+  pub block-met : (x : Index) (b : Bool) (left : ReadableList) → left.bytes.now ≡ drop end s → Built s y x true → Meets own s left.bytes.now x b →
+      BlockRead own s (option_map (λ l. l.bytes.now) (then_some (not b) left))
+  block-met x b left d h m = by b (m n.block has)
     where
       has : HasIds s x n.block
       has = ids-built n.has h
 
-      left : is_twice_in (own_in own s) ≡ (any_in n.block (own_in own (drop end s)) || is_twice_in (own_in own (drop end s)))
-      left = all-twice ∙ or_rest _ _ (ids-once has h.index.1)
+      after : is_twice_in (own_in own s) ≡ (any_in n.block (own_in own left.bytes.now) || is_twice_in (own_in own left.bytes.now))
+      after = rw d (all-twice ∙ or_rest _ _ (ids-once has h.index.1))
 
-      by : (b : Bool) → b ≡ any_in n.block (own_in own (drop end s)) → BlockRead own s (then_some (not b) end)
-      by true e = left ∙ or_first _ _ (sym e)
-      by false e = record { within = n.within; more = n.more; reads = n.reads; left = sym (left ∙ or_rest _ _ (sym e)) }
+      by : (b : Bool) → b ≡ any_in n.block (own_in own left.bytes.now) → BlockRead own s (option_map (λ l. l.bytes.now) (then_some (not b) left))
+      by true e = after ∙ or_first _ _ (sym e)
+      by false e = record { end = end; within = n.within; more = n.more; rest = d; same = sym (after ∙ or_rest _ _ (sym e)) }
 
 -- ---- block by block
 
-twice-end : (own : PointId) (s : List ℕ) (at : ℕ) → length s ≤ at → is_twice_in (own_in own (drop at s)) ≡ false
+pub twice-end : (own : PointId) (s : List ℕ) → length s ≡ 0 → is_twice_in (own_in own s) ≡ false
 unfolding is_twice_in own_ids directs
-twice-end own s at h = rw (reads_end s at h)
-
-pub record Blocks (own : PointId) (s : List ℕ) (at : ℕ) : Type 0 where
-  pub reads : Reads s at
-  pub left : is_twice_in (own_in own (drop at s)) ≡ is_twice_in (own_in own s)
-
-pub blocks_start : (own : PointId) (s : List ℕ) → is_some (read_list s) ≡ true → Blocks own s 0
-blocks_start own s r = record { reads = reads-start s r; left = refl }
-
-module _ {own : PointId} {s : List ℕ} {at : ℕ} (n : Blocks own s at) where
-  pub blocks_end : length s ≤ at → false ≡ is_twice_in (own_in own s)
-  blocks_end h = sym (sym n.left ∙ twice-end own s at h)
-
-  pub blocks_twice : (r : Option ℕ) → r ≡ None → BlockRead own (take (length s - at) (drop at s)) r → true ≡ is_twice_in (own_in own s)
-  blocks_twice r e b =
-      let t : is_twice_in (own_in own (drop at s)) ≡ true = rw (e, rest at s) at b in
-      sym t ∙ n.left
-
-  module _ (r : Option ℕ) (end : ℕ) (e : r ≡ Some end) (b : BlockRead own (take (length s - at) (drop at s)) r) where
-    block_here : BlockEnds own (drop at s) end
-    block_here = rw (e, rest at s) at b
-
-    past-block : drop end (drop at s) ≡ drop (at + end) s
-    past-block = drop-drop end at s
-
-    pub blocks_more : at < length s → 0 < end
-    blocks_more g = block_here.more (omega (arith, length-drop at s))
-
-    pub blocks_within : at + end ≤ length s
-    blocks_within = omega (arith, block_here.within, length-drop at s, n.reads.within)
-
-    pub blocks_next : Blocks own s (at + end)
-    blocks_next = record {
-      reads = record { within = blocks_within; left = ap (λ (k : List ℕ). is_some (read_list k)) (sym past-block) ∙ block_here.reads };
-      left = ap (λ (k : List ℕ). is_twice_in (own_in own k)) (sym past-block) ∙ (block_here.left ∙ n.left);
-    }
+twice-end own s h = rw (reads_end s 0 (omega arith))

@@ -1,5 +1,6 @@
 -- What the code's values stand for, and what its functions promise each other.
-use Rattle.std.specs.Prelude.{ℕ, ◌+◌, zero, suc, ◌-◌, ◌≤◌, ◌<◌, Bool, true, false, not, ◌&&◌, ◌||◌, List, [], ◌∷◌, ◌++◌, get_or, take, drop, length, filter, eqb, ◌≡◌, Option, None, Some, is_some, option_map}
+use Rattle.std.specs.Prelude.{ℕ, ◌+◌, zero, suc, ◌-◌, ◌≤◌, ◌<◌, Bool, true, false, not, ◌&&◌, ◌||◌, List, [], ◌∷◌, ◌++◌, get_or, take, drop}
+use Rattle.std.specs.Prelude.{length, filter, eqb, ◌≡◌, Option, None, Some, is_some, option_map}
 use Rattle.base.specs.Base.{pick}
 use Rattle.parts.specs.Limits.{most_kept}
 use Rattle.record.specs.Record.{record_end}
@@ -8,9 +9,8 @@ use Rattle.point.specs.Reading.{point_id_at}
 use Rattle.point.specs.Code.{point_id_of}
 use Rattle.point.specs.declared.data.AnchorStageRole.{AnchorStageRole}
 use Rattle.rules.specs.DagPoint.{DagPoint, entry_id, is_dropped, is_by, Entry}
-use Rattle.rules.specs.List.{Listed, role_of, read_entry, read_list, directs}
+use Rattle.rules.specs.List.{Listed, role_of, read_list, directs}
 use Rattle.judge_mismatch.specs.declared.head.Head as code-head
-use Rattle.judge_mismatch.specs.declared.versions.Version as code-version
 use Rattle.id_index.specs.declared.Index.{Index}
 use Rattle.id_index.specs.Code.{count_of, id_in, Noted}
 use Rattle.map.specs.Rows.{Pair}
@@ -100,6 +100,11 @@ abbrev pub IsRow : ℕ → List Pair → PointId → Option ℕ → Type 0
 IsRow round l i None = is_among round l i ≡ false
 IsRow round l i (Some k) = (k < length l) × (same_id (pair_id round (get_or l k no_pair)) i ≡ true)
 
+-- whether an id is a dependency of the first maps
+unfoldable pub among_to : ℕ → PointInfo → PointId → Bool
+among_to zero p i = false
+among_to (suc m) p i = is_among (round_in p m) (pairs_in p m) i || among_to m p i
+
 -- ---- the versions of the author's point at the round before
 
 -- the id of an entry, if it is of the author at the round before
@@ -110,6 +115,10 @@ is_own_id own (Some i) = is_by (own.round - 1) own.author i
 -- a direct entry that has an id, of the author at the round before
 unfoldable pub is_own : PointId → Head → Bool
 is_own own h = not (is_some h.aim) && is_own_id own h.id
+
+-- its id
+abbrev pub own_id : PointId → Head → Option PointId
+own_id own h = pick (is_own own h) h.id None
 
 -- the ids of these, in order
 unfoldable pub own_ids : PointId → List Entry → List PointId
@@ -145,15 +154,6 @@ is_new_version p es i = is_version p i && not (has_id (ids_of es) i)
 abbrev pub field_at : List ℕ → ℕ
 field_at s = pick (eqb (get_or s (flags_at s + 3) 0) 1) (flags_at s + 79) (flags_at s + 7)
 
--- where the field of an entry's id stands, if it is a version
-abbrev pub IsPlace : PointId → List ℕ → Head → Option ℕ → Type 0
-IsPlace own s h None = is_own own h ≡ false
-IsPlace own s h (Some place) = (is_own own h ≡ true) × (place ≤ 83) × (place + 71 ≤ length s) × (Some (point_id_at s (place + 3)) ≡ h.id)
-
--- an entry: where its id's field stands if it is a version, and its size
-abbrev pub VersionAt : PointId → List ℕ → code-version.Version → Type 0
-VersionAt own s v = (h : Head) × (Some h ≡ head_from (read_entry s)) × (v.size ≡ h.size) × IsPlace own s h v.place
-
 abbrev pub HasRoom : ℕ → ℕ → Bool → Type 0
 HasRoom n at true = (n < most_kept) × (at < 4000000000)
 HasRoom n at false = n < most_kept → at < 4000000000 → ⊥
@@ -173,21 +173,22 @@ pub record NotedTo (own : PointId) (s : List ℕ) (x : Index) (end : ℕ) : Type
   pub reads : is_some (read_list (drop end s)) ≡ true
   pub more : 0 < length s → 0 < end
 
--- whether a version that stands after a place is among the ids of an index
-abbrev pub Meets : PointId → List ℕ → ℕ → Index → Bool → Type 0
-Meets own s from x r = (block : List PointId) → HasIds s x block → r ≡ any_in block (own_in own (drop from s))
+-- whether a version of what is left of a list is among the ids of an index
+abbrev pub Meets : PointId → List ℕ → List ℕ → Index → Bool → Type 0
+Meets own s left x r = (block : List PointId) → HasIds s x block → r ≡ any_in block (own_in own left)
 
 -- a block of versions was tested, among themselves and with all after it: one stands twice, or what stands after the block is left
 -- to test among itself
-pub record BlockEnds (own : PointId) (s : List ℕ) (end : ℕ) : Type 0 where
+pub record BlockEnds (own : PointId) (s left : List ℕ) : Type 0 where
+  pub end : ℕ
   pub within : end ≤ length s
   pub more : 0 < length s → 0 < end
-  pub reads : is_some (read_list (drop end s)) ≡ true
-  pub left : is_twice_in (own_in own (drop end s)) ≡ is_twice_in (own_in own s)
+  pub rest : left ≡ drop end s
+  pub same : is_twice_in (own_in own left) ≡ is_twice_in (own_in own s)
 
-abbrev pub BlockRead : PointId → List ℕ → Option ℕ → Type 0
+abbrev pub BlockRead : PointId → List ℕ → Option (List ℕ) → Type 0
 BlockRead own s None = is_twice_in (own_in own s) ≡ true
-BlockRead own s (Some end) = BlockEnds own s end
+BlockRead own s (Some left) = BlockEnds own s left
 
 -- ---- the marks
 

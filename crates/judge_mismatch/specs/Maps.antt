@@ -1,11 +1,11 @@
 -- What the marked maps of the code stand for, and what the walk over the direct entries finds. They stand apart from Code, on which
 -- the struct MarkedMap rests.
-use Rattle.std.specs.Prelude.{ℕ, ◌≤◌, ◌<◌, true, false, List, [], get_or, drop, length, sum_by, ◌≡◌, Option, None, Some, is_some}
+use Rattle.std.specs.Prelude.{ℕ, ◌≤◌, ◌<◌, Bool, true, false, List, [], ◌∷◌, get_or, drop, length, sum_by, ◌≡◌, Option, None, Some, is_some}
 use Rattle.map.specs.Rows.{Pair, peers_of, pairs_of}
 use Rattle.point.specs.Point.{PointId, PointInfo}
 use Rattle.rules.specs.List.{read_list, directs, indirects}
 use Rattle.rules.specs.Mismatch.{has_id, pair_id, all_placed, ids_of, dropped_in}
-use Rattle.judge_mismatch.specs.Code.{listed, round_in, pairs_in, no_pair, unmarked}
+use Rattle.judge_mismatch.specs.Code.{listed, round_in, pairs_in, maps_in, no_pair, among_to, unmarked}
 use Rattle.judge_mismatch.specs.declared.maps.MarkedMap as code-map
 use Rattle.judge_mismatch.specs.declared.walk.Walked as code-walked
 
@@ -20,6 +20,13 @@ pub record Marked (round : ℕ) (l : List Pair) (ids : List PointId) (x : code-m
 abbrev pub MapsMarked : PointInfo → List PointId → List code-map.MarkedMap → Type 0
 MapsMarked p ids maps = (m : ℕ) (x : code-map.MarkedMap) → m < length maps → Marked (round_in p m) (pairs_in p m) ids (get_or maps m x)
 
+-- an id is looked up in the maps, which other ids marked before: whether a row has it, which is marked then, or nothing where one of
+-- them stood for it
+abbrev pub IdMarked : PointInfo → List PointId → PointId → List code-map.MarkedMap → Option Bool → Type 0
+IdMarked p before i maps None = has_id before i ≡ true
+IdMarked p before i maps (Some found) =
+    (found ≡ among_to (length maps) p i) × (found ≡ true → has_id before i ≡ false) × MapsMarked p (i ∷ before) maps
+
 -- how many rows of the maps are not marked
 abbrev pub lacks : code-map.MarkedMap → ℕ
 lacks x = unmarked (length (peers_of 64 x.rows.now)) x.seen
@@ -31,6 +38,7 @@ zeros maps = sum_by lacks maps
 pub record AllPlaced (presence : ℕ) (p : PointInfo) (s : List ℕ) (maps : List code-map.MarkedMap) (dropped end : ℕ) : Type 0 where
   pub placed : all_placed presence p [] (directs (listed s)) ≡ true
   pub count : dropped ≡ dropped_in (directs (listed s))
+  pub many : length maps ≡ maps_in presence
   pub marks : MapsMarked p (ids_of (directs (listed s))) maps
   pub within : end ≤ length s
   pub left : is_some (read_list (drop end s)) ≡ true

@@ -8,7 +8,7 @@ ghost use Rattle.judge_mismatch.specs.Code.{maps_in, IsRow, unmarked};
 
 use point::{Point, PointId};
 
-// The most rows of a map.
+// The most rows of a map. Each has its mark in fixed memory, since there is no heap.
 const MOST: usize = 255;
 
 // A map of the point: the round of its points, its rows, and which of these an entry stood for.

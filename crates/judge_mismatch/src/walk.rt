@@ -7,7 +7,7 @@ ghost use Rattle.judge_mismatch.specs.Code.{listed, is_version_twice, maps_in};
 ghost use Rattle.judge_mismatch.specs.Maps.{MapsMarked, DirectsFound, zeros};
 ghost use Rattle.rules.specs.Mismatch.{is_version, mismatch};
 
-use crate::head::head_of;
+use crate::entries::ReadableList;
 use crate::maps::MarkedMap;
 use crate::{maps, targets, versions};
 use point::{Point, PointId};
@@ -47,27 +47,25 @@ fn has_place(found: bool, point: &Point, id: PointId) -> bool
 }
 
 // Walks the direct entries, and for each the point's maps, up to the first mismatch. A row that an entry stands for is
-// marked, so that a second entry for it is seen. No version stands twice.
-fn walk(point: &Point, list: &[u8], maps: &mut [MarkedMap]) -> Option<Walked>
-    requires list_value { (is_some (read_list list.now) ≡ true) × (is_version_twice (said point.now) (directs (listed list.now)) ≡ false) }
+// marked, so that a second entry for it is seen. No version stands twice. Document 01 names this form: a loop in a loop, left by a label.
+// So the entries are asked for by `next`, since a `for` gives no value.
+fn walk(point: &Point, list: &ReadableList, maps: &mut [MarkedMap]) -> Option<Walked>
+    requires once { is_version_twice (said point.now) (directs (listed list.now.bytes.now)) ≡ false }
     requires maps_value { MapsMarked (said point.now) [] maps.old }
-    ensures { (presence : ℕ) → length maps.old ≡ maps_in presence → DirectsFound presence (said point.now) list.now maps.new result }
+    ensures { (presence : ℕ) → length maps.old ≡ maps_in presence → DirectsFound presence (said point.now) list.now.bytes.now maps.new result }
 {
     let mut dropped = 0;
-    let mut at = 0;
-    // By hand: where an entry ends says where the next begins. A `while` would give no value.
+    let mut left = list.entries();
     'entries: loop {
-        if list.len() <= at {
-            break 'entries Some(Walked { dropped, end: at });
-        }
-        let head = head_of(&list[at..]);
+        let Some((at, head)) = left.next() else {
+            let end = list.bytes.len();
+            break 'entries Some(Walked { dropped, end });
+        };
         if head.aim.is_some() {
             break 'entries Some(Walked { dropped, end: at });
         }
-        let next = at + head.size;
         let Some(id) = head.id else {
             dropped += 1;
-            at = next;
             continue 'entries;
         };
         let mut found = false;
@@ -84,7 +82,6 @@ fn walk(point: &Point, list: &[u8], maps: &mut [MarkedMap]) -> Option<Walked>
         if !has_place(found, point, id) {
             break 'entries None;
         }
-        at = next;
     }
 }
 
@@ -95,12 +92,13 @@ fn has_absent_targets(presence: u8, list: &[u8], end: usize) -> bool
     presence != 3 && end < list.len()
 }
 
-// Number 8 of a list that reads.
+// Number 8 of a list that reads. The presence is a number: how many of the point's rounds are in the DAG, 0 to 3.
 pub fn is_mismatch(presence: u8, point: &Point, list: &[u8]) -> bool
     requires { is_some (read_list list.now) ≡ true }
     ensures { (l : List Listed) → read_list list.now ≡ Some l →
         result ≡ mismatch presence (said point.now) (directs l) (indirects l) }
 {
+    let list = &ReadableList { bytes: list };
     if versions::stand_twice(point, list) {
         return true;
     }
@@ -110,6 +108,6 @@ pub fn is_mismatch(presence: u8, point: &Point, list: &[u8]) -> bool
         return true;
     };
     walked.dropped < lacking(maps)
-        || has_absent_targets(presence, list, walked.end)
-        || !targets::are_targets(point.info, &list[walked.end..])
+        || has_absent_targets(presence, list.bytes, walked.end)
+        || !targets::are_targets(point.info, &list.from_place(walked.end))
 }

@@ -13,7 +13,7 @@ ghost use Rattle.judge_valid.specs.Code.{point_view_of};
 ghost use Rattle.judge_reason.specs.Code.{taken_of, entry_in, AbsentReason};
 
 use judge_entries::{DagPoint, Entry};
-use judge_valid::{By, PointView};
+use judge_valid::{By, DepView, PointView};
 use point::{AnchorStageRole, PointId};
 use reasons::InvalidReason;
 
@@ -65,12 +65,11 @@ fn absent_reason(state: &DagPoint) -> Option<InvalidReason>
 // What an entry taken as a dependency gives of reasons.
 pub fn dependency_reason(by: &By, is_prev_point: bool, entry: &Entry) -> Option<InvalidReason>
     ensures { option_map reason_of result
-        ≡ last_of (dependency_trail (point_rows (settings_of by.now.conf) by.now.required is_prev_point (point_view_of by.now.view)) (entry_of entry.now).state) }
+        ≡ last_of (dependency_trail (point_rows (settings_of by.now.conf) by.now.required is_prev_point (point_view_of by.now.view))
+        (entry_of entry.now).state) }
 {
     match entry.point() {
-        Some(point) => {
-            judge_valid::check_dependency(by, is_prev_point, &judge_valid::dep_view(&point))
-        }
+        Some(point) => { judge_valid::check_dependency(by, is_prev_point, &DepView::from(&point)) }
         None => absent_reason(&entry.state),
     }
 }
@@ -78,7 +77,8 @@ pub fn dependency_reason(by: &By, is_prev_point: bool, entry: &Entry) -> Option<
 // What a version of the author's point at the round before gives of reasons, where none is referenced.
 #[tactic(auto, unfolding(base::specs::Base::last_of))]
 pub fn version_reason(state: &DagPoint, certified: bool, first_valid: bool) -> Option<InvalidReason>
-    ensures { (s : List ℕ) → option_map reason_of result ≡ last_of (version_trail (entry_in s state.now certified first_valid) (dag_point_of s state.now)) }
+    ensures { (s : List ℕ) → option_map reason_of result
+        ≡ last_of (version_trail (entry_in s state.now certified first_valid) (dag_point_of s state.now)) }
 {
     match state {
         DagPoint::Valid(info) => {
@@ -99,10 +99,11 @@ pub fn version_reason(state: &DagPoint, certified: bool, first_valid: bool) -> O
 // differ in as a closure, with a clause for what it gives.
 pub fn indirect_reason(by: &By, role: AnchorStageRole, entry: &Entry) -> Option<InvalidReason>
     ensures { option_map reason_of result
-        ≡ last_of (dependency_trail (indirect_point_rows (settings_of by.now.conf) role (point_view_of by.now.view)) (entry_of entry.now).state) }
+        ≡ last_of (dependency_trail (indirect_point_rows (settings_of by.now.conf) role (point_view_of by.now.view))
+        (entry_of entry.now).state) }
 {
     match entry.point() {
-        Some(point) => judge_valid::check_indirect(by, role, &judge_valid::dep_view(&point)),
+        Some(point) => judge_valid::check_indirect(by, role, &DepView::from(&point)),
         None => absent_reason(&entry.state),
     }
 }

@@ -230,6 +230,10 @@ nothing-direct j g h = go j.ended g.dropped g.reason g.root refl h
     go false false None None e k =
         λ i. record { direct = j.direct; indirect = j.indirect; recorded = join-none j.recorded i; ended = sym e i }
 
+-- an indirect entry that is dropped changes nothing
+pub dropped-indirect : (j : Judging) → j ≡ with_indirect j (record { reason = None; root = None; dropped = true })
+dropped-indirect j = λ i. record { direct = j.direct; indirect = j.indirect; recorded = sym (join-none j.recorded) i; ended = j.ended }
+
 pub nothing-indirect : (j : Judging) (g : Gives) → is_nothing g ≡ true → with_indirect j g ≡ j
 nothing-indirect j g h = go g.dropped g.reason g.root h
   where

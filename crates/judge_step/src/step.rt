@@ -32,37 +32,41 @@ pub const START: Judging = Judging {
     ended: false,
 };
 
-// What an entry gives: its last reason, the root cause that it would have recorded, and that it is dropped with its round, which is a
-// fact of its own beside them.
+// What an entry gives: that it is dropped with its round, or its last reason and the root cause that it would have recorded. No Option: a
+// dropped one gives a reason too.
 #[derive(Clone, Copy)]
-pub struct Gives {
-    pub reason: Option<InvalidReason>,
-    pub recorded: Option<InvalidDependency>,
-    pub dropped: bool,
+pub enum Gives {
+    Dropped,
+    Found {
+        reason: Option<InvalidReason>,
+        recorded: Option<InvalidDependency>,
+    },
 }
 
 // A constant and not a Default, as START.
-pub const NOTHING: Gives = Gives {
+pub const NOTHING: Gives = Gives::Found {
     reason: None,
     recorded: None,
-    dropped: false,
 };
 
 // Whether an entry gives nothing, and so changes nothing of what was found.
 pub fn gives_nothing(x: &Gives) -> bool
     ensures { result ≡ is_nothing (gives_of x.now) }
 {
-    !x.dropped && x.reason.is_none() && x.recorded.is_none()
+    matches!(
+        x,
+        Gives::Found {
+            reason: None,
+            recorded: None,
+        }
+    )
 }
 
 // Whether an entry is valid, and gives nothing for sure.
 pub fn is_quiet(quick: &Quick, entry: &Entry) -> bool
     ensures { result ≡ true → Quiet quick.now entry.now }
 {
-    match entry.state {
-        DagPoint::Valid(_) => judge_valid::is_quick(quick, entry.rec),
-        _ => false,
-    }
+    matches!(entry.state, DagPoint::Valid(_)) && judge_valid::is_quick(quick, entry.rec)
 }
 
 // The root cause that an entry would have recorded, which goes through a peer's point.
@@ -85,10 +89,9 @@ fn dependency_gives(by: &By, is_prev_point: bool, entry: &Entry) -> Gives
         ≡ gives_all (dependency_as (settings_of by.now.conf) by.now.required is_prev_point (point_view_of by.now.view) (entry_of entry.now)) }
 {
     let direct = judge_dependency::direct_through(by.view.id.round, entry.state.id());
-    Gives {
+    Gives::Found {
         reason: judge_reason::dependency_reason(by, is_prev_point, entry),
         recorded: root_of(by, entry, direct),
-        ..NOTHING
     }
 }
 
@@ -97,16 +100,13 @@ pub fn direct_gives(by: &By, entry: &Entry) -> Gives
     ensures { DirectGives (settings_of by.now.conf) by.now.required (point_view_of by.now.view) (entry_of entry.now) (gives_of result) }
 {
     if entry.state.is_dropped() {
-        return Gives {
-            dropped: true,
-            ..NOTHING
-        };
+        return Gives::Dropped;
     }
     match judge_reason::how_taken(&by.view, entry.state.id()) {
         Taken::AsDependency { is_prev_point } => dependency_gives(by, is_prev_point, entry),
-        Taken::AsVersion => Gives {
+        Taken::AsVersion => Gives::Found {
             reason: judge_reason::version_reason(&entry.state, entry.certified, entry.first_valid),
-            ..NOTHING
+            recorded: None,
         },
         Taken::Aside => NOTHING,
     }
@@ -115,12 +115,12 @@ pub fn direct_gives(by: &By, entry: &Entry) -> Gives
 // What the entry of an indirect link's target gives, which goes through a peer's point. That it is dropped doesn't count here.
 pub fn indirect_gives(by: &By, role: AnchorStageRole, through: Through, entry: &Entry) -> Gives
     ensures { (first : Bool) →
-        IndirectGives (settings_of by.now.conf) (point_view_of by.now.view) role (through_of through) (as_first first (entry_of entry.now)) (gives_of result) }
+        IndirectGives (settings_of by.now.conf) (point_view_of by.now.view) role (through_of through)
+        (as_first first (entry_of entry.now)) (gives_of result) }
 {
-    Gives {
+    Gives::Found {
         reason: judge_reason::indirect_reason(by, role, entry),
         recorded: root_of(by, entry, through),
-        ..NOTHING
     }
 }
 
@@ -133,30 +133,34 @@ pub fn with_direct(so_far: Judging, x: &Gives) -> Judging
     if so_far.ended {
         return so_far;
     }
-    if x.dropped {
-        return Judging {
+    match x {
+        Gives::Dropped => Judging {
             direct: so_far
                 .direct
                 .or(Some(InvalidReason::DependencyRoundDropped)),
             ended: true,
             ..so_far
-        };
-    }
-    Judging {
-        direct: x.reason.or(so_far.direct),
-        recorded: judge_dependency::join(so_far.recorded, x.recorded),
-        ..so_far
+        },
+        Gives::Found { reason, recorded } => Judging {
+            direct: reason.or(so_far.direct),
+            recorded: judge_dependency::join(so_far.recorded, *recorded),
+            ..so_far
+        },
     }
 }
 
-// What was found, and then what the entry of an indirect link's target gives.
+// What was found, and then what the entry of an indirect link's target gives. None of these gives that it is dropped, which would change
+// nothing.
 #[tactic(auto, using(crate::proofs::Laws::later_told))]
 pub fn with_indirect(so_far: Judging, x: &Gives) -> Judging
     ensures { judging_of result ≡ with_indirect (judging_of so_far) (gives_of x.now) }
 {
-    Judging {
-        indirect: x.reason.or(so_far.indirect),
-        recorded: judge_dependency::join(so_far.recorded, x.recorded),
-        ..so_far
+    match x {
+        Gives::Dropped => so_far,
+        Gives::Found { reason, recorded } => Judging {
+            indirect: reason.or(so_far.indirect),
+            recorded: judge_dependency::join(so_far.recorded, *recorded),
+            ..so_far
+        },
     }
 }

@@ -11,13 +11,13 @@ use borrow.Author.Tests.{eqb-true, eq-eqb, ne_eqb, lt-ltb, le-ltb, ltb-false}
 use Rattle.base.specs.Base.{pick, concat}
 use Rattle.base.proofs.Bool.{never, clash, and_left, and_right, and_both, or_left, or_right}
 use Rattle.base.proofs.Option.{picked, none-some, and_then_lem, IfSome, pick-has, has}
-use Rattle.parts.specs.Bytes.{little_at, big_at, Bytes}
+use Rattle.parts.specs.Bytes.{little_at, big_at, id_at, Bytes}
 use Rattle.parts.specs.Code.{number}
 use Rattle.parts.specs.declared.Id.{Id}
 use Rattle.parts.proofs.Laws.{Words, big_words, big-fits}
 use Rattle.record.specs.Record.{content_of, well_shaped}
-use Rattle.point.specs.Point.{PointId, Through, AnchorLink, Direct, Indirect, PointInfo, same_id, is_anchor_proof, is_anchor_trigger, is_anchor_stage, through_round, through, target_of, target_round_of, anchor_link, source, target, top}
-use Rattle.point.specs.Reading.{point_id_at, read_through, read_link, read_role, maps_ok, read_point}
+use Rattle.point.specs.Point.{PointId, Through, Includes, Witness, AnchorLink, Direct, Indirect, PointInfo, same_id, is_anchor_proof, is_anchor_trigger, is_anchor_stage, through_round, through, target_of, target_round_of, anchor_link, source, target, top}
+use Rattle.point.specs.Reading.{point_id_at, through_at, read_through, read_link, read_role, maps_ok, read_point}
 use Rattle.point.specs.declared.data.PointRole.{PointRole}
 use Rattle.point.specs.declared.data.AnchorStageRole.{AnchorStageRole}
 use Rattle.point.specs.declared.data.AnchorStageRole.TheVariants.{Proof, Trigger}
@@ -93,20 +93,15 @@ module _ (s : List ℕ) where
 
 -- ---- the round of a link's target, by its bytes
 
-module _ (s : List ℕ) (round : ℕ) where
-  through-includes : get_or s 1 0 ≡ 0 → IfSome (λ (t : Through). round - 1 ≡ through_round t round) (read_through s)
-  unfolding read_through
-  through-includes h =
-      let P : Through → Type 0 = λ t. round - 1 ≡ through_round t round in
-      pick-has P (eqb (get_or s 1 0) 0) _ _ (λ k. refl)
-      (pick-has P (eqb (get_or s 1 0) 1) _ _ (λ k. let m = eqb-true (get_or s 1 0) 1 k in absurd (omega arith)) tt)
+through-known : (a b : Bool) (x y t : Through) → pick a (Some x) (pick b (Some y) None) ≡ Some t → pick a x y ≡ t
+through-known true b x y t h = cc
+through-known false true x y t h = cc
+through-known false false x y t h = none-some h
 
-  through-witness : (get_or s 1 0 ≡ 0 → ⊥) → IfSome (λ (t : Through). round - 2 ≡ through_round t round) (read_through s)
+module _ (s : List ℕ) (round : ℕ) where
+  through-read : (t : Through) → read_through s ≡ Some t → through_at s 1 ≡ t
   unfolding read_through
-  through-witness n =
-      let P : Through → Type 0 = λ t. round - 2 ≡ through_round t round in
-      pick-has P (eqb (get_or s 1 0) 0) _ _ (λ k. absurd (n (eqb-true (get_or s 1 0) 0 k)))
-      (pick-has P (eqb (get_or s 1 0) 1) _ _ (λ k. refl) tt)
+  through-read t = through-known (eqb (get_or s 1 0) 0) (eqb (get_or s 1 0) 1) (Includes (id_at s 2)) (Witness (id_at s 2)) t
 
   -- a link that goes through t, direct or not
   abbrev links : Through → Option AnchorLink
@@ -134,19 +129,12 @@ module _ (s : List ℕ) (round : ℕ) where
         let x = and_then_lem (read_through s) _ l e in
         has (λ (m : AnchorLink). little_at 4 s 34 ≡ target_round_of round m) (links x.0) l (links-far x.0 h) x.2
 
-    pub target-includes : length s < 102 → get_or s 1 0 ≡ 0 → round - 1 ≡ target_round_of round l
+    pub target-near : length s < 102 → through_round (through_at s 1) round ≡ target_round_of round l
     unfolding read_link
-    target-includes h g =
+    target-near h =
         let x = and_then_lem (read_through s) _ l e in
-        let t = has (λ (t : Through). round - 1 ≡ through_round t round) (read_through s) x.0 (through-includes g) x.1 in
-        has (λ (m : AnchorLink). round - 1 ≡ target_round_of round m) (links x.0) l (links-near (round - 1) x.0 h t) x.2
-
-    pub target-witness : length s < 102 → (get_or s 1 0 ≡ 0 → ⊥) → round - 2 ≡ target_round_of round l
-    unfolding read_link
-    target-witness h g =
-        let x = and_then_lem (read_through s) _ l e in
-        let t = has (λ (t : Through). round - 2 ≡ through_round t round) (read_through s) x.0 (through-witness g) x.1 in
-        has (λ (m : AnchorLink). round - 2 ≡ target_round_of round m) (links x.0) l (links-near (round - 2) x.0 h t) x.2
+        let n = through_round (through_at s 1) round in
+        has (λ (m : AnchorLink). n ≡ target_round_of round m) (links x.0) l (links-near n x.0 h (ap (λ (t : Through). through_round t round) (through-read x.0 x.1))) x.2
 
 -- ---- the few numbers of a point that was read
 
@@ -216,7 +204,7 @@ other-id i j m n e f h = never _ (λ t. clash _ (eq-eqb m n (e ∙ (ap first_wor
 pub passes : (c : Settings) (p : PointView) (q : PointInfo) (r : code-quick.Quick) (b : code-brief.Brief) → QuickOf c p r → BriefOf q b →
     (eqb b.round r.before && eqb b.author r.author) ≡ false →
     (eqb b.digest r.proof_target || (eqb b.digest r.proof_source || (eqb b.digest r.trigger_target || eqb b.digest r.trigger_source))) ≡ false →
-    (ltb r.proof_round b.proof_round || ltb r.trigger_round b.trigger_round) ≡ false → ltb (r.time + r.skew) b.time ≡ false → GivesNoReason c p q
+    (ltb r.proof_target_round b.proof_top_round || ltb r.trigger_target_round b.trigger_top_round) ≡ false → ltb (r.time + r.skew) b.time ≡ false → GivesNoReason c p q
 passes c p q r b k f own linked newer late =
     let pt = eqb b.digest r.proof_target in
     let ps = eqb b.digest r.proof_source in
@@ -224,8 +212,8 @@ passes c p q r b k f own linked newer late =
     let ts = eqb b.digest r.trigger_source in
     let rest = or_right pt (ps || (tt' || ts)) linked in
     let triggers = or_right ps (tt' || ts) rest in
-    let proof = ltb-false r.proof_round b.proof_round (or_left (ltb r.proof_round b.proof_round) (ltb r.trigger_round b.trigger_round) newer) in
-    let trigger = ltb-false r.trigger_round b.trigger_round (or_right (ltb r.proof_round b.proof_round) (ltb r.trigger_round b.trigger_round) newer) in
+    let proof = ltb-false r.proof_target_round b.proof_top_round (or_left (ltb r.proof_target_round b.proof_top_round) (ltb r.trigger_target_round b.trigger_top_round) newer) in
+    let trigger = ltb-false r.trigger_target_round b.trigger_top_round (or_right (ltb r.proof_target_round b.proof_top_round) (ltb r.trigger_target_round b.trigger_top_round) newer) in
     let time = ltb-false (r.time + r.skew) b.time late in
     apart_gives c p q (record {
       own = never _ (λ t.
@@ -236,8 +224,8 @@ passes c p q r b k f own linked newer late =
       proof_source = other-id q.id p.proof.source _ _ f.digest k.proof_source (or_left ps (tt' || ts) rest);
       trigger_target = other-id q.id p.trigger.target _ _ f.digest k.trigger_target (or_left tt' ts triggers);
       trigger_source = other-id q.id p.trigger.source _ _ f.digest k.trigger_source (or_right tt' ts triggers);
-      proof_round = omega (arith, proof, f.proof_round, k.proof_round);
-      trigger_round = omega (arith, trigger, f.trigger_round, k.trigger_round);
+      proof_round = omega (arith, proof, f.proof_top_round, k.proof_target_round);
+      trigger_round = omega (arith, trigger, f.trigger_top_round, k.trigger_target_round);
       time = omega (arith, time, f.time, k.time, k.skew);
     })
 

@@ -52,8 +52,8 @@ pub record BriefOf (q : PointInfo) (b : code-brief.Brief) : Type 0 where
   pub round : b.round ≡ q.id.round
   pub digest : b.digest ≡ first_word q.id.digest
   pub author : b.author ≡ first_word q.id.author
-  pub proof_round : b.proof_round ≡ (top Proof q).round
-  pub trigger_round : b.trigger_round ≡ (top Trigger q).round
+  pub proof_top_round : b.proof_top_round ≡ (top Proof q).round
+  pub trigger_top_round : b.trigger_top_round ≡ (top Trigger q).round
   pub time : b.time ≡ q.time
 
 -- what the test asks of the judged point and the settings
@@ -64,8 +64,8 @@ pub record QuickOf (c : Settings) (p : PointView) (r : code-quick.Quick) : Type 
   pub proof_source : r.proof_source ≡ first_word p.proof.source.digest
   pub trigger_target : r.trigger_target ≡ first_word p.trigger.target.digest
   pub trigger_source : r.trigger_source ≡ first_word p.trigger.source.digest
-  pub proof_round : r.proof_round ≡ p.proof.target.round
-  pub trigger_round : r.trigger_round ≡ p.trigger.target.round
+  pub proof_target_round : r.proof_target_round ≡ p.proof.target.round
+  pub trigger_target_round : r.trigger_target_round ≡ p.trigger.target.round
   pub time : r.time ≡ p.time
   pub skew : r.skew ≡ c.clock_skew_millis
 

@@ -1,7 +1,6 @@
 // The few numbers of a dependency that decide of most whether they give a reason. No map is searched for them.
-ghost use Rattle.std.specs.Prelude.{◌≡◌, true, ◌≤◌, length, Some};
+ghost use Rattle.std.specs.Prelude.{◌≡◌, ◌≤◌, length, Some};
 ghost use Rattle.base.specs.Base.{pick};
-ghost use Rattle.record.specs.Record.{well_shaped};
 ghost use Rattle.point.specs.Point.{PointInfo, AnchorLink, is_anchor_proof, is_anchor_trigger, target_round_of};
 ghost use Rattle.point.specs.Reading.{read_link, read_role, read_point};
 ghost use Rattle.point.specs.declared.data.PointRole.{PointRole};
@@ -15,12 +14,12 @@ pub struct Brief {
     pub round: u32,
     pub digest: u64,
     pub author: u64,
-    pub proof_round: u32,
-    pub trigger_round: u32,
+    pub proof_top_round: u32,
+    pub trigger_top_round: u32,
     pub time: u64,
 }
 
-// Whether the content of a role's field is a proof's.
+// Whether the content of a role's field is a proof's. By the role's bytes, which a PointRole would be read from first.
 fn is_proof(role: &[u8]) -> bool
     requires { 1 ≤ length role.now }
     ensures { (g : PointRole) → read_role role.now ≡ Some g → result ≡ is_anchor_proof g }
@@ -28,7 +27,7 @@ fn is_proof(role: &[u8]) -> bool
     role.len() == 3 || role[0] == 3
 }
 
-// Whether it is a trigger's.
+// Whether it is a trigger's, by the same bytes.
 fn is_trigger(role: &[u8]) -> bool
     requires { 1 ≤ length role.now }
     ensures { (g : PointRole) → read_role role.now ≡ Some g → result ≡ is_anchor_trigger g }
@@ -50,18 +49,13 @@ fn top_round(has_role: bool, round: u32, link: &[u8]) -> u32
     if 102 <= link.len() {
         return parts::u32_at(link, 34);
     }
-    if link[1] == 0 {
-        return parts::rounds_back(round, 1);
-    }
-    parts::rounds_back(round, 2)
+    point::through_at(link, 1).round(round)
 }
 
 #[tactic(auto, using(point::proofs::Laws::shape_facts))]
-pub fn brief_of(rec: &[u8]) -> Brief
-    requires { well_shaped rec.now ≡ true }
-    ensures { (q : PointInfo) → read_point rec.now ≡ Some q → BriefOf q result }
+pub fn brief_of(fields: &Fields) -> Brief
+    ensures { (q : PointInfo) → read_point fields.now.rec.now ≡ Some q → BriefOf q result }
 {
-    let fields = Fields::find(rec);
     let id = fields.id();
     let role = fields.role();
     let round = parts::u32_at(id, 0);
@@ -69,8 +63,8 @@ pub fn brief_of(rec: &[u8]) -> Brief
         round,
         digest: parts::big64_at(id, 4),
         author: parts::big64_at(id, 36),
-        proof_round: top_round(is_proof(role), round, fields.anchor_proof()),
-        trigger_round: top_round(is_trigger(role), round, fields.anchor_trigger()),
+        proof_top_round: top_round(is_proof(role), round, fields.anchor_proof()),
+        trigger_top_round: top_round(is_trigger(role), round, fields.anchor_trigger()),
         time: parts::u64_at(fields.times(), 0),
     }
 }

@@ -6,6 +6,6 @@ mod quick;
 mod rows;
 mod view;
 
-pub use quick::{Quick, is_quick, quick_of};
+pub use quick::{Quick, is_quick};
 pub use rows::{check_dependency, check_indirect};
-pub use view::{By, DepView, LinkIds, PointView, dep_view, point_view};
+pub use view::{By, DepView, LinkIds, PointView};

@@ -9,6 +9,7 @@ use crate::brief;
 use crate::brief::Brief;
 use crate::view::By;
 use parts::Id;
+use record::Fields;
 
 // What the test asks of the judged point and the settings. Ids are told apart by the first eight bytes of a digest or an author.
 #[derive(Clone, Copy)]
@@ -19,8 +20,8 @@ pub struct Quick {
     pub proof_source: u64,
     pub trigger_target: u64,
     pub trigger_source: u64,
-    pub proof_round: u32,
-    pub trigger_round: u32,
+    pub proof_target_round: u32,
+    pub trigger_target_round: u32,
     pub time: u64,
     pub skew: u64,
 }
@@ -33,21 +34,23 @@ fn first_word(id: Id) -> u64
     id.a
 }
 
-pub fn quick_of(by: &By) -> Quick
-    ensures { QuickOf (settings_of by.now.conf) (point_view_of by.now.view) result }
-{
-    let p = &by.view;
-    Quick {
-        before: parts::rounds_back(p.id.round, 1),
-        author: first_word(p.id.author),
-        proof_target: first_word(p.proof.target.digest),
-        proof_source: first_word(p.proof.source.digest),
-        trigger_target: first_word(p.trigger.target.digest),
-        trigger_source: first_word(p.trigger.source.digest),
-        proof_round: p.proof.target.round,
-        trigger_round: p.trigger.target.round,
-        time: p.time,
-        skew: by.conf.clock_skew_millis as u64,
+impl From<&By> for Quick {
+    ghost from_gives = { λ by quick. QuickOf (settings_of by.now.conf) (point_view_of by.now.view) quick };
+
+    fn from(by: &By) -> Quick {
+        let p = &by.view;
+        Quick {
+            before: parts::rounds_back(p.id.round, 1),
+            author: first_word(p.id.author),
+            proof_target: first_word(p.proof.target.digest),
+            proof_source: first_word(p.proof.source.digest),
+            trigger_target: first_word(p.trigger.target.digest),
+            trigger_source: first_word(p.trigger.source.digest),
+            proof_target_round: p.proof.target.round,
+            trigger_target_round: p.trigger.target.round,
+            time: p.time,
+            skew: by.conf.clock_skew_millis as u64,
+        }
     }
 }
 
@@ -60,7 +63,8 @@ fn is_own(q: &Quick, b: &Brief) -> bool
 
 // Whether it can be a link's target or source.
 fn is_linked(q: &Quick, b: &Brief) -> bool
-    ensures { result ≡ (eqb b.now.digest q.now.proof_target || (eqb b.now.digest q.now.proof_source || (eqb b.now.digest q.now.trigger_target || eqb b.now.digest q.now.trigger_source))) }
+    ensures { result ≡ (eqb b.now.digest q.now.proof_target || (eqb b.now.digest q.now.proof_source
+        || (eqb b.now.digest q.now.trigger_target || eqb b.now.digest q.now.trigger_source))) }
 {
     b.digest == q.proof_target
         || b.digest == q.proof_source
@@ -70,9 +74,9 @@ fn is_linked(q: &Quick, b: &Brief) -> bool
 
 // Whether one of its tops has a greater round than the link's target.
 fn is_newer(q: &Quick, b: &Brief) -> bool
-    ensures { result ≡ (ltb q.now.proof_round b.now.proof_round || ltb q.now.trigger_round b.now.trigger_round) }
+    ensures { result ≡ (ltb q.now.proof_target_round b.now.proof_top_round || ltb q.now.trigger_target_round b.now.trigger_top_round) }
 {
-    q.proof_round < b.proof_round || q.trigger_round < b.trigger_round
+    q.proof_target_round < b.proof_top_round || q.trigger_target_round < b.trigger_top_round
 }
 
 // Whether a dependency's time exceeds the point's by more than the clock skew.
@@ -87,9 +91,6 @@ pub fn is_quick(q: &Quick, rec: &[u8]) -> bool
     requires { well_shaped rec.now ≡ true }
     ensures { result ≡ true → IsQuick q.now rec.now }
 {
-    let b = &brief::brief_of(rec);
-    if is_own(q, b) || is_linked(q, b) || is_newer(q, b) || is_late(q.time, q.skew, b.time) {
-        return false;
-    }
-    true
+    let b = &brief::brief_of(&Fields::find(rec));
+    !(is_own(q, b) || is_linked(q, b) || is_newer(q, b) || is_late(q.time, q.skew, b.time))
 }

@@ -10,7 +10,7 @@ use parts::Id;
 use point::{AnchorLink, AnchorStageRole, Point, PointId, PointRole};
 use schedule::Settings;
 
-// The target and the source of a link.
+// The target and the source of a link. Without the top, which is asked of a dependency only.
 #[derive(Clone, Copy)]
 pub struct LinkIds {
     pub target: PointId,
@@ -83,23 +83,25 @@ fn link_ids(point: &Point, role: AnchorStageRole) -> LinkIds
 }
 
 // What judging asks of the point that it judges.
-#[tactic(auto, unfolding(rules::specs::DagPoint::point_view))]
-pub fn point_view(point: &Point) -> PointView
-    ensures { point_view_of result ≡ point_view (said point.now) }
-{
-    PointView {
-        id: point.info.id,
-        role: point.info.role,
-        time: point.info.time,
-        anchor_time: point.info.anchor_time,
-        prev_digest: point.prev_digest(),
-        proof: link_ids(point, AnchorStageRole::Proof),
-        trigger: link_ids(point, AnchorStageRole::Trigger),
+impl From<&Point<'_>> for PointView {
+    ghost from_gives = { λ point view. point_view_of view ≡ point_view (said point.now) };
+
+    #[tactic(auto, unfolding(rules::specs::DagPoint::point_view))]
+    fn from(point: &Point<'_>) -> PointView {
+        PointView {
+            id: point.info.id,
+            role: point.info.role,
+            time: point.info.time,
+            anchor_time: point.info.anchor_time,
+            prev_digest: point.prev_digest(),
+            proof: link_ids(point, AnchorStageRole::Proof),
+            trigger: link_ids(point, AnchorStageRole::Trigger),
+        }
     }
 }
 
 // The point itself where it has the role, else its link's target. Only a direct link's has to be looked up.
-#[tactic(auto, unfolding(point::specs::Point::top, point::specs::Point::target, point::specs::Point::anchor), using(point::proofs::Laws::link_in_lem))]
+#[tactic(auto, unfolding(point::specs::Point::top, point::specs::Point::anchor), using(point::proofs::Laws::link_in_lem))]
 fn top(point: &Point, role: AnchorStageRole) -> PointId
     ensures { point_id_of result ≡ top role (said point.now) }
 {
@@ -113,16 +115,18 @@ fn top(point: &Point, role: AnchorStageRole) -> PointId
 }
 
 // What judging asks of a dependency.
-#[tactic(auto, unfolding(rules::specs::DagPoint::dep_view))]
-pub fn dep_view(point: &Point) -> DepView
-    ensures { dep_view_of result ≡ dep_view (said point.now) }
-{
-    DepView {
-        id: point.info.id,
-        role: point.info.role,
-        time: point.info.time,
-        anchor_time: point.info.anchor_time,
-        proof_top: top(point, AnchorStageRole::Proof),
-        trigger_top: top(point, AnchorStageRole::Trigger),
+impl From<&Point<'_>> for DepView {
+    ghost from_gives = { λ point view. dep_view_of view ≡ dep_view (said point.now) };
+
+    #[tactic(auto, unfolding(rules::specs::DagPoint::dep_view))]
+    fn from(point: &Point<'_>) -> DepView {
+        DepView {
+            id: point.info.id,
+            role: point.info.role,
+            time: point.info.time,
+            anchor_time: point.info.anchor_time,
+            proof_top: top(point, AnchorStageRole::Proof),
+            trigger_top: top(point, AnchorStageRole::Trigger),
+        }
     }
 }

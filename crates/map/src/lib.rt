@@ -1,5 +1,11 @@
 // Rising rows: a set of peers, 32 bytes a row, or a map of peers and digests, 64 bytes a row. They stand for the
 // hash maps of the Rust. Contracts speak of the list of peers or of pairs that the bytes mean.
+//
+// Rows are asked for by their position: `as_chunks` would have each caller say where a row's peer and digest stand, which is said here
+// alone, and an iterator of our own would be longer than the four loops that ask for each row in turn. The width stands beside the rows:
+// a struct of both would be made for each call, and a const parameter would ask more of callers, who could not hand over a width that is
+// known only as the program runs. Nor is there a struct of rows that rise and are at most 255 as well: it would be made for nearly each
+// call of `search`, `get`, `verify_unknown` and `verify_peers`, which ask for these facts.
 #![tactic(auto)]
 
 ghost use Rattle.std.specs.Prelude.{◌≡◌, true, ◌≤◌, ◌<◌, length, get_or, option_map};
@@ -75,9 +81,8 @@ pub fn is_well_rowed(rows: &[u8], width: usize) -> bool
     rows.len() % width == 0 && is_rising(rows, width)
 }
 
-// The position of a peer among rising rows, by halving. The width stands beside the rows in each function, as 32 or 64 where a set or a
-// map is meant: a struct of both would be made for each call. By hand, since `binary_search_by` wants a slice of elements, and a row
-// has as many bytes as `width` says.
+// The position of a peer among rising rows, by halving. By hand, since `binary_search_by` wants a slice of elements, and a row has as
+// many bytes as `width` says.
 pub fn search(rows: &[u8], width: usize, peer: Id) -> Option<u16>
     requires le_width { (32 ≤ width) × (rising (peers_of width rows.now) ≡ true) }
     requires rows_len_bound { length (peers_of width rows.now) ≤ 255 }

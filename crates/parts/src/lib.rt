@@ -1,10 +1,11 @@
 // Ids, numbers read at a place of a slice, and PeerCount: the ports of parts.rs and peer_count.rs.
 #![tactic(auto)]
 
-ghost use Rattle.std.specs.Prelude.{◌≡◌, ◌+◌, ◌-◌, ◌≤◌, ◌<◌, eqb, length};
+ghost use Rattle.std.specs.Prelude.{◌≡◌, ◌&&◌, ◌+◌, ◌-◌, ◌≤◌, ◌<◌, eqb, leb, length};
 ghost use Rattle.std.specs.Result.{result_ok};
 ghost use Rattle.parts.specs.Bytes.{bytes_at, little_at, big_at, id_at};
 ghost use Rattle.parts.specs.Code.{number, peer_count_of};
+ghost use Rattle.parts.specs.Limits.{first_round, last_round};
 ghost use Rattle.parts.specs.Parts.{order, peer_count, full, majority, majority_of_others};
 
 use std::cmp::Ordering;
@@ -47,7 +48,8 @@ pub const MOST_KEPT: usize = 4096;
 
 pub const LONGEST_BOOK: usize = 16777216;
 
-// The bytes at a place, as many as the array has.
+// The bytes at a place, as many as the array has. Each of the four readers of a number is one call of a conversion of std, which
+// has no trait of all sizes.
 fn bytes_at<const N: usize>(s: &[u8], at: usize) -> [u8; N]
     requires { at + N ≤ length s.now }
     ensures { result ≡ bytes_at N s.now at }
@@ -134,7 +136,7 @@ pub fn compare(x: Id, y: Id) -> Ordering
     x.d.cmp(&y.d)
 }
 
-// The order of the ids that stand at two places, by `compare`. The compiler reads no more than their first words where these differ.
+// The order of the ids that stand at two places, by `compare`: where their first words differ, these settle it.
 pub fn compare_at(s: &[u8], at: usize, t: &[u8], from: usize) -> Ordering
     requires { (at + 32 ≤ length s.now) × (from + 32 ≤ length t.now) }
     ensures { result ≡ order (id_at s.now at) (id_at t.now from) }
@@ -142,7 +144,7 @@ pub fn compare_at(s: &[u8], at: usize, t: &[u8], from: usize) -> Ordering
     compare(id_at(s, at), id_at(t, from))
 }
 
-// The order of the id that stands at a place and an id, by `compare`. Here too the first word is mostly all that is read.
+// The order of the id that stands at a place and an id, by `compare`.
 pub fn compare_to(s: &[u8], at: usize, id: Id) -> Ordering
     requires { at + 32 ≤ length s.now }
     ensures { result ≡ order (id_at s.now at) (number id) }
@@ -193,6 +195,13 @@ impl PeerCount {
     {
         self.0 as usize * 2
     }
+}
+
+// Whether a round lies in the domain.
+pub fn is_round(round: u32) -> bool
+    ensures { result ≡ (leb first_round round && leb round last_round) }
+{
+    (FIRST_ROUND..=LAST_ROUND).contains(&round)
 }
 
 // The round n rounds back, 0 at the lowest: `Sub` of rounds in parts.rs, under a name, since it isn't the `-` of numbers.

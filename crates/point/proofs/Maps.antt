@@ -1,11 +1,11 @@
 -- The maps of a record that was read as a point: their peers rise, and none has over 255.
-use Prim.Native.Nat.{ℕ, ◌≤◌}
+use Prim.Native.Nat.{ℕ, ◌≤◌, ◌<◌}
 use mathlib.Core.Path.{◌≡◌, ap, sym, ◌∙◌}
 use mathlib.Core.Bool.{true}
 use mathlib.Core.List.{List}
-use lib.ListN.{length}
-use Rattle.map.specs.Rows.{peers_of, pairs_of, peers, rising}
-use Rattle.map.proofs.Laws.{peers-pairs_of, peers-length}
+use lib.ListN.{length, get_or}
+use Rattle.map.specs.Rows.{Pair, peers_of, pairs_of, peers, digests, rising}
+use Rattle.map.proofs.Laws.{peers-pairs_of, peers-length, peers-at, digests-at}
 use Rattle.record.specs.Record.{content_of}
 use Rattle.point.specs.Code.{Reads}
 use Rattle.point.specs.declared.info.PointInfo as code-info
@@ -17,6 +17,16 @@ pairs_peers s = peers-pairs_of s
 
 pub pairs_many : (s : List ℕ) → length (pairs_of s) ≡ length (peers_of 64 s)
 pairs_many s = sym (peers-length (pairs_of s)) ∙ ap length (peers-pairs_of s)
+
+-- the digest and the peer of a row are its pair's
+module _ (s : List ℕ) (i : ℕ) (q : Pair) (h : i < length (pairs_of s)) where
+  pub row_digest : get_or (digests (pairs_of s)) i 0 ≡ (get_or (pairs_of s) i q).digest
+  row_digest = digests-at (pairs_of s) i q h
+
+  pub row_peer : get_or (peers_of 64 s) i 0 ≡ (get_or (pairs_of s) i q).peer
+  row_peer = ap (λ (l : List ℕ). get_or l i 0) (sym (peers-pairs_of s)) ∙ peers-at (pairs_of s) i q h
+
+pub ruleset row_facts = (pairs_many, row_digest, row_peer)
 
 module _ (s : List ℕ) (i : code-info.PointInfo) (r : Reads s i) where
   pub includes_rises : rising (peers_of 64 (content_of s 2)) ≡ true

@@ -14,7 +14,7 @@ use Rattle.point.specs.declared.link.AnchorLink as code-link
 use Rattle.point.specs.declared.link.AnchorLink.TheVariants as case-link
 use Rattle.point.specs.declared.info.PointInfo as code-info
 use Rattle.point.specs.declared.info.AnchorView as code_view
-use Rattle.point.specs.declared.info.StickyAnchors as code-sticky
+use Rattle.point.specs.declared.data.StickyAnchors as code-sticky
 
 abbrev pub point_id_of : code-id.PointId → PointId
 point_id_of i = record { round = i.round; digest = number i.digest; author = number i.author }

@@ -14,6 +14,10 @@ use Rattle.point.specs.declared.data.PointRole.TheVariants.{Regular, AnchorProof
 unfoldable pub point_id_at : List ℕ → ℕ → PointId
 point_id_at s at = record { round = little_at 4 s at; digest = id_at s (at + 4); author = id_at s (at + 36) }
 
+-- a map and a peer at a place, of a slice where the map is known to be 0 or 1
+abbrev pub through_at : List ℕ → ℕ → Through
+through_at s at = pick (eqb (get_or s at 0) 0) (Includes (id_at s (at + 1))) (Witness (id_at s (at + 1)))
+
 -- tags 6 and 7: "map (0 includes, 1 witness), peer (32)", after the kind
 unfoldable pub read_through : List ℕ → Option Through
 read_through s =

@@ -1,5 +1,5 @@
-// Whether a record of the right shape is a point, and what is asked of it, without the point by value: where many records
-// are walked over, copying it costs more than the tests.
+// Whether a record of the right shape is a point, and what is asked of it, without the point by value: a walk over many records
+// makes no point of any.
 ghost use Rattle.std.specs.Prelude.{◌≡◌, ◌≤◌, length, Some, is_some};
 ghost use Rattle.record.specs.Record.{start_of, well_shaped};
 ghost use Rattle.record.specs.Code.{PlacesOf};

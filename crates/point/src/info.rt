@@ -1,13 +1,14 @@
 // PointInfo and AnchorView: the port of info.rs. What the Rust asks of a point's maps is asked of its record.
-ghost use Rattle.std.specs.Prelude.{◌≡◌, ◌&&◌, List, ℕ, leb, option_map};
+ghost use Rattle.std.specs.Prelude.{◌≡◌, ◌&&◌, List, ℕ, ◌<◌, leb, length, get_or, option_map};
 ghost use Rattle.parts.specs.Limits.{first_round, last_round};
-ghost use Rattle.map.specs.Rows.{pairs_of};
+ghost use Rattle.map.specs.Rows.{Pair, pairs_of};
 ghost use Rattle.record.specs.Record.{content_of};
 ghost use Rattle.parts.specs.Code.{number};
-ghost use Rattle.point.specs.Point.{same_id, in_domain, is_wave_link_ok, through_map, digest_safe, through_id, prev_digest, sticky_anchors, source, target_of, anchor};
+ghost use Rattle.point.specs.Point.{same_id, in_domain, is_wave_link_ok, through_map, digest_safe, through_id, prev_digest};
+ghost use Rattle.point.specs.Point.{sticky_anchors, source, target_of, anchor};
 ghost use Rattle.point.specs.Code.{point_id_of, through_of, link_of, link_in, point_of, view_of, sticky_of, Reads};
 
-use crate::data::{AnchorStageRole, PointRole};
+use crate::data::{AnchorStageRole, PointRole, StickyAnchors};
 use crate::link::{AnchorLink, Through};
 use parts::Id;
 
@@ -42,12 +43,6 @@ pub struct Point<'a> {
     pub ghost reads: { Reads rec.now info },
 }
 
-#[derive(Clone, Copy, PartialEq, Eq)]
-pub struct StickyAnchors {
-    pub seq_no: u8,
-    pub is_last: bool,
-}
-
 // AnchorView, which borrows in the Rust, by value.
 #[derive(Clone, Copy)]
 pub struct AnchorView {
@@ -71,6 +66,23 @@ pub fn is_same_id(x: PointId, y: PointId) -> bool
     x == y
 }
 
+// The id of the point that a row of a map names, at a round.
+#[tactic(auto, using(crate::proofs::Maps::row_facts))]
+pub fn pair_id(map: &[u8], i: usize, round: u32) -> PointId
+    requires { i < length (pairs_of map.now) }
+    ensures { (q : Pair) → point_id_of result ≡ record {
+      round = round;
+      digest = (get_or (pairs_of map.now) i q).digest;
+      author = (get_or (pairs_of map.now) i q).peer;
+    } }
+{
+    PointId {
+        round,
+        digest: map::digest_at(map, i),
+        author: map::peer_at(map, 64, i),
+    }
+}
+
 // The last time of the domain, 2^63 - 1.
 const LAST_TIME: u64 = i64::MAX as u64;
 
@@ -78,9 +90,7 @@ const LAST_TIME: u64 = i64::MAX as u64;
 pub(crate) fn are_in_domain(round: u32, time: u64, anchor_time: u64) -> bool
     ensures { result ≡ (leb first_round round && (leb round last_round && (leb time LAST_TIME && leb anchor_time LAST_TIME))) }
 {
-    (parts::FIRST_ROUND..=parts::LAST_ROUND).contains(&round)
-        && time <= LAST_TIME
-        && anchor_time <= LAST_TIME
+    parts::is_round(round) && time <= LAST_TIME && anchor_time <= LAST_TIME
 }
 
 // Where the field of the includes starts: the two fields before it have one length.
@@ -110,10 +120,7 @@ impl PointInfo {
     pub fn sticky_anchors(self) -> Option<StickyAnchors>
         ensures { option_map sticky_of result ≡ sticky_anchors self.role }
     {
-        match self.role {
-            PointRole::AnchorProof { seq_no, is_last } => Some(StickyAnchors { seq_no, is_last }),
-            _ => None,
-        }
+        self.role.sticky_anchors()
     }
 
     pub fn anchor_link(self, role: AnchorStageRole) -> AnchorLink

@@ -8,6 +8,7 @@ use crate::data::PointMap;
 use crate::info::PointId;
 use parts::Id;
 
+// Of two cases, neither of which is none or a failure, as in the Rust; so is AnchorLink.
 #[derive(Clone, Copy, PartialEq, Eq)]
 pub enum Through {
     Includes(Id),

@@ -1,7 +1,7 @@
 // The reader of point records.
 ghost use Rattle.std.specs.Prelude.{◌≡◌, true, ◌+◌, ◌≤◌, length, Some, is_some};
 ghost use Rattle.record.specs.Record.{well_shaped};
-ghost use Rattle.point.specs.Reading.{point_id_at, read_through, read_link, read_role, read_point};
+ghost use Rattle.point.specs.Reading.{point_id_at, through_at, read_link, read_role, read_point};
 ghost use Rattle.point.specs.Code.{point_id_of, through_of, link_of, Reads};
 ghost use Rattle.point.specs.Said.{PointRead};
 
@@ -24,27 +24,25 @@ pub fn point_id_at(s: &[u8], at: usize) -> PointId
     }
 }
 
-// The map and the peer of a link that can be read, after its kind.
-#[tactic(auto, unfolding(crate::specs::Reading::read_through))]
-fn through_of(s: &[u8]) -> Through
-    requires { (34 ≤ length s.now) × (is_some (read_through s.now) ≡ true) }
-    ensures { read_through s.now ≡ Some (through_of result) }
+// The map and the peer that stand at a place. The format's byte, which is 0 or 1, becomes the enum's case here.
+pub fn through_at(s: &[u8], at: usize) -> Through
+    requires { at + 33 ≤ length s.now }
+    ensures { through_of result ≡ through_at s.now at }
 {
-    let peer = parts::id_at(s, 2);
-    if s[1] == 0 {
-        Through::Includes(peer)
-    } else {
-        Through::Witness(peer)
+    let peer = parts::id_at(s, at + 1);
+    match s[at] {
+        0 => Through::Includes(peer),
+        _ => Through::Witness(peer),
     }
 }
 
 // A link that can be read. Its kind is a byte of the format, and is read here.
-#[tactic(auto, unfolding(crate::specs::Reading::read_link))]
+#[tactic(auto, unfolding(crate::specs::Reading::read_link, crate::specs::Reading::read_through))]
 fn link_of(s: &[u8]) -> AnchorLink
     requires { (34 ≤ length s.now) × (is_some (read_link s.now) ≡ true) }
     ensures { read_link s.now ≡ Some (link_of result) }
 {
-    let through = through_of(s);
+    let through = through_at(s, 1);
     match s[0] {
         0 => AnchorLink::Direct(through),
         _ => AnchorLink::Indirect(IndirectLink {
@@ -54,6 +52,7 @@ fn link_of(s: &[u8]) -> AnchorLink
     }
 }
 
+// A role that can be read. Its kind is a byte of the format too.
 #[tactic(auto, unfolding(crate::specs::Reading::read_role))]
 fn role_of(s: &[u8]) -> PointRole
     requires { is_some (read_role s.now) ≡ true }
@@ -70,7 +69,8 @@ fn role_of(s: &[u8]) -> PointRole
     }
 }
 
-// What a record says that is a point: nothing of it is tested.
+// What a record says that is a point: nothing of it is tested. Without the attribute each caller copies what it gets once more.
+#[inline(always)]
 #[tactic(auto, using(crate::proofs::Known::point_facts))]
 fn info_of(fields: &Fields) -> PointInfo
     requires { is_some (read_point fields.now.rec.now) ≡ true }

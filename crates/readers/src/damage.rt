@@ -1,38 +1,36 @@
-// Damaged copies of the record at the front of a buffer: each byte changed in two ways, each truncation, and one
-// byte 0 more after.
-ghost use Rattle.std.specs.Prelude.{◌≡◌, ◌<◌, ◌≤◌, length};
+// Damaged copies of a record: each byte changed in two ways, each truncation, and one byte 0 more after.
+ghost use Rattle.std.specs.Prelude.{◌<◌, length};
 
 use crate::tally::Tally;
 
 // With another byte at a place.
-fn replace(t: &mut Tally, rec: &mut [u8], n: usize, i: usize, byte: u8)
-    requires { (n ≤ length rec.old) × (i < n) }
+fn replace(t: &mut Tally, rec: &mut [u8], i: usize, byte: u8)
+    requires { i < length rec.old }
 {
     let old = rec[i];
     rec[i] = byte;
-    t.record(&rec[..n]);
+    t.record(rec);
     rec[i] = old;
 }
 
 // With the next number and with every bit turned at each place.
-fn change_each(t: &mut Tally, rec: &mut [u8], n: usize)
-    requires { n ≤ length rec.old }
-{
-    for i in 0..n {
+fn change_each(t: &mut Tally, rec: &mut [u8]) {
+    for i in 0..rec.len() {
         let byte = rec[i];
-        replace(t, rec, n, i, byte.wrapping_add(1));
-        replace(t, rec, n, i, !byte);
+        replace(t, rec, i, byte.wrapping_add(1));
+        replace(t, rec, i, !byte);
     }
 }
 
-// Counts all damaged copies of the record of n bytes.
-pub fn damage(t: &mut Tally, rec: &mut [u8], n: usize)
-    requires { n < length rec.old }
-{
-    change_each(t, rec, n);
-    for k in 0..n {
+// Counts all damaged copies of the record that is all bytes of a slice but the last.
+pub fn damage(t: &mut Tally, bytes: &mut [u8]) {
+    let Some((last, rec)) = bytes.split_last_mut() else {
+        return;
+    };
+    change_each(t, rec);
+    for k in 0..rec.len() {
         t.record(&rec[..k]);
     }
-    rec[n] = 0;
-    t.record(&rec[..n + 1]);
+    *last = 0;
+    t.record(bytes);
 }

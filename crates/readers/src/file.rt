@@ -2,35 +2,50 @@
 // and record; every other blob is passed over.
 ghost use Rattle.std.specs.Prelude.{◌≤◌, length};
 
+use crate::damage;
+use crate::mix::mix;
 use crate::tally::Tally;
-use crate::{damage, tally};
 use case_files::Head;
+use std::fmt;
+use std::fmt::{Display, Formatter, Write};
 use std::io::Read;
 
 const RECORDS_DAMAGED: u64 = 20;
 
 const LONGEST_DAMAGED: usize = 700;
 
-#[derive(Clone, Copy)]
+#[derive(Clone, Copy, Default)]
 pub struct Counts {
-    pub cases: u64,
-    pub too_long: u64,
-    pub settings: Tally,
-    pub schedules: Tally,
-    pub records: Tally,
-    pub damaged: u64,
-    pub copies: Tally,
+    cases: u64,
+    too_long: u64,
+    settings: Tally,
+    schedules: Tally,
+    records: Tally,
+    damaged: u64,
+    copies: Tally,
 }
 
-const NONE: Counts = Counts {
-    cases: 0,
-    too_long: 0,
-    settings: tally::NONE,
-    schedules: tally::NONE,
-    records: tally::NONE,
-    damaged: 0,
-    copies: tally::NONE,
-};
+impl Display for Counts {
+    fn fmt<W: Write>(&self, f: &mut Formatter<W>) -> fmt::Result {
+        let sum = mix(
+            mix(mix(0, self.settings.sum), self.schedules.sum),
+            self.records.sum,
+        );
+        writeln!(f, "cases {}", self.cases)?;
+        writeln!(f, "too long {}", self.too_long)?;
+        writeln!(f, "settings usable {}", self.settings.readable)?;
+        writeln!(f, "settings unusable {}", self.settings.unreadable)?;
+        writeln!(f, "schedules readable {}", self.schedules.readable)?;
+        writeln!(f, "schedules unreadable {}", self.schedules.unreadable)?;
+        writeln!(f, "records readable {}", self.records.readable)?;
+        writeln!(f, "records unreadable {}", self.records.unreadable)?;
+        writeln!(f, "sum {sum}")?;
+        writeln!(f, "records damaged {}", self.damaged)?;
+        writeln!(f, "damaged copies readable {}", self.copies.readable)?;
+        writeln!(f, "damaged copies unreadable {}", self.copies.unreadable)?;
+        write!(f, "damaged copies sum {}", self.copies.sum)
+    }
+}
 
 // What a blob of a case is.
 #[derive(Clone, Copy)]
@@ -41,6 +56,7 @@ enum Blob {
     Other,
 }
 
+// Kinds are numbers of the files' format. An enum of them, as replay has, would be asked at this place alone.
 fn blob_at(kind: u8, i: u8) -> Blob {
     match (kind, i) {
         (1 | 2, 0) => Blob::Settings,
@@ -50,60 +66,60 @@ fn blob_at(kind: u8, i: u8) -> Blob {
     }
 }
 
-// Counts a record, and if it is short and among the first, its damaged copies.
-fn record(c: &mut Counts, buf: &mut [u8], n: usize)
-    requires { n ≤ length buf.old }
-{
-    c.records.record(&buf[..n]);
-    if n <= LONGEST_DAMAGED && n < buf.len() && c.damaged < RECORDS_DAMAGED {
-        c.damaged += 1;
-        damage::damage(&mut c.copies, buf, n);
+impl Counts {
+    // Counts a record, and if it is short and among the first, its damaged copies. The whole buffer comes with its length, since one of
+    // them takes the byte after it.
+    fn record(&mut self, buf: &mut [u8], n: usize)
+        requires { n ≤ length buf.old }
+    {
+        self.records.record(&buf[..n]);
+        if n <= LONGEST_DAMAGED && n < buf.len() && self.damaged < RECORDS_DAMAGED {
+            self.damaged += 1;
+            damage::damage(&mut self.copies, &mut buf[..n + 1]);
+        }
+    }
+
+    fn count(&mut self, blob: Blob, buf: &mut [u8], n: usize)
+        requires { n ≤ length buf.old }
+    {
+        match blob {
+            Blob::Settings => self.settings.settings(&buf[..n]),
+            Blob::Schedule => self.schedules.schedule(&buf[..n]),
+            Blob::Record => self.record(buf, n),
+            Blob::Other => {}
+        }
+    }
+
+    fn too_long(&mut self, blob: Blob) {
+        if !matches!(blob, Blob::Other) {
+            self.too_long = self.too_long.wrapping_add(1);
+        }
+    }
+
+    // Reads one blob and counts what it is; one that is longer than the buffer is passed over.
+    fn run_blob<R: Read>(&mut self, file: &mut R, blob: Blob, buf: &mut [u8]) {
+        match case_files::read_blob(file, buf, 0) {
+            Some(end) => self.count(blob, buf, end),
+            None => self.too_long(blob),
+        }
+    }
+
+    fn run_case<R: Read>(&mut self, file: &mut R, head: Head, buf: &mut [u8]) {
+        self.cases = self.cases.wrapping_add(1);
+        for i in 0..head.blobs {
+            self.run_blob(file, blob_at(head.kind, i), buf);
+        }
     }
 }
 
-fn count(mut c: Counts, blob: Blob, buf: &mut [u8], n: usize) -> Counts
-    requires { n ≤ length buf.old }
-{
-    match blob {
-        Blob::Settings => c.settings.settings(&buf[..n]),
-        Blob::Schedule => c.schedules.schedule(&buf[..n]),
-        Blob::Record => record(&mut c, buf, n),
-        Blob::Other => {}
-    }
-    c
-}
-
-fn too_long(mut c: Counts, blob: Blob) -> Counts {
-    if !matches!(blob, Blob::Other) {
-        c.too_long = c.too_long.wrapping_add(1);
-    }
-    c
-}
-
-// Reads one blob and counts what it is; one that is longer than the buffer is passed over.
-fn run_blob<R: Read>(c: Counts, file: &mut R, blob: Blob, buf: &mut [u8]) -> Counts {
-    match case_files::read_blob(file, buf, 0) {
-        Some(end) => count(c, blob, buf, end),
-        None => too_long(c, blob),
-    }
-}
-
-fn run_case<R: Read>(mut c: Counts, file: &mut R, head: Head, buf: &mut [u8]) -> Counts {
-    c.cases = c.cases.wrapping_add(1);
-    for i in 0..head.blobs {
-        c = run_blob(c, file, blob_at(head.kind, i), buf);
-    }
-    c
-}
-
-// A proved loop has to end, and nothing says that a file does: so the turns are counted down.
+// A proved loop has to end, and nothing says that a file does: so its turns are numbered, as in replay.
 pub fn run<R: Read>(file: &mut R, buf: &mut [u8]) -> Counts {
-    let mut c = NONE;
+    let mut c = Counts::default();
     for _ in 0..u64::MAX {
         let Some(head) = case_files::read_head(file) else {
             return c;
         };
-        c = run_case(c, file, head, buf);
+        c.run_case(file, head, buf);
     }
     c
 }

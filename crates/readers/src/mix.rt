@@ -41,7 +41,7 @@ pub fn sum_of_set(rows: &[u8]) -> u64 {
     sum
 }
 
-// How many pairs a map has, and each.
+// How many pairs a map has, and each; no sum_of_set, since a set has peers alone, and a map a digest with each.
 #[tactic(auto, using(point::proofs::Maps::map_facts))]
 pub fn sum_of_map(rows: &[u8]) -> u64 {
     let n = map::count(rows, 64);

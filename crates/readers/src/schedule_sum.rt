@@ -13,26 +13,21 @@ pub fn sum_of_settings(c: Settings) -> u64 {
 
 // A number for an answer, 0 for none.
 fn span_number(span: Option<usize>) -> u64 {
-    match span {
-        Some(i) => (i as u64).wrapping_add(1),
-        None => 0,
-    }
+    span.map_or(0, |i| (i as u64).wrapping_add(1))
 }
 
 fn require_number(require: Option<bool>) -> u64 {
-    match require {
-        Some(true) => 2,
-        Some(false) => 1,
-        None => 0,
-    }
+    require.map_or(0, |required| if required { 2 } else { 1 })
 }
 
 fn mix_round(sum: u64, schedule: &PeerSchedule, round: u32) -> u64 {
-    let spans = schedule.spans;
-    let span = mix(sum, span_number(schedule::span_for(spans, round)));
-    let peers = mix(span, sum_of_set(schedule.peers_for(round)));
-    let require = schedule::require_regular_points(spans, round);
-    mix(peers, require_number(require))
+    let span = schedule.schedule.span_for(round);
+    let peers = sum_of_set(schedule.peers_for(round));
+    let require = schedule.schedule.require_regular_points(round);
+    mix(
+        mix(mix(sum, span_number(span)), peers),
+        require_number(require),
+    )
 }
 
 // What the schedule answers from five rounds before a round to one after it.
@@ -50,7 +45,7 @@ pub fn sum_of_schedule(schedule: &PeerSchedule) -> u64 {
         spans,
         count,
         last_known,
-    } = schedule.spans;
+    } = schedule.schedule;
     let mut sum = mix(0, count as u64);
     for span in spans.iter().take(count) {
         sum = mix_around(sum, schedule, span.first);

@@ -3,18 +3,12 @@ use crate::mix::{mix, mix_option};
 use crate::point_sum::sum_of_point;
 use crate::schedule_sum::{sum_of_schedule, sum_of_settings};
 
-#[derive(Clone, Copy)]
+#[derive(Clone, Copy, Default)]
 pub struct Tally {
     pub readable: u64,
     pub unreadable: u64,
     pub sum: u64,
 }
-
-pub const NONE: Tally = Tally {
-    readable: 0,
-    unreadable: 0,
-    sum: 0,
-};
 
 impl Tally {
     // One more, by the sum of what was read.

@@ -1,5 +1,5 @@
 // What verification finds: IllFormedReason, VerifyError and StructureIssue.
-ghost use Rattle.std.specs.Prelude.{◌≡◌};
+ghost use Rattle.std.specs.Prelude.{◌≡◌, ◌&&◌, leb};
 ghost use Rattle.reasons.specs.IllFormed.{ill_formed_number};
 ghost use Rattle.reasons.specs.declared.ill_formed.IllFormedReason.TheVariants.{Structure};
 ghost use Rattle.reasons.specs.declared.ill_formed.VerifyError.TheVariants.{IllFormed};
@@ -81,11 +81,20 @@ impl From<StructureIssue> for VerifyError {
 }
 
 // What Verifier::check_ill_formed finds: a round outside the schedule's horizon, a fault, or sound; then whether regular points are required.
+// No Option<Result<bool, _>>, which is no plainer: judging refuses at the first and has a verdict at the second, so neither is an error of the
+// other, and each of the three is asked by its name.
 #[derive(Clone, Copy)]
 pub enum WaveChecked {
     Horizon,
     IllFormed(IllFormedReason),
     Sound(bool),
+}
+
+// Whether a number counts a reason of IllFormedReason. Lists and books carry it by its number alone.
+pub fn is_ill_formed(number: u8) -> bool
+    ensures { result ≡ (leb 1 number && leb number 16) }
+{
+    (1..=16).contains(&number)
 }
 
 impl IllFormedReason {

@@ -6,7 +6,9 @@ mod invalid;
 mod refusal;
 mod verdict;
 
-pub use ill_formed::{IllFormedReason, StructureIssue, UninitVset, VerifyError, WaveChecked};
+pub use ill_formed::{
+    IllFormedReason, StructureIssue, UninitVset, VerifyError, WaveChecked, is_ill_formed,
+};
 pub use invalid::{InvalidDependency, InvalidReason, dag_round, has_dag_round};
 pub use refusal::Refusal;
 pub use verdict::Verdict;

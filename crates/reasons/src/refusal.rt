@@ -5,37 +5,24 @@ ghost use Rattle.reasons.specs.Refusal.{refusal_number};
 // Document 01's numbers 1 to 12, in their order and by its names.
 #[derive(Clone, Copy, PartialEq, Eq)]
 pub enum Refusal {
-    Settings,
-    Schedule,
-    Record,
-    Domain,
-    Short,
-    Horizon,
-    Entries,
-    Mismatch,
-    Uncovered,
-    Book,
-    Kept,
-    Full,
+    Settings = 1,
+    Schedule = 2,
+    Record = 3,
+    Domain = 4,
+    Short = 5,
+    Horizon = 6,
+    Entries = 7,
+    Mismatch = 8,
+    Uncovered = 9,
+    Book = 10,
+    Kept = 11,
+    Full = 12,
 }
 
 impl Refusal {
     pub fn number(self) -> u8
         ensures { result ≡ refusal_number self }
     {
-        match self {
-            Refusal::Settings => 1,
-            Refusal::Schedule => 2,
-            Refusal::Record => 3,
-            Refusal::Domain => 4,
-            Refusal::Short => 5,
-            Refusal::Horizon => 6,
-            Refusal::Entries => 7,
-            Refusal::Mismatch => 8,
-            Refusal::Uncovered => 9,
-            Refusal::Book => 10,
-            Refusal::Kept => 11,
-            Refusal::Full => 12,
-        }
+        self as u8
     }
 }

@@ -191,9 +191,6 @@ module _ (s : List ℕ) (w : well_shaped s ≡ true) (k : ℕ) (h : k < 9) where
   pub field : Fitting (row_of k) s (start_of s k)
   field = front-field s (length s) (shaped-end s w) k h
 
-  pub field-within : (at : ℕ) → at ≡ start_of s k → at + 3 + length_at s at ≤ length s
-  field-within at e = rw e field.end
-
   pub content-least : (row_of k).least ≤ length (content_of s k)
   unfolding content_of
   content-least = omega (arith, field.least, field.content)

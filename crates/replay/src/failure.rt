@@ -11,7 +11,7 @@ pub enum Difference<'a> {
     Opening,
 }
 
-// With no room for a case no call was made, so nothing was found different.
+// With no room for a case, or a blob of a length that its call doesn't take, no call was made, so nothing was found different.
 #[derive(Drop)]
 pub enum Failure<'a> {
     NoRoom,

@@ -19,7 +19,7 @@ pub struct Book {
     pub len: usize,
 }
 
-// Where a case is read, the peers that a call hands back, the book that offers go to, and another book.
+// Where a case is read, the peers that a call hands back, the book that offers go to, and another book: fixed memory as well.
 #[derive(Drop)]
 pub struct Room {
     case: [u8; CASE_ROOM],

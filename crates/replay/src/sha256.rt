@@ -38,13 +38,19 @@ fn majority(a: u32, b: u32, c: u32) -> u32 {
     a & b ^ a & c ^ b & c
 }
 
-// The words of a block's rounds: its own, and then each from those before it.
-fn round_words(block: &[u8; 64]) -> [u32; 64] {
+// A block's own 16 words, and 0 for the others.
+fn own_words(block: &[u8; 64]) -> [u32; 64] {
     let mut words = [0u32; 64];
     let (own, _) = block.as_chunks::<4>();
     for (word, four) in words.iter_mut().zip(own) {
         *word = u32::from_be_bytes(*four);
     }
+    words
+}
+
+// The words of a block's rounds: its own, and then each from those before it.
+fn round_words(block: &[u8; 64]) -> [u32; 64] {
+    let mut words = own_words(block);
     for t in 16..64usize {
         words[t] = words[t - 16]
             .wrapping_add(turned_0(words[t - 15]))
@@ -74,19 +80,29 @@ fn round(state: [u32; 8], constant: u32, word: u32) -> [u32; 8] {
     ]
 }
 
+// The state after a block's rounds.
+fn run_rounds(start: [u32; 8], block: &[u8; 64]) -> [u32; 8] {
+    ROUNDS.iter().zip(round_words(block)).fold(
+        start,
+        |state, (constant, word)| round(state, *constant, word),
+    )
+}
+
+// Word by word.
+fn add_states(state: [u32; 8], other: [u32; 8]) -> [u32; 8] {
+    let mut sum = state;
+    for (word, more) in sum.iter_mut().zip(other) {
+        *word = word.wrapping_add(more);
+    }
+    sum
+}
+
 // The state after more blocks.
 fn add_blocks(start: [u32; 8], blocks: &[[u8; 64]]) -> [u32; 8] {
-    let mut state = start;
-    for block in blocks {
-        let before = state;
-        for (constant, word) in ROUNDS.iter().zip(round_words(block)) {
-            state = round(state, *constant, word);
-        }
-        for (word, old) in state.iter_mut().zip(before) {
-            *word = word.wrapping_add(old);
-        }
-    }
-    state
+    blocks.iter().fold(
+        start,
+        |state, block| add_states(state, run_rounds(state, block)),
+    )
 }
 
 pub fn digest(message: &[u8]) -> [u8; 32] {

@@ -6,8 +6,5 @@ mod schedule;
 mod settings;
 
 pub use peer_schedule::PeerSchedule;
-pub use schedule::{
-    LAST_KNOWN, SPAN, Schedule, Span, peers_for, read_peer_schedule, read_schedule,
-    require_regular_points, span_for,
-};
+pub use schedule::{LAST_KNOWN, SPAN, Schedule, Span, read_peer_schedule, read_schedule};
 pub use settings::{Settings, read_settings};

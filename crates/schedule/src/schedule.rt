@@ -26,7 +26,7 @@ pub struct Schedule {
     pub last_known: u32,
 }
 
-// The spans at the front of a schedule's bytes, and where they end.
+// The spans at the front of a schedule's bytes, and where they end. There is no heap: room for four spans, of which `count` are read.
 #[derive(Clone, Copy)]
 struct ReadSpans {
     spans: [Span; 4],
@@ -53,7 +53,7 @@ const NO_SPAN: Span = Span {
     peers: 0,
 };
 
-// The span at a place, if one stands there.
+// The span at a place, if one stands there. Its place is asked to lie in the slice, as in record's `next`.
 #[tactic(auto, unfolding(crate::specs::Schedule::span_ok))]
 fn span_at(s: &[u8], at: usize) -> Option<Span>
     requires { at ≤ length s.now }
@@ -131,20 +131,8 @@ pub fn read_schedule(s: &[u8]) -> Option<Schedule>
 pub fn read_peer_schedule(s: &[u8]) -> Option<PeerSchedule<'_>>
     ensures { ScheduleRead s.now result }
 {
-    let spans = read_schedule(s)?;
-    Some(PeerSchedule { bytes: s, spans })
-}
-
-// The span that a round belongs to: the last that starts at or before it.
-pub fn span_for(c: Schedule, round: u32) -> Option<usize>
-    ensures { (s : List ℕ) → result ≡ span_for (schedule_of s c) round }
-{
-    if c.last_known < round {
-        return None;
-    }
-    c.spans[..c.count.min(c.spans.len())]
-        .iter()
-        .rposition(|span| span.first <= round)
+    let schedule = read_schedule(s)?;
+    Some(PeerSchedule { bytes: s, schedule })
 }
 
 // A part of a slice, as much of it as there is.
@@ -155,25 +143,40 @@ fn part(s: &[u8], at: usize, n: usize) -> &[u8]
     &rest[..n.min(rest.len())]
 }
 
-// The peers of a round, as a part of the schedule's bytes.
-pub fn peers_for(s: &[u8], c: Schedule, round: u32) -> &[u8]
-    ensures same { peers_of 32 result.now ≡ peers_for (schedule_of s.now c) round }
-    ensures bytes { result.now ≡ peer_bytes s.now c round }
-{
-    match span_for(c, round) {
-        Some(i) => {
-            let span = c.spans[i];
-            part(s, span.place, 32 * span.peers as usize)
+impl Schedule {
+    // The span that a round belongs to: the last that starts at or before it.
+    pub fn span_for(&self, round: u32) -> Option<usize>
+        ensures { (s : List ℕ) → result ≡ span_for (schedule_of s self.now) round }
+    {
+        if self.last_known < round {
+            return None;
         }
-        None => &[],
+        self.spans[..self.count.min(self.spans.len())]
+            .iter()
+            .rposition(|span| span.first <= round)
     }
-}
 
-// Whether only regular points may stand at a round: where it and the round four later are in different spans.
-pub fn require_regular_points(c: Schedule, round: u32) -> Option<bool>
-    ensures { (s : List ℕ) → result ≡ require_regular_points (schedule_of s c) round }
-{
-    let i = span_for(c, round)?;
-    let j = span_for(c, round.checked_add(parts::WAVE_ROUNDS)?)?;
-    Some(i != j)
+    // The peers of a round, as a part of the schedule's bytes.
+    pub fn peers_for<'a>(&self, s: &'a [u8], round: u32) -> &'a [u8]
+        ensures same { peers_of 32 result.now ≡ peers_for (schedule_of s.now self.now) round }
+        ensures bytes { result.now ≡ peer_bytes s.now self.now round }
+    {
+        match self.span_for(round) {
+            Some(i) => {
+                let span = self.spans[i];
+                part(s, span.place, 32 * span.peers as usize)
+            }
+            None => &[],
+        }
+    }
+
+    // Whether only regular points may stand at a round: where it and the round four later are in different spans. By value: with `&self`
+    // the proof didn't close that the last known round, which is not read here, fits its 32 bits.
+    pub fn require_regular_points(self, round: u32) -> Option<bool>
+        ensures { (s : List ℕ) → result ≡ require_regular_points (schedule_of s self) round }
+    {
+        let i = self.span_for(round)?;
+        let j = self.span_for(round.checked_add(parts::WAVE_ROUNDS)?)?;
+        Some(i != j)
+    }
 }

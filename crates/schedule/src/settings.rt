@@ -27,7 +27,7 @@ const SETTINGS: Row = Row {
 fn are_in_limits(c: Settings) -> bool
     ensures { result ≡ in_limits (settings_of c) }
 {
-    (parts::FIRST_ROUND..=parts::LAST_ROUND).contains(&c.genesis_round)
+    parts::is_round(c.genesis_round)
         && 1 <= c.payload_batch_bytes
         && 1 <= c.clock_skew_millis
         && 1 <= c.commit_history_rounds

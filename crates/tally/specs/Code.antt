@@ -4,8 +4,8 @@ use Rattle.parts.specs.Limits.{settings_length}
 use Rattle.tally_feed.specs.Tally.{Step, over, last, point, step}
 use Rattle.tally.specs.declared.window.Window.{Window}
 use Rattle.tally.specs.declared.points.State.{State}
-use Rattle.tally.specs.declared.points.Turn as code-turn
-use Rattle.tally.specs.declared.points.Turn.TheVariants as case-turn
+use Rattle.tally_feed.specs.declared.next.Next as code-next
+use Rattle.tally_feed.specs.declared.next.Next.TheVariants as case-next
 
 -- ---- the window: the part of standard input that is at hand. What a read puts into the buffer is the system's to say; where it
 -- stands there, and that what was at hand stays at hand, is said here.
@@ -47,20 +47,20 @@ first_state w start = record { window = without w start; place = 1; schedule_len
 abbrev pub next_state : State → ℕ → State
 next_state s size = record { window = without s.window size; place = s.place + 1; schedule_len = s.schedule_len }
 
-abbrev pub turn_of : State → Step → code-turn.Turn
-turn_of s over = case-turn.Over
-turn_of s (last l r) = case-turn.Last l
-turn_of s (point l size r) = case-turn.Point l (next_state s size)
+abbrev pub turn_of : State → Step → code-next.Next State
+turn_of s over = case-next.Over
+turn_of s (last l r) = case-next.Last l
+turn_of s (point l size r) = case-next.Point l (next_state s size)
 
 -- a state's window lies in a buffer of len bytes, and its schedule in one of room bytes
 abbrev pub Stands : ℕ → ℕ → State → Type 0
 Stands len room s = Lies len s.window × (s.schedule_len ≤ room)
 
 -- so does the state that a turn leads to
-abbrev pub Leads : ℕ → ℕ → code-turn.Turn → Type 0
-Leads len room case-turn.Over = Unit
-Leads len room (case-turn.Last l) = Unit
-Leads len room (case-turn.Point l s) = Stands len room s
+abbrev pub Leads : ℕ → ℕ → code-next.Next State → Type 0
+Leads len room case-next.Over = Unit
+Leads len room (case-next.Last l) = Unit
+Leads len room (case-next.Point l s) = Stands len room s
 
 -- the step over what is at hand
 abbrev pub step_from : State → List ℕ → List ℕ → List ℕ → List ℕ → Step

@@ -9,14 +9,16 @@ mod window;
 ghost use Rattle.tally.specs.Code.{Stands};
 
 use failure::Failure;
-use points::{State, Turn};
+use points::State;
 use std::io::Read;
+use tally_feed::Next;
 
 const BOOK: usize = 65536;
 
 // The longest schedule: four spans of 255 peers, and the last known round.
 const SCHEDULE: usize = 32675;
 
+// There is no heap: fixed memory of document 01's book, the longest schedule, the longest list of peers, and a part of the input.
 #[derive(Drop)]
 struct Memory {
     book: [u8; BOOK],
@@ -44,11 +46,10 @@ fn print_points<R: Read>(
     let mut s = first;
     while s.place < u64::MAX {
         let window = window::refill(input, buf, s.window).map_err(Failure::Input)?;
-        let turn = points::take_turn(book, schedule, peers, buf, State { window, ..s });
-        match turn {
-            Turn::Over => return Ok(()),
-            Turn::Last(line) => return print::line(rt, line),
-            Turn::Point { line, next } => {
+        match points::take_turn(book, schedule, peers, buf, State { window, ..s }) {
+            Next::Over => return Ok(()),
+            Next::Last(line) => return print::line(rt, line),
+            Next::Point(line, next) => {
                 print::line(rt, line)?;
                 s = next;
             }

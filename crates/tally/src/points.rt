@@ -7,22 +7,14 @@ ghost use Rattle.tally.specs.Code.{at_hand, first_state, turn_of, Stands, Leads,
 use crate::window;
 use crate::window::Window;
 use tally_feed::Next;
-use tally_line::Line;
 
-// Where the program stands: what is at hand, the place of the next line, and how many bytes of the schedule's buffer are the schedule.
+// Where the program stands: what is at hand, the place of the next line, and how many bytes of the schedule's buffer are the
+// schedule: fixed memory, see Memory in main.rt.
 #[derive(Clone, Copy)]
 pub struct State {
     pub window: Window,
     pub place: u64,
     pub schedule_len: usize,
-}
-
-// What a turn gives: nothing, at the feed's end; the last line; or a line, and where the next turn stands.
-#[derive(Clone, Copy)]
-pub enum Turn {
-    Over,
-    Last(Line),
-    Point { line: Line, next: State },
 }
 
 // Where the first turn stands, of points that begin at a place of the first window, after settings and a schedule. The schedule's
@@ -42,8 +34,14 @@ pub fn begin_points(schedule: &mut [u8], buf: &[u8], w: Window, start: usize) ->
     }
 }
 
-// Offers the next point at hand to the book.
-pub fn take_turn(book: &mut [u8], schedule: &[u8], peers: &mut [u8], buf: &[u8], s: State) -> Turn
+// Offers the next point at hand to the book, and says where the next turn stands.
+pub fn take_turn(
+    book: &mut [u8],
+    schedule: &[u8],
+    peers: &mut [u8],
+    buf: &[u8],
+    s: State,
+) -> Next<State>
     requires { Stands (length buf.now) (length schedule.now) s × (s.place < 18446744073709551615) }
     ensures same { result ≡ turn_of s (step_from s schedule.now book.old peers.old buf.now) }
     ensures left { book.new ≡ book_after book.old
@@ -53,20 +51,17 @@ pub fn take_turn(book: &mut [u8], schedule: &[u8], peers: &mut [u8], buf: &[u8],
     ensures leads { Leads (length buf.now) (length schedule.now) result }
 {
     let w = s.window;
-    let start = w.start;
-    let end = w.end;
-    let n = s.schedule_len;
-    let next = tally_feed::next_point(book, &schedule[..n], s.place, &buf[start..end], peers);
-    match next {
-        Next::Over => Turn::Over,
-        Next::Last(line) => Turn::Last(line),
-        Next::Point { line, size } => Turn::Point {
+    let schedule = &schedule[..s.schedule_len];
+    match tally_feed::next_point(book, schedule, s.place, &buf[w.start..w.end], peers) {
+        Next::Over => Next::Over,
+        Next::Last(line) => Next::Last(line),
+        Next::Point(line, size) => Next::Point(
             line,
-            next: State {
+            State {
                 window: window::after(w, size),
                 place: s.place + 1,
-                schedule_len: n,
+                ..s
             },
-        },
+        ),
     }
 }

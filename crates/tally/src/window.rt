@@ -13,7 +13,7 @@ const ENOUGH: usize = 41127;
 pub const ROOM: usize = 65536;
 
 // What was read and not used yet stands in a buffer from a start to an end. Nothing follows it if it is all: a fact of the input,
-// on which neither place depends.
+// on which neither place depends. Places, and no slice: the buffer is refilled.
 #[derive(Clone, Copy)]
 pub struct Window {
     pub start: usize,
@@ -21,8 +21,9 @@ pub struct Window {
     pub is_all: bool,
 }
 
-// Reads after the n bytes at the front until the buffer is full, or the input ends. `read_to_end` wants memory that grows, and
-// `read_exact` does not say how much it read, so the loop stands here.
+// Reads after the n bytes at the front until the buffer is full, or the input ends. The whole buffer comes with n, since the window's
+// places are those of the buffer. `read_to_end` wants memory that grows, and `read_exact` does not say how much it read, so the loop
+// stands here.
 fn read_after<R: Read>(input: &mut R, buf: &mut [u8], n: usize) -> io::Result<Window>
     requires { n ≤ length buf.old }
     ensures front { take n buf.new ≡ take n buf.old }

@@ -206,7 +206,7 @@ step-offer schedule book peers place [] n h e = absurd (h refl)
 step-offer schedule book peers place (x ∷ s) n h e = ap (λ (k : ℕ). offered schedule book peers place x (suc k) (take k s)) (sym e)
 
 -- what a step gives, as its contract says it
-abbrev pub Gives : List ℕ → List ℕ → ℕ → Step → code-next.Next → List ℕ → List ℕ → Type 0
+abbrev pub Gives : List ℕ → List ℕ → ℕ → Step → code-next.Next ℕ → List ℕ → List ℕ → Type 0
 Gives book peers len t r book' peers' = (r ≡ next_of t) × ((book' ≡ book_after book t) × ((peers' ≡ peers_after peers t) × Within len r))
 
 module _ (book peers : List ℕ) (len : ℕ) where

@@ -5,7 +5,7 @@ use Rattle.tally_feed.specs.Tally.{Front, Step, over, last, point}
 use Rattle.tally_feed.specs.declared.next.Next as code-next
 use Rattle.tally_feed.specs.declared.next.Next.TheVariants as case-next
 
-abbrev pub next_of : Step → code-next.Next
+abbrev pub next_of : Step → code-next.Next ℕ
 next_of over = case-next.Over
 next_of (last l r) = case-next.Last l
 next_of (point l size r) = case-next.Point l size
@@ -27,7 +27,7 @@ Begins feed (Err n) = Unit
 Begins feed (Ok n) = (settings_length ≤ n) × (n ≤ length feed) × (n ≤ 32722)
 
 -- a point ends within a feed
-abbrev pub Within : ℕ → code-next.Next → Type 0
+abbrev pub Within : ℕ → code-next.Next ℕ → Type 0
 Within len case-next.Over = Unit
 Within len (case-next.Last l) = Unit
 Within len (case-next.Point l size) = size ≤ len

@@ -8,7 +8,7 @@ use Rattle.tally_feed.specs.Tally.{tally_room, refused_line, Front, begin, begun
 use Rattle.tally_feed.specs.Code.{next_of, book_after, peers_after}
 
 -- a call of `next_point` gave this and left the book and the peer buffer so: the program ends, or goes on after its line and point
-abbrev pub next_then : (List ℕ → List ℕ → List ℕ → Tally) → List ℕ → List ℕ → List ℕ → code-next.Next → Tally
+abbrev pub next_then : (List ℕ → List ℕ → List ℕ → Tally) → List ℕ → List ℕ → List ℕ → code-next.Next ℕ → Tally
 next_then again book peers feed case-next.Over = record { lines = []; book = book }
 next_then again book peers feed (case-next.Last l) = record { lines = l ∷ []; book = book }
 next_then again book peers feed (case-next.Point l size) = line_then l (again book peers (drop size feed))

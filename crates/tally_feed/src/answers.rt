@@ -7,7 +7,7 @@ ghost use Rattle.tally_feed.specs.Tally.{verdict_line, line_of, refused_line};
 use reasons::{Refusal, Verdict};
 use tally_line::Line;
 
-// No From, since a line has its place and round too.
+// No From, since a line has its place and round too. They stay apart: each is a field of the line that is made here.
 fn of_verdict(place: u64, round: u32, v: Verdict) -> Line
     ensures { result ≡ verdict_line place round (verdict_of v) }
 {

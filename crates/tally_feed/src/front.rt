@@ -8,17 +8,13 @@ ghost use Rattle.tally_feed.specs.Code.{Begins};
 use reasons::Refusal;
 use schedule::{LAST_KNOWN, SPAN};
 
-// Where the last known round at a place ends.
+// Where the last known round at a place ends. The place is asked to lie in the slice, as in record's `next`.
 #[tactic(auto, unfolding(record::specs::Record::end_from))]
 fn last_known_end(s: &[u8], at: usize) -> Option<usize>
     requires { at ≤ length s.now }
     ensures { result ≡ last_known_end s.now at }
 {
-    if record::field_ok(s, at, LAST_KNOWN) {
-        Some(record::next(s, at))
-    } else {
-        None
-    }
+    record::field_ok(s, at, LAST_KNOWN).then_some(record::next(s, at))
 }
 
 // Where the schedule at the front of a slice ends.
@@ -26,7 +22,7 @@ pub fn schedule_end(s: &[u8]) -> Option<usize>
     ensures { result ≡ schedule_end s.now }
 {
     let mut at = 0;
-    for spans in 0..4usize {
+    for _ in 0..4usize {
         if !record::field_ok(s, at, SPAN) {
             return last_known_end(s, at);
         }

@@ -7,12 +7,14 @@ use crate::answers;
 use id_index::Index;
 use tally_line::Line;
 
-// What comes next: nothing, the line of a record that can't be read, or a line and how many bytes its point takes.
+// What comes next: nothing, the line of a record that can't be read, or a point's line and what goes on after it: here how many bytes
+// the point takes, and in the program where its next turn stands. No Option<(Line, Option<T>)>, which is no plainer: its two ends
+// differ, and each has its name here.
 #[derive(Clone, Copy)]
-pub enum Next {
+pub enum Next<T> {
     Over,
     Last(Line),
-    Point { line: Line, size: usize },
+    Point(Line, T),
 }
 
 // How many bytes the record at the front of a slice takes: all of them where none ends there.
@@ -30,7 +32,7 @@ pub fn next_point(
     place: u64,
     feed: &[u8],
     peers: &mut [u8],
-) -> Next
+) -> Next<usize>
     ensures same { result ≡ next_of (step schedule.now book.old peers.old place feed.now) }
     ensures left { book.new ≡ book_after book.old
         (step schedule.now book.old peers.old place feed.now) }
@@ -38,28 +40,23 @@ pub fn next_point(
         (step schedule.now book.old peers.old place feed.now) }
     ensures within { Within (length feed.now) result }
 {
-    if feed.len() == 0 {
+    if feed.is_empty() {
         return Next::Over;
     }
     let size = record_size(&feed[1..]) + 1;
     let rec = &feed[1..size];
     let answer = book::offer(book, schedule, feed[0], rec, peers);
     match point::read_point(rec) {
-        Some(point) => Next::Point {
-            line: answers::line_of(place, point.info.id.round, answer),
-            size,
-        },
+        Some(point) => { Next::Point(answers::line_of(place, point.info.id.round, answer), size) }
         None => Next::Last(answers::line_of(place, 0, answer)),
     }
 }
 
-// How many points a book keeps.
+// How many points a book keeps, and 0 of bytes that are no book, as the line `end 0` says.
+#[tactic(auto, unfolding(crate::specs::Tally::kept_in))]
 pub fn kept(book: &[u8]) -> usize
     ensures { result ≡ kept_in book.now }
 {
     let mut index = Index::new();
-    match book_read::read_book(book, &mut index) {
-        Some(_) => index.count(),
-        None => 0,
-    }
+    book_read::read_book(book, &mut index).map_or(0, |_| index.count())
 }

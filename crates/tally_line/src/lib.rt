@@ -6,6 +6,7 @@ ghost use Rattle.io.specs.Counts.{IsPrefixLen};
 ghost use Rattle.tally_line.specs.Text.{decimal, line_bytes, end_bytes};
 ghost use Rattle.tally_line.specs.Code.{Put};
 
+// The letter is a byte: a type of the six would ask more of callers.
 #[derive(Clone, Copy)]
 pub struct Line {
     pub place: u64,
@@ -14,6 +15,8 @@ pub struct Line {
     pub reason: u8,
     pub number: u8,
 }
+
+// No Display: `{}` writes text and may fail, where a letter may be any byte and a line's bytes are always there.
 
 // As many bytes as four numbers of 20 digits, a letter, the spaces between them and the line's end take.
 pub const LONGEST: usize = 86;

@@ -16,7 +16,7 @@ use point::Point;
 use reasons::{Refusal, VerifyError};
 use schedule::{PeerSchedule, Settings};
 
-// BasicVerifier::verify, of input that was read.
+// BasicVerifier::verify, of input that was read. The buffer's room is asked for as verify_peers does.
 #[tactic(auto, using(crate::proofs::Laws::verify_facts))]
 pub fn verify_point(
     conf: Settings,
@@ -33,7 +33,8 @@ pub fn verify_point(
     verify_peers::check_peers(conf, schedule, point, peers)
 }
 
-// Numbers 1 to 5 in number order, then the verdict.
+// Numbers 1 to 5 in number order, then the verdict. The tests of 2 to 5 stand in judge and in book too: a function of them that hands out
+// schedule and point copies both, and verifying 4 peers takes 3,025 instructions with it in place of 2,500.
 #[tactic(auto, unfolding(rules::specs::Judge::tested))]
 pub fn verify(
     settings: &[u8],

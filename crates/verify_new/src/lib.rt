@@ -3,13 +3,15 @@
 
 ghost use Rattle.std.specs.Prelude.{◌≡◌, List, ℕ, is_some};
 ghost use Rattle.std.specs.Result.{result_err};
-ghost use Rattle.base.specs.Base.{concat, first_of};
+ghost use Rattle.base.specs.Base.{when, concat, first_of};
 ghost use Rattle.parts.specs.Code.{number};
 ghost use Rattle.map.specs.Rows.{find};
 ghost use Rattle.schedule.specs.Code.{settings_of};
 ghost use Rattle.schedule.specs.PeerSchedule.{peer_schedule_of};
 ghost use Rattle.schedule.specs.Schedule.{peers_for};
 ghost use Rattle.point.specs.Code.{link_of, point_of};
+ghost use Rattle.reasons.specs.declared.ill_formed.IllFormedReason.TheVariants.{UnknownPeerInAnchorLink};
+ghost use Rattle.reasons.specs.declared.ill_formed.VerifyError.TheVariants.{IllFormed};
 ghost use Rattle.rules.specs.Verify.{bad_count, unknown_target, vset_row, new_rows};
 
 use parts::{Id, PeerCount};
@@ -68,6 +70,22 @@ fn is_unknown_target(schedule: &PeerSchedule, link: AnchorLink) -> bool
     }
 }
 
+// The target of a link of a role.
+#[tactic(auto, using(base::proofs::Firsts::row_steps))]
+fn check_target(
+    schedule: &PeerSchedule,
+    link: AnchorLink,
+    role: AnchorStageRole,
+) -> Result<(), VerifyError>
+    ensures { result_err result ≡ first_of
+        (when (unknown_target (peer_schedule_of schedule.now) (link_of link)) (IllFormed (UnknownPeerInAnchorLink role))) }
+{
+    if is_unknown_target(schedule, link) {
+        return Err(IllFormedReason::UnknownPeerInAnchorLink(role).into());
+    }
+    Ok(())
+}
+
 // The checks of `new`, of a point whatever its maps.
 #[tactic(auto, unfolding(rules::specs::Verify::new_rows), using(base::proofs::Firsts::row_steps))]
 pub fn check_new(
@@ -90,11 +108,6 @@ pub fn check_new(
     check_vset(conf, schedule, prev, PointMap::Includes)?;
     let before_prev = parts::rounds_back(round, 2);
     check_vset(conf, schedule, before_prev, PointMap::Witness)?;
-    if is_unknown_target(schedule, info.anchor_proof) {
-        return Err(IllFormedReason::UnknownPeerInAnchorLink(AnchorStageRole::Proof).into());
-    }
-    if is_unknown_target(schedule, info.anchor_trigger) {
-        return Err(IllFormedReason::UnknownPeerInAnchorLink(AnchorStageRole::Trigger).into());
-    }
-    Ok(())
+    check_target(schedule, info.anchor_proof, AnchorStageRole::Proof)?;
+    check_target(schedule, info.anchor_trigger, AnchorStageRole::Trigger)
 }

@@ -22,7 +22,7 @@ use point::{Point, PointMap};
 use reasons::{IllFormedReason, VerifyError};
 use schedule::{PeerSchedule, Settings};
 
-// F of a scheduled set: it has one peer at genesis.
+// F of a scheduled set: it has one peer at genesis. Not `TryFrom`, which refuses a set of one.
 fn one_f(total: usize) -> PeerCount
     requires { total ≤ 255 }
     ensures { result.0 ≡ one_f total }
@@ -76,8 +76,8 @@ fn check_enough(
 }
 
 // Evidence, checked against the peers of the point's own round. The three maps have no function in common: each asks
-// something that the others don't. Settings, schedule and point stay apart: no fact joins them, and a struct of them would be
-// made for check_peers alone.
+// something that the others don't. Settings, schedule and point stay apart: no fact joins them, and before
+// this check_new takes the point's info alone and check_well_formed no schedule.
 #[tactic(auto, unfolding(rules::specs::Verify::evidence_rows, rules::specs::Verify::scheduled), using(crate::proofs::Laws::peer_facts))]
 fn check_evidence_peers(
     conf: Settings,

@@ -11,12 +11,11 @@ use std::cmp::Ordering;
 
 // How the scheduled peer at a position stands to the peer of a row; past the last it counts as greater.
 #[tactic(auto, unfolding(crate::specs::Code::order_at))]
-fn order_at(scheduled: &[u8], j: usize, m: usize, rows: &[u8], width: usize, i: usize) -> Ordering
-    requires m_value { m ≡ length (peers_of 32 scheduled.now) }
-    requires le_width { (32 ≤ width) × (i < length (peers_of width rows.now)) }
+fn order_at(scheduled: &[u8], j: usize, rows: &[u8], width: usize, i: usize) -> Ordering
+    requires { (32 ≤ width) × (i < length (peers_of width rows.now)) }
     ensures { result ≡ order_at (peers_of 32 scheduled.now) j (get_or (peers_of width rows.now) i 0) }
 {
-    if j < m {
+    if j < map::count(scheduled, 32) {
         return map::compare_rows(scheduled, 32, j, rows, width, i);
     }
     Ordering::Greater
@@ -36,12 +35,11 @@ pub fn unknown_peers(rows: &[u8], width: usize, scheduled: &[u8], out: &mut [u8]
         (peer_bytes (unknown_in (peers_of 32 scheduled.now) (peers_of width rows.now))) }
 {
     let n = map::count(rows, width);
-    let m = map::count(scheduled, 32);
     let mut i = 0;
     let mut j = 0;
     let mut found = 0;
     while i < n {
-        match order_at(scheduled, j, m, rows, width, i) {
+        match order_at(scheduled, j, rows, width, i) {
             Ordering::Less => j += 1,
             Ordering::Equal => {
                 i += 1;

@@ -4,11 +4,12 @@
 ghost use Rattle.std.specs.Prelude.{◌≡◌};
 ghost use Rattle.std.specs.Result.{result_err};
 ghost use Rattle.parts.specs.Code.{number};
-ghost use Rattle.base.specs.Base.{concat, first_of};
-ghost use Rattle.point.specs.Point.{sticky_anchors};
+ghost use Rattle.base.specs.Base.{when, concat, first_of};
+ghost use Rattle.point.specs.Point.{sticky_anchors, anchor_link, through, point_map};
 ghost use Rattle.point.specs.Code.{link_of};
 ghost use Rattle.point.specs.Said.{said};
 ghost use Rattle.schedule.specs.Code.{settings_of};
+ghost use Rattle.reasons.specs.declared.ill_formed.StructureIssue.TheVariants.{Link};
 ghost use Rattle.rules.specs.Verify.{links_own, genesis_structure_rows, target_too_new, bad_link, own_point_rows, link_rows};
 ghost use Rattle.rules.specs.Verify.{structure_rows, genesis_rows, sticky_fault, above_rows, well_formed_rows};
 
@@ -90,29 +91,31 @@ fn check_own_points(point: &Point) -> Result<(), StructureIssue>
     Ok(())
 }
 
+// One anchor link.
+#[tactic(auto, using(crate::proofs::Laws::point_rows))]
+fn check_link(point: &Point, role: AnchorStageRole) -> Result<(), StructureIssue>
+    ensures { result_err result ≡ first_of (when (bad_link (said point.now) (anchor_link role (said point.now)))
+        (Link role (point_map (through (anchor_link role (said point.now)))))) }
+{
+    let link = point.info.anchor_link(role);
+    if is_bad_link(point, link) {
+        let map = link.through().into();
+        return Err(StructureIssue::Link { role, map });
+    }
+    Ok(())
+}
+
 // The anchor links and the times.
 #[tactic(auto, unfolding(rules::specs::Verify::link_rows), using(crate::proofs::Laws::point_rows))]
 fn check_links(point: &Point) -> Result<(), StructureIssue>
     ensures { result_err result ≡ first_of (concat (link_rows (said point.now))) }
 {
     let info = &point.info;
-    let proof = info.anchor_proof;
-    if info.role.is_anchor_trigger() && !links_own(info.id.author, proof) {
+    if info.role.is_anchor_trigger() && !links_own(info.id.author, info.anchor_proof) {
         return Err(StructureIssue::TriggerBadProofLink);
     }
-    if is_bad_link(point, proof) {
-        return Err(StructureIssue::Link {
-            role: AnchorStageRole::Proof,
-            map: proof.through().into(),
-        });
-    }
-    let trigger = info.anchor_trigger;
-    if is_bad_link(point, trigger) {
-        return Err(StructureIssue::Link {
-            role: AnchorStageRole::Trigger,
-            map: trigger.through().into(),
-        });
-    }
+    check_link(point, AnchorStageRole::Proof)?;
+    check_link(point, AnchorStageRole::Trigger)?;
     if info.time <= info.anchor_time {
         return Err(StructureIssue::AnchorTime);
     }

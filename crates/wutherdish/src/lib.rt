@@ -1,4 +1,5 @@
-// The calls for other languages, over the proved ones. Crate wutherdish_c exports them.
+// The calls for other languages, over the proved ones. Crate wutherdish_c exports them. The parameters are document
+// 01's, in its order.
 #![tactic(auto)]
 
 ghost use Rattle.std.specs.Prelude.{◌≡◌, true, length};

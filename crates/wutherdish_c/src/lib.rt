@@ -1,4 +1,5 @@
-// The calls of crate wutherdish, exported to C under the same names: a static library.
+// The calls of crate wutherdish, exported to C under the same names: a static library. The parameters are document 01's, in its
+// order.
 #![tactic(auto)]
 
 ghost use Rattle.std.specs.Prelude.{◌≡◌, true, length};

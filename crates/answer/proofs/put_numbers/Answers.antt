@@ -11,7 +11,7 @@ pub returns : goal.returns
 unfolding number_bytes little_bytes
 returns c =
     let l = c.args.out.now in
-    let a = c.args.a in
+    let a = c.args.a.values in
     let xs = a.map ∷ a.role ∷ [] in
     rw (c.put_u32-2.ensures, c.put_u32.ensures, put_is l 70 xs (omega arith))
     (put_three l 70 xs (little_bytes 4 a.first) (little_bytes 4 a.second) 72 76 refl refl (omega arith))

@@ -17,5 +17,5 @@ returns c =
     let l = c.args.out.now in
     let a = c.args.a in
     let h : 113 < length c.put_id.new.out = rw c.put_id.auto.out (simp length-set (omega arith)) in
-    rw (set_put c.put_id.new.out 113 a.unknown h, c.put_id.ensures, set_put l 80 a.root_reason (omega arith))
-    (put_three l 80 (a.root_reason ∷ []) (big_bytes 32 (number a.peer)) (a.unknown ∷ []) 81 113 refl refl (omega arith))
+    rw (set_put c.put_id.new.out 113 a.values.unknown h, c.put_id.ensures, set_put l 80 a.root_reason (omega arith))
+    (put_three l 80 (a.root_reason ∷ []) (big_bytes 32 (number a.peer)) (a.values.unknown ∷ []) 81 113 refl refl (omega arith))

@@ -10,11 +10,11 @@ use Rattle.book.proofs.judge_needed.Goals.{After-mark_covered}
 bytes : (c : After-mark_covered) → Bytes c.args.book.now
 bytes c k = omega (arith, c.slice_known-1.given k)
 
-pub judge_book-verdict-requires : goal.judge_book-verdict-requires
-judge_book-verdict-requires c =
+pub invariant_of-indexed : goal.invariant_of-indexed
+invariant_of-indexed c =
     let h = c.requires.read in
-    let at = goal.at.judge_book-verdict-requires c in
-    held-entries (marked-holds (bytes at.After-mark_covered) h.read _ (c.mark_covered.ensures h.opened h.read) h.holds) (marked-index (bytes at.After-mark_covered) h.read _ (c.mark_covered.ensures h.opened h.read) h.holds h.index)
+    let at = goal.at.invariant_of-indexed c in
+    record { entries = ∣ held-entries (marked-holds (bytes at.After-mark_covered) h.read _ (c.mark_covered.ensures h.opened h.read) h.holds) (marked-index (bytes at.After-mark_covered) h.read _ (c.mark_covered.ensures h.opened h.read) h.holds h.index) ∣₁ }
 
 pub returns : goal.returns
 returns c = λ h d.

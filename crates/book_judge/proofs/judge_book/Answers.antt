@@ -12,6 +12,6 @@ pub returns : goal.returns
 returns c =
     λ b h d.
     let q = said c.args.point.now in
-    let a : Asked c.args.book.now.bytes.now b c.args.book.now.index.now c.point_view.result q = record { holds = h; view = c.point_view.ensures } in
-    judged-over (settings_of c.args.conf) c.args.required (point_view_of c.point_view.result) q b (judging_of c.judge_direct_list-direct.result) (judging_of c.judge_targets.result) (verdict_of c.verdict.result)
-    c.point_view.ensures (c.judge_direct_list-direct.ensures b c.args.point.now.info a d) (c.judge_targets.ensures b c.args.point.now.rec.now a) c.verdict.ensures
+    let a : Asked c.args.book.now.bytes.now b c.args.book.now.index.now c.from.result q = record { holds = h; view = c.from.ensures } in
+    judged-over (settings_of c.args.conf) c.args.required (point_view_of c.from.result) q b (judging_of c.judge_direct_list-direct.result) (judging_of c.judge_targets.result) (verdict_of c.verdict.result)
+    c.from.ensures (c.judge_direct_list-direct.ensures b c.args.point.now.info a d) (c.judge_targets.ensures b c.args.point.now.rec.now a) c.verdict.ensures

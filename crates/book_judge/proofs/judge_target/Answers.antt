@@ -15,6 +15,6 @@ pub returns : goal.returns
 returns c = λ b q a e.
     let x = c.in-Indirect.indirect in
     let j = judging_of c.args.so_far in
-    target-judged c.lookup-entry.result b q (point_id_of x.to) (c.lookup-entry.ensures b q a).1
+    target-judged c.lookup-entry.result b q (point_id_of x.to) (c.lookup-entry.ensures.looked_up b q a).1
     (settings_of c.args.by.now.conf) (point_view_of c.args.by.now.view) a.view j (judging_of c.with_indirect.result) c.args.role (through_of x.through) (link_of c.args.link) (ap link_of c.in-Indirect.is) e
     (λ first. c.with_indirect.ensures ∙ c.indirect_gives-gives.ensures first j)

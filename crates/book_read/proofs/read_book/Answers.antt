@@ -5,12 +5,13 @@ use Rattle.schedule.specs.Code.{settings_of}
 use Rattle.id_index.specs.Code.{Built}
 use Rattle.book_read.proofs.Steps.{too_short, too_long, no_settings, no_book, no_zeros, id-twice, book-read}
 use Rattle.book_read.proofs.read_book.Goals as goal
+use Rattle.book_read.proofs.read_book.Goals.{then-book-lt-ENTRIES_START-via-then-book-lt-ENTRIES_START, then-book-lt-ENTRIES_START-via-else-book-lt-ENTRIES_START+then-book-gt-LONGEST_BOOK}
 
 pub returns-then-book-lt-ENTRIES_START : goal.returns-then-book-lt-ENTRIES_START
-returns-then-book-lt-ENTRIES_START c = too_short _ c.if-book-lt-ENTRIES_START.true
-
-pub returns-then-book-gt-LONGEST_BOOK : goal.returns-then-book-gt-LONGEST_BOOK
-returns-then-book-gt-LONGEST_BOOK c = too_long _ c.if-book-gt-LONGEST_BOOK.true
+returns-then-book-lt-ENTRIES_START c = elim c.then-book-lt-ENTRIES_START.branch [
+  | then-book-lt-ENTRIES_START-via-then-book-lt-ENTRIES_START w ↦ too_short _ w.if-book-lt-ENTRIES_START.true
+  | then-book-lt-ENTRIES_START-via-else-book-lt-ENTRIES_START+then-book-gt-LONGEST_BOOK w ↦ too_long _ w.if-book-gt-LONGEST_BOOK.true
+]
 
 pub returns-in_err-conf : goal.returns-in_err-conf
 returns-in_err-conf c =

@@ -25,7 +25,7 @@ abbrev conf : At-loop-rest → Settings
 conf l = settings_of l.args.conf
 
 abbrev point : At-loop-rest → Viewed
-point l = viewed_of l.point_view.result l.args.point.now.info
+point l = viewed_of l.from.result l.args.point.now.info
 
 -- what is left of the list, and what was found before it
 abbrev left : At-loop-rest → List ℕ
@@ -41,7 +41,7 @@ whole : (l : At-loop-rest) →
 whole l =
     let p = l.args.point.now in
     l.loop-rest.invariant
-    ∙ ap (λ v. walk_with (conf l) l.args.required v walk_start (read_list l.args.list.now)) (viewed_by l.point_view.result p.info p.rec.now l.point_view.ensures)
+    ∙ ap (λ v. walk_with (conf l) l.args.required v walk_start (read_list l.args.list.now)) (viewed_by l.from.result p.info p.rec.now l.from.ensures)
 
 read : (o : In-Some) → read_entry o.loop-rest.rest.now ≡ Some (listed_of o.in-Some.x)
 read o = sym o.read_entry.ensures.same ∙ ap (option_map listed_of) o.in-Some.is
@@ -54,7 +54,7 @@ goes : (o : In-Some) (v : Walk) (seen : Bool) →
     let s = o.loop-rest.rest.now in
     let x = o.in-Some.x in
     let c = settings_of o.args.conf in
-    let p = viewed_of o.point_view.result o.args.point.now.info in
+    let p = viewed_of o.from.result o.args.point.now.info in
     let w : Walk = record { judging = judging_of o.loop-rest.judging; uncovered = o.loop-rest.uncovered } in
     is_in_order o.loop-rest.indirect_seen x.aim ≡ true → seen ≡ is_some x.aim → v ≡ walk_step c o.args.required p w (listed_of x) →
     walk_with c o.args.required p v (list_from (o.loop-rest.left - 1) seen (take (length s - x.size) (drop x.size s)))
@@ -63,7 +63,7 @@ goes o v seen g e f =
     let s = o.loop-rest.rest.now in
     let x = o.in-Some.x in
     let w : Walk = record { judging = judging_of o.loop-rest.judging; uncovered = o.loop-rest.uncovered } in
-    goes_on (settings_of o.args.conf) o.args.required (viewed_of o.point_view.result o.args.point.now.info) w v o.loop-rest.left (o.loop-rest.left - 1) o.loop-rest.indirect_seen seen s _ (listed_of x) _
+    goes_on (settings_of o.args.conf) o.args.required (viewed_of o.from.result o.args.point.now.info) w v o.loop-rest.left (o.loop-rest.left - 1) o.loop-rest.indirect_seen seen s _ (listed_of x) _
     (omega (arith, within o)) (omega (arith, o.if-left-eq0.false)) (read o) g e (rest x.size s) f o.loop-rest.invariant
 
 all_left : (s : List ℕ) → list_from 65535 false s ≡ read_list s
@@ -72,7 +72,7 @@ all_left s = refl
 
 pub loop-rest-init : goal.loop-rest-init
 loop-rest-init c =
-    ap (walk_with (settings_of c.args.conf) c.args.required (viewed_of c.point_view.result c.args.point.now.info) walk_start) (all_left c.args.list.now)
+    ap (walk_with (settings_of c.args.conf) c.args.required (viewed_of c.from.result c.args.point.now.info) walk_start) (all_left c.args.list.now)
 
 pub returns-then-left-eq0 : goal.returns-then-left-eq0
 returns-then-left-eq0 c =
@@ -102,7 +102,7 @@ loop-rest-preserved-then-is_quiet c =
     let x = c.in-Some.x in
     let q = c.is_quiet.ensures c.if-is_quiet.true in
     goes o (walk l) c.is_some-indirect_seen.result (sym c.is_in_order.ensures ∙ c.if-not-is_in_order.false) c.is_some-indirect_seen.ensures
-    (walked-quiet (conf l) c.args.required (point l) (walk l) x q.0 (passed (conf l) (point l).view c.quick_of-quick.result x.entry c.quick_of-quick.ensures q.1))
+    (walked-quiet (conf l) c.args.required (point l) (walk l) x q.0 (passed (conf l) (point l).view c.from-quick.result x.entry c.from-quick.ensures q.1))
 
 pub loop-rest-preserved-then-gives_nothing : goal.loop-rest-preserved-then-gives_nothing
 loop-rest-preserved-then-gives_nothing c =

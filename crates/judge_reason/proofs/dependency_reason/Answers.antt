@@ -9,4 +9,4 @@ pub returns-in-Some : goal.returns-in-Some
 returns-in-Some c =
     let by = c.args.by.now in
     let rows = point_rows (settings_of by.conf) by.required c.args.is_prev_point (point_view_of by.view) in
-    rw (at_hand_lem rows c.args.entry.now _ c.in-Some.point c.in-Some.is c.point.ensures, ← c.dep_view.ensures) c.check_dependency.ensures
+    rw (at_hand_lem rows c.args.entry.now _ c.in-Some.point c.in-Some.is c.point.ensures, ← c.from.ensures) c.check_dependency.ensures

@@ -23,14 +23,14 @@ use Rattle.book.specs.Code.{passed_or, InputTested, RoomTested, Ready, Refuses, 
 use Rattle.book.proofs.Tests.{no_schedule, no_point_lem, with_point, passed_buffer, input-refused, after-input}
 use Rattle.book.proofs.OfferLaws.{unread, refused-answers, end-within}
 use Rattle.book.proofs.decide.decide.Goals as goal
-use Rattle.book.proofs.decide.decide.Goals.{In_ok-read, In_ok-peer_schedule, In_ok-point}
+use Rattle.book.proofs.decide.decide.Goals.{In_ok-conf, In_ok-peer_schedule, In_ok-point}
 
-bytes : (c : In_ok-read) → Bytes c.args.book.now
+bytes : (c : In_ok-conf) → Bytes c.args.book.now
 bytes c k = omega (arith, c.type_inv.book k)
 
-has-book : (c : In_ok-read) → IsRead c.args.book.now (settings_of c.in_ok-read.read.0) c.in_ok-read.read.1 c.read_book.new.index
+has-book : (c : In_ok-conf) → IsRead c.args.book.now (settings_of c.in_ok-conf.conf) c.in_ok-conf.end c.read_book.new.index
 has-book c =
-    let e : c.read_book.result ≡ Some c.in_ok-read.read = grind (arith, common_steps) in
+    let e : c.read_book.result ≡ Some (c.in_ok-conf.conf, c.in_ok-conf.end) = grind (arith, common_steps) in
     subst (BookRead c.args.book.now c.read_book.new.index) e c.read_book.ensures
 
 -- what was read of a slice is what it says
@@ -61,7 +61,7 @@ has-point c = rw (← same-record c) c.in_ok-point.point.reads.read
 
 abbrev input : In_ok-point → Input
 input c = record {
-  settings = settings_of c.in_ok-read.read.0;
+  settings = settings_of c.in_ok-conf.conf;
   schedule = peer_schedule_of c.in_ok-peer_schedule.peer_schedule;
   point = said c.in_ok-point.point;
 }
@@ -71,25 +71,25 @@ offer c = let a = c.args in offer_of a.schedule.now a.leader a.rec.now a.peers.n
 
 -- the numbers 2 to 5
 tested : (c : In_ok-point) (r : Result Unit Refusal) → InputTested c.in_ok-point.point.rec.now c.in_ok-point.point.info c.args.leader (length c.args.peers.now) r →
-    input_tested (settings_of c.in_ok-read.read.0) (offer c) ≡ passed_or r (input c)
+    input_tested (settings_of c.in_ok-conf.conf) (offer c) ≡ passed_or r (input c)
 tested c r t =
-    with_point (settings_of c.in_ok-read.read.0) (offer c) (input c).schedule (says _ _ (same-schedule c)) (input c).point (has-point c)
-    ∙ t (settings_of c.in_ok-read.read.0) (input c).schedule
+    with_point (settings_of c.in_ok-conf.conf) (offer c) (input c).schedule (says _ _ (same-schedule c)) (input c).point (has-point c)
+    ∙ t (settings_of c.in_ok-conf.conf) (input c).schedule
 
 -- and 11 and 12, of what passed them
-room-tested : (c : In_ok-point) (h : IsRead c.args.book.now (settings_of c.in_ok-read.read.0) c.in_ok-read.read.1 c.read_book.new.index) →
+room-tested : (c : In_ok-point) (h : IsRead c.args.book.now (settings_of c.in_ok-conf.conf) c.in_ok-conf.end c.read_book.new.index) →
     (u : Unit) → InputTested c.in_ok-point.point.rec.now c.in_ok-point.point.info c.args.leader (length c.args.peers.now) (Ok u) →
-    (r : Result Unit Refusal) → RoomTested c.args.book.now c.in_ok-read.read.1 c.read_book.new.index c.args.rec.now (point_id_of c.in_ok-point.point.info.id) r →
+    (r : Result Unit Refusal) → RoomTested c.args.book.now c.in_ok-conf.end c.read_book.new.index c.args.rec.now (point_id_of c.in_ok-point.point.info.id) r →
     offer_tested h.opened (offer c) ≡ passed_or r (input c)
 room-tested c h u t r w =
-    after-input h.opened (settings_of c.in_ok-read.read.0) h.settings (offer c) (input c) (tested c (Ok u) t) ∙ w (settings_of c.in_ok-read.read.0) h (input c) refl
+    after-input h.opened (settings_of c.in_ok-conf.conf) h.settings (offer c) (input c) (tested c (Ok u) t) ∙ w (settings_of c.in_ok-conf.conf) h (input c) refl
 
 refuse : (s : List ℕ) (o : Offer) (x : code-index.Index) (buffer : List ℕ) (d : Result code-decided.Decided Refusal) (r : Refusal) → d ≡ Err r →
     Refuses s o (refusal_number r) buffer → Decides s o d x buffer
 refuse s o x buffer d r e h = subst (λ z. Decides s o z x buffer) (sym e) h
 
-pub returns-in_err-read : goal.returns-in_err-read
-returns-in_err-read c =
+pub returns-in_err-conf : goal.returns-in_err-conf
+returns-in_err-conf c =
     let a = c.args in
     let o = offer_of a.schedule.now a.leader a.rec.now a.peers.now in
     let e : c.from_residual.result ≡ Err refusal.Book = grind (arith, common_steps) in
@@ -100,7 +100,7 @@ pub returns-in_err-peer_schedule : goal.returns-in_err-peer_schedule
 returns-in_err-peer_schedule c =
     let a = c.args in
     let o = offer_of a.schedule.now a.leader a.rec.now a.peers.now in
-    let at = (goal.at.returns-in_err-peer_schedule c).In_ok-read in
+    let at = (goal.at.returns-in_err-peer_schedule c).In_ok-conf in
     let h = has-book at in
     let e : c.from_residual-in_err-peer_schedule.result ≡ Err refusal.Schedule = grind (arith, common_steps) in
     let n : read_schedule a.schedule.now ≡ None = grind (arith, common_steps) in
@@ -111,35 +111,35 @@ returns-in_err-point c =
     let a = c.args in
     let o = offer_of a.schedule.now a.leader a.rec.now a.peers.now in
     let at = goal.at.returns-in_err-point c in
-    let h = has-book at.In_ok-read in
+    let h = has-book at.In_ok-conf in
     let e : c.from_residual-in_err-point.result ≡ Err refusal.Record = grind (arith, common_steps) in
     let n : c.read_point.result ≡ None = grind (arith, common_steps) in
-    refuse _ o c.read_book.new.index _ _ _ e (refused-answers h (bytes at.In_ok-read) o 3
+    refuse _ o c.read_book.new.index _ _ _ e (refused-answers h (bytes at.In_ok-conf) o 3
     (input-refused _ _ h.settings o 3 (no_point_lem _ o _ (has-schedule at.In_ok-peer_schedule) (subst (PointRead a.rec.now) n c.read_point.ensures))))
 
 pub returns-in_err-test_input : goal.returns-in_err-test_input
 returns-in_err-test_input c =
     let at = goal.at.returns-in_err-test_input c in
     let o = offer at.In_ok-point in
-    let h = has-book at.In_ok-read in
+    let h = has-book at.In_ok-conf in
     let r = c.in_err-test_input.field-0.0 in
     let e : c.from_residual-in_err-test_input.result ≡ Err r = grind (arith, common_steps) in
-    refuse _ o c.read_book.new.index _ _ r e (refused-answers h (bytes at.In_ok-read) o (refusal_number r)
+    refuse _ o c.read_book.new.index _ _ r e (refused-answers h (bytes at.In_ok-conf) o (refusal_number r)
     (input-refused _ _ h.settings o (refusal_number r) (tested at.In_ok-point (Err r) (c.in_err-test_input.ensures _))))
 
 pub test_room-requires : goal.test_room-requires
 test_room-requires c =
-    let at = (goal.at.test_room-requires c).In_ok-read in
+    let at = (goal.at.test_room-requires c).In_ok-conf in
     ((has-book at).index, end-within (has-book at) (bytes at))
 
 pub returns-in_err-test_room : goal.returns-in_err-test_room
 returns-in_err-test_room c =
     let at = goal.at.returns-in_err-test_room c in
     let o = offer at.In_ok-point in
-    let h = has-book at.In_ok-read in
+    let h = has-book at.In_ok-conf in
     let r = c.in_err-test_room.field-0.0 in
     let e : c.from_residual-in_err-test_room.result ≡ Err r = grind (arith, common_steps) in
-    refuse _ o c.read_book.new.index _ _ r e (refused-answers h (bytes at.In_ok-read) o (refusal_number r)
+    refuse _ o c.read_book.new.index _ _ r e (refused-answers h (bytes at.In_ok-conf) o (refusal_number r)
     (room-tested at.In_ok-point h _ (c.in_ok-test_input.ensures _) (Err r) c.in_err-test_room.ensures))
 
 pub judge_input-requires : goal.judge_input-requires
@@ -151,10 +151,10 @@ pub returns : goal.returns
 returns c =
     let at = goal.at.returns c in
     let a = c.args in
-    let h = has-book at.In_ok-read in
+    let h = has-book at.In_ok-conf in
     let judged : List ℕ → List ℕ → Type 0 = λ schedule rec.
-    Ready a.book.now (offer_of schedule a.leader rec a.peers.now) (settings_of at.In_ok-point.in_ok-read.read.0) at.In_ok-point.in_ok-read.read.1 c.read_book.new.index (input at.In_ok-point) →
+    Ready a.book.now (offer_of schedule a.leader rec a.peers.now) (settings_of at.In_ok-point.in_ok-conf.conf) at.In_ok-point.in_ok-conf.end c.read_book.new.index (input at.In_ok-point) →
     Decides a.book.now (offer_of schedule a.leader rec a.peers.now) c.judge_input.result c.read_book.new.index c.judge_input.new.peers in
     subst (judged a.schedule.now) (same-record at.In_ok-point)
-    (subst (λ (l : List ℕ). judged l at.In_ok-point.in_ok-point.point.rec.now) (same-schedule at.In_ok-point).bytes (c.judge_input.ensures a.book.now c.read_book.new.index (bytes at.In_ok-read)))
+    (subst (λ (l : List ℕ). judged l at.In_ok-point.in_ok-point.point.rec.now) (same-schedule at.In_ok-point).bytes (c.judge_input.ensures a.book.now c.read_book.new.index (bytes at.In_ok-conf)))
     (record { read = h; taken = room-tested at.In_ok-point h _ (c.in_ok-test_input.ensures _) (Ok _) c.in_ok-test_room.ensures })

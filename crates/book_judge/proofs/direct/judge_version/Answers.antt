@@ -35,7 +35,7 @@ own : (c : After-judge_entry) (seen : Bool) → seen ≡ (c.args.so_far.seen || 
 own c seen e = λ k size h i.
     let same = same-kept _ _ c.kept-kept.ensures k size h in
     version-own (settings_of c.args.by.now.conf) c.args.by.now.required (point_view_of c.args.by.now.view) (versions_of c.args.so_far) k _ c.is_first-first.result seen _
-    (sym (c.is_own_before.ensures ∙ ap (is_by _ _) (c.id.ensures ∙ i)) ∙ c.if-not-is_own_before.false) (c.entry.ensures ∙ ap (λ (x : Kept). shown x c.is_first-first.result) same)
+    (sym (c.is_own_before.ensures ∙ ap (is_by _ _) (c.id.ensures ∙ i)) ∙ c.if-not-is_own_before.false) (c.entry.ensures.shown ∙ ap (λ (x : Kept). shown x c.is_first-first.result) same)
     (c.is_first-first.ensures ∙ ap (λ (x : Kept). is_valid x.status && not c.args.so_far.seen) same) c.judge_entry.ensures e
 
 pub returns-then-so_far : goal.returns-then-so_far

@@ -16,7 +16,7 @@ pub loop-j-init : goal.loop-j-init
 loop-j-init c = λ b h. refl
 
 pub judge_version-so_far-requires : goal.judge_version-so_far-requires
-judge_version-so_far-requires c = (c.requires, omega (arith, c.loop-j-test.true, c.count-j-end.ensures))
+judge_version-so_far-requires c = omega (arith, c.loop-j-test.true, c.count-j-end.ensures)
 
 pub loop-j-preserved : goal.loop-j-preserved
 loop-j-preserved c = λ b h.

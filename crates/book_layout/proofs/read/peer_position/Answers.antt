@@ -24,24 +24,24 @@ record Told (q : PointInfo) (link rows : List ℕ) : Type 0 where
   few : length (peers_of 64 rows) ≤ 255
   named : (l : AnchorLink) → read_link link ≡ Some l → is_some (find (peers_of 64 rows) (id_at link 2)) ≡ is_named q l
 
-told : (c : After-id_at) (q : PointInfo) → read_point c.args.fields.now.rec.now ≡ Some q → Told q c.args.link.now c.match-link.rows.now
+told : (c : After-id_at) (q : PointInfo) → read_point c.args.from.now.fields.rec.now ≡ Some q → Told q c.args.link.now c.match-link.rows.now
 told c q h =
     let m = readable _ q h in
     elim c.match-link.branch [
       | in-0 w ↦ rw (w.rows-is, w.includes-rows.ensures) (record {
         rise = map-rises _ _ m.includes;
         few = map-few _ _ m.includes;
-        named = λ l g. includes-named _ l g q c.requires.direct.1 _ m.includes.are w.in-0.is;
+        named = λ l g. includes-named _ l g q c.requires.1 _ m.includes.are w.in-0.is;
       })
       | in_default w ↦ rw (w.rows-is, w.witness-rows.ensures) (record {
         rise = map-rises _ _ m.witness;
         few = map-few _ _ m.witness;
-        named = λ l g. witness-named _ l g q c.requires.direct.1 _ m.witness.are (λ e. search rules);
+        named = λ l g. witness-named _ l g q c.requires.1 _ m.witness.are (λ e. search rules);
       })
     ]
 
-found : (c : After-id_at) → (q : PointInfo) × (read_point c.args.fields.now.rec.now ≡ Some q)
-found c = some_of _ c.requires.reads
+found : (c : After-id_at) → (q : PointInfo) × (read_point c.args.from.now.fields.rec.now ≡ Some q)
+found c = some_of _ c.args.from.now.reads
 
 pub search-requires : goal.search-requires
 search-requires c =

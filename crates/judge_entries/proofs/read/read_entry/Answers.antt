@@ -2,7 +2,7 @@
 use native.Mathlib.Omega.{arith}
 use Rattle.std.proofs.lemmas.Grind.{common_steps}
 use Rattle.std.proofs.lemmas.Bool.Decides.{nat_tests}
-use mathlib.Core.Path.{◌≡◌, sym, ◌∙◌}
+use mathlib.Core.Path.{◌≡◌, refl, sym, ◌∙◌}
 use mathlib.Core.Bool.{true}
 use Rattle.base.proofs.Lists.{rest}
 use Rattle.record.specs.Record.{field_row, field_ok}
@@ -18,20 +18,20 @@ returns-then-is_empty-clause-same c = grind (arith, common_steps, nat_tests, rea
 
 pub returns-then-s-ne19 : goal.returns-then-s-ne19
 returns-then-s-ne19 c =
-    let e = c.entry_at.ensures ∙ sym (read-direct c.args.s.now c.if-s-ne19.true) in
-    record { same = e; sized = sized _ _ e }
+    let e = c.entry_at.ensures.same ∙ sym (read-direct c.args.s.now c.if-s-ne19.true) in
+    record { same = e; sized = sized _ _ e; placed = c.entry_at.ensures.placed c.args.s.now refl }
 
 pub returns-in-0 : goal.returns-in-0
 returns-in-0 c =
     let s = c.args.s.now in
-    let e = c.entry_at-in-0.ensures ∙ rw (rest 4 s) (sym (read-proof s c.if-s-ne19.false (fits (goal.at.returns-in-0 c).Else-not-field_ok) c.in-0.is)) in
-    record { same = e; sized = sized _ _ e }
+    let e = c.entry_at-in-0.ensures.same ∙ rw (rest 4 s) (sym (read-proof s c.if-s-ne19.false (fits (goal.at.returns-in-0 c).Else-not-field_ok) c.in-0.is)) in
+    record { same = e; sized = sized _ _ e; placed = c.entry_at-in-0.ensures.placed s (sym (rest 4 s)) }
 
 pub returns-in-1 : goal.returns-in-1
 returns-in-1 c =
     let s = c.args.s.now in
-    let e = c.entry_at-in-1.ensures ∙ rw (rest 4 s) (sym (read-trigger s c.if-s-ne19.false (fits (goal.at.returns-in-1 c).Else-not-field_ok) c.in-1.is)) in
-    record { same = e; sized = sized _ _ e }
+    let e = c.entry_at-in-1.ensures.same ∙ rw (rest 4 s) (sym (read-trigger s c.if-s-ne19.false (fits (goal.at.returns-in-1 c).Else-not-field_ok) c.in-1.is)) in
+    record { same = e; sized = sized _ _ e; placed = c.entry_at-in-1.ensures.placed s (sym (rest 4 s)) }
 
 pub returns-in_default-clause-same : goal.returns-in_default-clause-same
 returns-in_default-clause-same c =

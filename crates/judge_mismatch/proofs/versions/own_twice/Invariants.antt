@@ -1,12 +1,12 @@
--- `own_twice` meets its contract: each block is tested with all that stands after it (`Blocks`).
-use Prim.Native.Nat.{◌-◌}
+-- `own_twice` meets its contract: what is left has a version twice exactly if the list has one.
+use mathlib.Core.Path.{◌≡◌}
 use lib.ListN.{length}
 use Rattle.point.specs.Code.{point_id_of}
-use Rattle.judge_mismatch.proofs.Own.{Blocks}
+use Rattle.judge_mismatch.specs.Code.{is_twice_in, own_in}
 use Rattle.judge_mismatch.proofs.versions.own_twice.Given as goal
 
-abbrev pub invariant-loop-at : goal.invariant-loop-at
-invariant-loop-at l = Blocks (point_id_of l.own) l.list l.at
+abbrev pub invariant-loop-left : goal.invariant-loop-left
+invariant-loop-left l = is_twice_in (own_in (point_id_of l.own) l.left.bytes.now) ≡ is_twice_in (own_in (point_id_of l.own) l.list.bytes.now)
 
-abbrev pub decreases-loop-at : goal.decreases-loop-at
-decreases-loop-at l = length l.list - l.at
+abbrev pub decreases-loop-left : goal.decreases-loop-left
+decreases-loop-left l = length l.left.bytes.now

@@ -6,4 +6,4 @@ pub returns-then-not-build : goal.returns-then-not-build
 returns-then-not-build c = block-twice c.note-end.ensures _ c.if-not-build.ensures
 
 pub returns : goal.returns
-returns c = rw c.then_some.ensures (block-met c.note-end.ensures _ _ c.if-not-build.ensures c.meets.ensures)
+returns c = rw c.then_some.ensures (block-met c.note-end.ensures _ _ _ c.from_place-left.ensures c.if-not-build.ensures c.meets.ensures)

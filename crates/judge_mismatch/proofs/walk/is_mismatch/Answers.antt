@@ -7,7 +7,6 @@ use native.Mathlib.Omega.{arith}
 use mathlib.Core.List.{List}
 use borrow.Author.Tests.{lt-ltb}
 use lib.ListN.{length, take}
-use Rattle.base.proofs.Lists.{rest}
 use Rattle.rules.specs.List.{indirects}
 use Rattle.rules.specs.Mismatch.{all_targets}
 use Rattle.base.proofs.Bool.{clash}
@@ -25,9 +24,6 @@ taken c =
     let two : length c.maps_of-maps.result ≡ 2 = search rules in
     length-take-le _ _ (omega (arith, maps_few c.args.presence, c.maps_in_dag.ensures)) ∙ c.maps_in_dag.ensures
 
-many : (c : After-walk) → length c.walk.new.maps ≡ maps_in c.args.presence
-many c = c.walk.auto.maps ∙ taken c
-
 placed : (c : In-Some) → length (take c.maps_in_dag.result c.maps_of-maps.result) ≡ maps_in c.args.presence →
     AllPlaced c.args.presence (said c.args.point.now) c.args.list.now c.walk.new.maps c.in-Some.walked.dropped c.in-Some.walked.end
 placed c n = c.in-Some.ensures c.args.presence n
@@ -44,8 +40,8 @@ returns-then-has_absent_targets c =
     let f = maps_of _ _ (readable _ _ c.args.point.now.reads.read) in
     λ l e.
     c.if-has_absent_targets.true ∙ sym (elim c.if-walked-lacking.branch [
-      | then-walked-lacking w ↦ mismatch-lacking _ _ _ l e f (many at.After-walk) (placed at.In-Some (taken at.After-walk)) (rw (← c.lacking.ensures) w.if-walked-lacking.true)
-      | else-walked-lacking w ↦ mismatch-absent _ _ _ l e f (many at.After-walk) (placed at.In-Some (taken at.After-walk)) (rw (← c.lacking.ensures) w.if-walked-lacking.false) (sym w.has_absent_targets.ensures ∙ (sym w.value-is ∙ c.if-has_absent_targets.true))
+      | then-walked-lacking w ↦ mismatch-lacking _ _ _ l e f (placed at.In-Some (taken at.After-walk)) (rw (← c.lacking.ensures) w.if-walked-lacking.true)
+      | else-walked-lacking w ↦ mismatch-absent _ _ _ l e f (placed at.In-Some (taken at.After-walk)) (rw (← c.lacking.ensures) w.if-walked-lacking.false) (sym w.has_absent_targets.ensures ∙ (sym w.value-is ∙ c.if-has_absent_targets.true))
     ])
 
 pub returns-else-has_absent_targets : goal.returns-else-has_absent_targets
@@ -53,10 +49,9 @@ returns-else-has_absent_targets c =
     let at = goal.at.returns-else-has_absent_targets c in
     let f = maps_of _ _ (readable _ _ c.args.point.now.reads.read) in
     let w = placed at.In-Some (taken at.After-walk) in
-    let t = rest c.in-Some.walked.end c.args.list.now in
     λ l e.
-    ap not (c.are_targets.ensures c.args.point.now.rec.now ∙ ap (λ (k : List ℕ). all_targets (said c.args.point.now) false false (indirects (listed k))) t)
+    ap not (c.are_targets.ensures c.args.point.now.rec.now ∙ ap (λ (k : List ℕ). all_targets (said c.args.point.now) false false (indirects (listed k))) c.from_place.ensures)
     ∙ sym (elim c.if-walked-lacking.branch [
       | then-walked-lacking b ↦ clash c.if-walked-lacking.value (b.value-is ∙ lt-ltb _ _ b.if-walked-lacking.true) c.if-has_absent_targets.false
-      | else-walked-lacking b ↦ mismatch-targets _ _ _ l e f (many at.After-walk) w (rw (← c.lacking.ensures) b.if-walked-lacking.false) (sym b.has_absent_targets.ensures ∙ (sym b.value-is ∙ c.if-has_absent_targets.false))
+      | else-walked-lacking b ↦ mismatch-targets _ _ _ l e f w (rw (← c.lacking.ensures) b.if-walked-lacking.false) (sym b.has_absent_targets.ensures ∙ (sym b.value-is ∙ c.if-has_absent_targets.false))
     ])

@@ -1,40 +1,29 @@
 -- `walk` meets its contract. The invariant of the entries is `Gone`, that of the maps `Marking`, with their laws.
 use Rattle.std.specs.Prelude.{None, Some, option_map}
 use mathlib.Core.Path.{◌≡◌, refl, ap, sym, ◌∙◌, subst}
-use Prim.Native.Nat.{◌+◌, ◌<◌}
+use Prim.Native.Nat.{◌<◌}
 use native.Mathlib.Omega.{arith}
-use lib.ListN.{length, get_or, drop}
+use lib.ListN.{length, get_or}
 use Rattle.base.proofs.Option.{unfound}
 use Rattle.map.specs.Rows.{pairs_of}
 use Rattle.point.specs.Code.{point_id_of}
-use Rattle.point.specs.Said.{said}
-use Rattle.point.proofs.Laws.{readable}
 use Rattle.point.proofs.Maps.{pairs_many}
-use Rattle.judge_mismatch.specs.Code.{code_head_of, maps_in, IsRow}
-use Rattle.judge_mismatch.proofs.Heads.{Front, Reads, reads-front, reads-head, reads-next}
-use Rattle.judge_mismatch.proofs.Laws.{marked-stood, marking_at, marking_absent, marking_whole, gone_start, going_end, going_target, going_dropped, going_marking, going_twice, going_fails, going_placed}
-use Rattle.judge_mismatch.proofs.Rows.{Maps, maps_of}
+use Rattle.rules.specs.List.{directs}
+use Rattle.judge_mismatch.specs.Code.{maps_in, IsRow}
+use Rattle.judge_mismatch.proofs.Heads.{directs-last}
+use Rattle.judge_mismatch.proofs.Laws.{no_entries, gone_start, gone_end, going_dropped, going_twice, going_fails, going_placed, marked-stood, marking_start, marking_at, marking_absent, marking_end}
 use Rattle.judge_mismatch.proofs.walk.walk.Goals as goal
-use Rattle.judge_mismatch.proofs.walk.walk.Goals.{After-head_of-head, Else-is_some, In-Some, After-row_of, In-Some-row_of, After-loop-map}
+use Rattle.judge_mismatch.proofs.walk.walk.Goals.{Else-is_some, In-Some-id, In-Some-row_of}
 
-front : (c : After-head_of-head) → Front (drop c.entries.at c.args.list.now) (code_head_of c.head_of-head.result)
-front c = reads-front _ _ c.entries.invariant.reads c.if-list-at.false _ c.head_of-head.ensures
-
-next : (c : After-head_of-head) → Reads c.args.list.now (c.entries.at + c.head_of-head.result.size)
-next c = reads-next _ _ _ (front c) c.entries.invariant.reads
-
-direct : (c : Else-is_some) → c.head_of-head.result.aim ≡ None
+direct : (c : Else-is_some) → c.in-Some.head.aim ≡ None
 direct c = unfound _ (sym c.is_some.ensures ∙ c.if-is_some.false)
 
-with_id : (c : In-Some) → option_map point_id_of c.head_of-head.result.id ≡ Some (point_id_of c.in-Some.id)
-with_id c = ap (option_map point_id_of) c.in-Some.is
-
-maps : (c : After-head_of-head) → Maps (said c.args.point.now)
-maps c = maps_of _ _ (readable _ _ c.args.point.now.reads.read)
+with_id : (c : In-Some-id) → option_map point_id_of c.in-Some.head.id ≡ Some (point_id_of c.in-Some-id.id)
+with_id c = ap (option_map point_id_of) c.in-Some-id.is
 
 row : (c : In-Some-row_of) →
     let y = get_or c.loop-map.maps c.loop-map.map-index c.map-item.result in
-    IsRow y.round (pairs_of y.rows.now) (point_id_of c.in-Some.id) (Some c.in-Some-row_of.i)
+    IsRow y.round (pairs_of y.rows.now) (point_id_of c.in-Some-id.id) (Some c.in-Some-row_of.i)
 row c = subst (IsRow _ _ _) c.in-Some-row_of.is c.row_of.ensures
 
 inside : (c : In-Some-row_of) → c.in-Some-row_of.i < 255
@@ -43,41 +32,26 @@ inside c =
     omega (arith, (row c).0, pairs_many y.rows.now, y.few)
 
 pub entries-init : goal.entries-init
-entries-init c = gone_start _ _ _ c.requires.maps_value c.requires.list_value.0 c.requires.list_value.1
+entries-init c = gone_start _ _ _ _ c.entries-left.ensures.list c.entries-left.ensures.at c.requires.maps_value c.requires.once
 
-pub head_of-head-requires : goal.head_of-head-requires
-head_of-head-requires c = reads-head _ _ c.entries.invariant.reads c.if-list-at.false
-
-pub overflow_add-next : goal.overflow_add-next
-overflow_add-next c = omega (arith, (next (goal.at.overflow_add-next c).After-head_of-head).within)
-
-pub entries-smaller-in_default : goal.entries-smaller-in_default
-entries-smaller-in_default c =
-    let at = (goal.at.entries-smaller-in_default c).After-head_of-head in
-    omega (arith, (front at).least, (next at).within)
-
-pub entries-preserved-in_default : goal.entries-preserved-in_default
-entries-preserved-in_default c =
-    let at = goal.at.entries-preserved-in_default c in
+pub entries-preserved-in_default-id : goal.entries-preserved-in_default-id
+entries-preserved-in_default-id c =
+    let at = goal.at.entries-preserved-in_default-id c in
+    let g = c.entries.invariant in
+    let e = c.in-Some.ensures.steps in
     record {
-      reads = next at.After-head_of-head;
-      small = omega (arith, (front at.After-head_of-head).least, c.entries.invariant.small);
-      going = λ presence n. going_dropped (c.entries.invariant.going presence n) (front at.After-head_of-head) (direct at.Else-is_some) (ap (option_map point_id_of) c.in_default.is);
+      whole = e.list ∙ g.whole;
+      small = omega (arith, g.small, e.place, e.next, e.least);
+      going = λ presence n. going_dropped (g.going presence n) e.front (direct at.Else-is_some) (ap (option_map point_id_of) c.in_default-id.is);
     }
 
 pub loop-map-init : goal.loop-map-init
-loop-map-init c =
-    let at = goal.at.loop-map-init c in
-    λ presence n.
-    let g = c.entries.invariant.going presence (sym c.entries.auto.maps ∙ n) in
-    (g.walk, going_marking g (front at.After-head_of-head) (direct at.Else-is_some) _ (with_id c) g.walk)
+loop-map-init c = λ before m. marking_start m
 
 pub loop-map-preserved-in_default-row_of : goal.loop-map-preserved-in_default-row_of
 loop-map-preserved-in_default-row_of c =
-    let at = goal.at.loop-map-preserved-in_default-row_of c in
-    λ presence n.
-    let i = c.loop-map.invariant presence n in
-    (i.0, marking_absent i.1 (maps at.After-head_of-head) (omega (arith, c.loop-map-test.true, c.loop-map.auto.maps)) _ (subst (IsRow _ _ _) c.in_default-row_of.is c.row_of.ensures))
+    λ before m.
+    marking_absent (c.loop-map.invariant before m) (omega (arith, c.loop-map-test.true, c.loop-map.auto.maps)) _ (subst (IsRow _ _ _) c.in_default-row_of.is c.row_of.ensures)
 
 pub bounds-map-i : goal.bounds-map-i
 bounds-map-i c = inside (goal.at.bounds-map-i c).In-Some-row_of
@@ -87,50 +61,51 @@ bounds-map-i-in-loop-map c = inside (goal.at.bounds-map-i-in-loop-map c).In-Some
 
 pub loop-map-preserved : goal.loop-map-preserved
 loop-map-preserved c =
-    let at = goal.at.loop-map-preserved c in
-    λ presence n.
-    let i = c.loop-map.invariant presence n in
-    (i.0, marking_at i.1 (maps at.After-head_of-head) (omega (arith, c.loop-map-test.true, c.loop-map.auto.maps)) _ _ (row at.In-Some-row_of) c.if-map-i.false _ refl refl refl)
-
-pub entries-smaller : goal.entries-smaller
-entries-smaller c =
-    let at = (goal.at.entries-smaller c).After-head_of-head in
-    omega (arith, (front at).least, (next at).within)
+    λ before m.
+    marking_at (c.loop-map.invariant before m) (omega (arith, c.loop-map-test.true, c.loop-map.auto.maps)) _ _ (row (goal.at.loop-map-preserved c).In-Some-row_of) c.if-map-i.false _ refl refl refl
 
 pub entries-preserved : goal.entries-preserved
 entries-preserved c =
     let at = goal.at.entries-preserved c in
+    let g = c.entries.invariant in
+    let e = c.in-Some.ensures.steps in
     record {
-      reads = next at.After-head_of-head;
-      small = omega (arith, c.entries.invariant.small);
+      whole = e.list ∙ g.whole;
+      small = omega (arith, g.small, e.place, e.next);
       going = λ presence n.
-          let i = c.loop-map.invariant presence (c.entries.auto.maps ∙ n) in
-          let m : length c.loop-map.maps ≡ maps_in presence = c.loop-map.auto.maps ∙ (c.entries.auto.maps ∙ n) in
-          going_placed (c.entries.invariant.going presence n) (front at.After-head_of-head) (direct at.Else-is_some) _ (with_id at.In-Some) i.0
-          (marking_whole i.1 (omega (arith, c.loop-map-test.false, i.1.within, m))) m (sym c.has_place.ensures ∙ c.if-not-has_place.false);
+          let i = g.going presence n in
+          let marked = marking_end (c.loop-map.invariant i.walk.before i.walk.marks) (omega (arith, c.loop-map-test.false, c.loop-map.auto.maps)) in
+          let many : length c.loop-map.maps ≡ maps_in presence = c.loop-map.auto.maps ∙ (c.entries.auto.maps ∙ n) in
+          going_placed i e.front (direct at.Else-is_some) _ (with_id at.In-Some-id) _ marked many (sym c.has_place.ensures ∙ c.if-not-has_place.false);
     }
 
-pub returns-then-list-at : goal.returns-then-list-at
-returns-then-list-at c = λ presence n. going_end (c.entries.invariant.going presence n) c.if-list-at.true
+pub returns-in_default : goal.returns-in_default
+returns-in_default c =
+    let g = c.entries.invariant in
+    let e = c.entries.left in
+    let end : e.at ≡ length c.args.list.now.bytes.now = omega (arith, ap length g.whole, c.in_default.ensures.steps.1, e.within) in
+    λ presence n.
+    rw (← end) (gone_end g presence n (ap directs c.in_default.ensures.steps.0 ∙ no_entries))
 
 pub returns-then-is_some : goal.returns-then-is_some
 returns-then-is_some c =
+    let e = c.in-Some.ensures.steps in
     λ presence n.
-    going_target (c.entries.invariant.going presence n) (front (goal.at.returns-then-is_some c).After-head_of-head) (sym c.is_some.ensures ∙ c.if-is_some.true)
+    rw e.place (gone_end c.entries.invariant presence n (directs-last e.front (sym c.is_some.ensures ∙ c.if-is_some.true)).0)
 
 pub returns-then-map-i : goal.returns-then-map-i
 returns-then-map-i c =
     let at = goal.at.returns-then-map-i c in
     λ presence n.
-    let i = c.loop-map.invariant presence (c.entries.auto.maps ∙ n) in
-    going_twice (c.entries.invariant.going presence n) (front at.After-head_of-head) (direct at.Else-is_some) _ (with_id at.In-Some) i.0
-    (marked-stood i.1 (maps at.After-head_of-head) (omega (arith, c.loop-map-test.true, c.loop-map.auto.maps)) _ _ (row at.In-Some-row_of) c.if-map-i.true)
+    let i = c.entries.invariant.going presence n in
+    let stood = marked-stood (c.loop-map.invariant i.walk.before i.walk.marks) (omega (arith, c.loop-map-test.true, c.loop-map.auto.maps)) _ _ (row at.In-Some-row_of) c.if-map-i.true in
+    going_twice i c.in-Some.ensures.steps.front (direct at.Else-is_some) _ (with_id at.In-Some-id) stood
 
 pub returns-then-not-has_place : goal.returns-then-not-has_place
 returns-then-not-has_place c =
     let at = goal.at.returns-then-not-has_place c in
     λ presence n.
-    let i = c.loop-map.invariant presence (c.entries.auto.maps ∙ n) in
-    let m : length c.loop-map.maps ≡ maps_in presence = c.loop-map.auto.maps ∙ (c.entries.auto.maps ∙ n) in
-    going_fails (c.entries.invariant.going presence n) (front at.After-head_of-head) (direct at.Else-is_some) _ (with_id at.In-Some) i.0
-    (marking_whole i.1 (omega (arith, c.loop-map-test.false, i.1.within, m))) (sym c.has_place.ensures ∙ c.if-not-has_place.true)
+    let i = c.entries.invariant.going presence n in
+    let marked = marking_end (c.loop-map.invariant i.walk.before i.walk.marks) (omega (arith, c.loop-map-test.false, c.loop-map.auto.maps)) in
+    let many : length c.loop-map.maps ≡ maps_in presence = c.loop-map.auto.maps ∙ (c.entries.auto.maps ∙ n) in
+    going_fails i c.in-Some.ensures.steps.front (direct at.Else-is_some) _ (with_id at.In-Some-id) _ marked many (sym c.has_place.ensures ∙ c.if-not-has_place.true)

@@ -1,6 +1,7 @@
 -- `top_round` meets its contract: by the link's length and its map.
-use mathlib.Core.Path.{◌∙◌}
-use Rattle.judge_valid.proofs.QuickLaws.{target-far, target-includes, target-witness}
+use mathlib.Core.Path.{ap, ◌∙◌}
+use Rattle.point.specs.Point.{through_round}
+use Rattle.judge_valid.proofs.QuickLaws.{target-far, target-near}
 use Rattle.judge_valid.proofs.brief.top_round.Goals as goal
 
 pub returns-then-has_role : goal.returns-then-has_role
@@ -9,10 +10,6 @@ returns-then-has_role c = λ l e. rw c.if-has_role.true
 pub returns-then-link-ge102 : goal.returns-then-link-ge102
 returns-then-link-ge102 c = λ l e. rw c.if-has_role.false (c.u32_at.ensures ∙ target-far _ _ l e c.if-link-ge102.true)
 
-pub returns-then-link-eq0 : goal.returns-then-link-eq0
-returns-then-link-eq0 c = λ l e.
-    rw c.if-has_role.false (c.rounds_back.ensures ∙ target-includes _ _ l e c.if-link-ge102.false c.if-link-eq0.true)
-
 pub returns : goal.returns
 returns c = λ l e.
-    rw c.if-has_role.false (c.rounds_back-2.ensures ∙ target-witness _ _ l e c.if-link-ge102.false c.if-link-eq0.false)
+    rw c.if-has_role.false (c.round.ensures ∙ (ap (λ t. through_round t c.args.round) c.through_at.ensures ∙ target-near _ _ l e c.if-link-ge102.false))

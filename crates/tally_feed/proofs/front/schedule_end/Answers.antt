@@ -14,22 +14,22 @@ use Rattle.tally_feed.proofs.front.schedule_end.Goals.{After-field_ok}
 -- one turn: the span at `at` and what is left it, or the last known round
 turn : (c : After-field_ok) →
     let s = c.args.s.now in
-    schedule_end s ≡ pick c.field_ok.result (schedule_end_from (4 - (c.loop-spans.spans + 1)) s (next_at s c.loop-spans.at)) (last_known_end s c.loop-spans.at)
+    schedule_end s ≡ pick c.field_ok.result (schedule_end_from (4 - (c.loop.counter + 1)) s (next_at s c.loop.at)) (last_known_end s c.loop.at)
 turn c =
-    rw c.field_ok.ensures (c.loop-spans.invariant.2 ∙ from_step (4 - c.loop-spans.spans) (4 - (c.loop-spans.spans + 1)) c.args.s.now c.loop-spans.at (omega arith))
+    rw c.field_ok.ensures (c.loop.invariant.2 ∙ from_step (4 - c.loop.counter) (4 - (c.loop.counter + 1)) c.args.s.now c.loop.at (omega arith))
 
-pub loop-spans-init : goal.loop-spans-init
-loop-spans-init c = (search rules, search rules, schedule-start _)
+pub loop-init : goal.loop-init
+loop-init c = (search rules, search rules, schedule-start _)
 
 pub returns-then-not-field_ok : goal.returns-then-not-field_ok
 returns-then-not-field_ok c = c.last_known_end.ensures ∙ sym (turn (goal.at.returns-then-not-field_ok c).After-field_ok ∙ rw c.if-not-field_ok.true)
 
-pub loop-spans-preserved : goal.loop-spans-preserved
-loop-spans-preserved c =
+pub loop-preserved : goal.loop-preserved
+loop-preserved c =
     let s = c.args.s.now in
-    (search rules, omega (arith, next-within s c.loop-spans.at, c.next-at.ensures), turn (goal.at.loop-spans-preserved c).After-field_ok ∙ rw (c.if-not-field_ok.false, c.next-at.ensures))
+    (search rules, omega (arith, next-within s c.loop.at, c.next-at.ensures), turn (goal.at.loop-preserved c).After-field_ok ∙ rw (c.if-not-field_ok.false, c.next-at.ensures))
 
 pub returns : goal.returns
 returns c =
-    let e : 4 - c.loop-spans.spans ≡ 0 = omega arith in
-    c.last_known_end-2.ensures ∙ sym (c.loop-spans.invariant.2 ∙ rw (e, from-none c.args.s.now c.loop-spans.at))
+    let e : 4 - c.loop.counter ≡ 0 = omega arith in
+    c.last_known_end-2.ensures ∙ sym (c.loop.invariant.2 ∙ rw (e, from-none c.args.s.now c.loop.at))

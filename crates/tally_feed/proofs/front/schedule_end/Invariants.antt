@@ -5,8 +5,8 @@ use lib.ListN.{length}
 use Rattle.tally_feed.specs.Tally.{schedule_end_from, schedule_end}
 use Rattle.tally_feed.proofs.front.schedule_end.Given as goal
 
-abbrev pub invariant-loop-spans : goal.invariant-loop-spans
-invariant-loop-spans l = (l.spans ≤ 4) × (l.at ≤ length l.s) × (schedule_end l.s ≡ schedule_end_from (4 - l.spans) l.s l.at)
+abbrev pub invariant-loop : goal.invariant-loop
+invariant-loop l = (l.counter ≤ 4) × (l.at ≤ length l.s) × (schedule_end l.s ≡ schedule_end_from (4 - l.counter) l.s l.at)
 
-abbrev pub decreases-loop-spans : goal.decreases-loop-spans
-decreases-loop-spans l = 4 - l.spans
+abbrev pub decreases-loop : goal.decreases-loop
+decreases-loop l = 4 - l.counter

@@ -4,6 +4,7 @@ use native.Mathlib.Omega.{arith}
 use mathlib.Core.Path.{◌≡◌, refl, ap, sym, ◌∙◌}
 use mathlib.Core.List.{List}
 use lib.ListN.{length, get_or, take, drop, length-drop}
+use Rattle.std.proofs.Common.{◌≢◌, rules}
 use Rattle.std.specs.Prelude.{Some}
 use Rattle.point.specs.Said.{said}
 use Rattle.point.specs.Reading.{read_point}
@@ -32,23 +33,27 @@ part c = take (size c + 1 - 1) (drop 1 c.args.feed.now)
 same_bytes : (c : After-record_size-size) → part c ≡ bytes c
 same_bytes c = let e : size c + 1 - 1 ≡ size c = omega arith in ap (λ (k : ℕ). take k (drop 1 c.args.feed.now)) e
 
+-- a byte is left
+some : (c : After-record_size-size) → length c.args.feed.now ≢ 0
+some c = search rules
+
 inside : (c : After-record_size-size) → size c < length c.args.feed.now
 inside c =
     let s = c.args.feed.now in
-    omega (arith, c.record_size-size.ensures.within, ap length (rest 1 s), length-drop 1 s, c.if-feed-eq0.false)
+    omega (arith, c.record_size-size.ensures.within, ap length (rest 1 s), length-drop 1 s, some c)
 
 -- what their offer gives
 abbrev result : After-record_size-size → List ℕ → Result (List ℕ)
 result c s = let a = c.args in offer_bytes a.book.now (offer_of a.schedule.now (get_or a.feed.now 0 0) s a.peers.now)
 
 offers : (c : After-record_size-size) → next c ≡ offered_as c.args.place (suc (size c)) (result c (bytes c)) (read_point (bytes c))
-offers c = step-offer _ _ _ _ c.args.feed.now (size c) c.if-feed-eq0.false (c.record_size-size.ensures.same ∙ ap record_size (rest 1 c.args.feed.now))
+offers c = step-offer _ _ _ _ c.args.feed.now (size c) (some c) (c.record_size-size.ensures.same ∙ ap record_size (rest 1 c.args.feed.now))
 
-pub returns-then-feed-eq0 : goal.returns-then-feed-eq0
-returns-then-feed-eq0 c =
+pub returns-then-is_empty : goal.returns-then-is_empty
+returns-then-is_empty c =
     let a = c.args in
     let s = a.feed.now in
-    let told = gives-over a.book.now a.peers.now (length s) (step a.schedule.now a.book.now a.peers.now a.place s) (step-over _ _ _ _ s c.if-feed-eq0.true) in
+    let told = gives-over a.book.now a.peers.now (length s) (step a.schedule.now a.book.now a.peers.now a.place s) (step-over _ _ _ _ s (search rules)) in
     record { same = told.0; left = told.1.0; unknown = told.1.1.0; within = told.1.1.1 }
 
 pub returns-in-Some : goal.returns-in-Some
