@@ -1,4 +1,5 @@
 // The step from one entry to the next: a list and a book feed it.
+// By and an entry come together here, in judge_reason and in book_judge: a struct of both would be made for each entry.
 ghost use Rattle.std.specs.Prelude.{◌≡◌, Bool, true, option_map};
 ghost use Rattle.point.specs.Code.{through_of};
 ghost use Rattle.schedule.specs.Code.{settings_of};
