@@ -27,14 +27,14 @@ use Rattle.point.proofs.Maps.{pairs_many, pairs_peers}
 use Rattle.point.proofs.Ids.{same_sym, same_refl}
 use Rattle.rules.specs.DagPoint.{DagPoint, Entry, IndirectEntry, entry_id, is_dropped, is_by}
 use Rattle.rules.specs.List.{Listed, read_list, directs, indirects}
-use Rattle.judge_mismatch.specs.Code.{Head, listed, round_in, pairs_in, maps_in, no_pair, IsRow, among_to, own_ids, is_twice_in, is_version_twice, is_new_version, is_target_with, id_of, unmarked}
-use Rattle.judge_mismatch.specs.Maps.{Marked, MapsMarked, IdMarked, lacks, zeros, AllPlaced}
+use Rattle.judge_mismatch.specs.Code.{Head, listed, round_in, pairs_in, maps_in, no_pair, IsRow, own_ids, is_twice_in, is_version_twice, is_new_version, is_target_with, id_of, unmarked}
+use Rattle.judge_mismatch.specs.Maps.{Marked, MapsMarked, lacks, zeros, AllPlaced}
 use Rattle.judge_mismatch.specs.declared.maps.MarkedMap.{MarkedMap}
 use Rattle.judge_mismatch.proofs.Heads.{front_kept, front_dropped, next_of, listed-is, directs-here, indirects-here, reads_end, directs-next, indirects-same, indirects-next}
 use Rattle.judge_mismatch.specs.Entries.{left_of, Front}
 use Rattle.judge_mismatch.specs.declared.entries.Entries.{Entries}
 use Rattle.rules.specs.Mismatch.{is_target_of, same_role, stood_before, all_targets, mismatch, has_id, pair_id, is_among, is_version, has_place, all_placed, ids_of, dropped_in, lacking_in, lacking}
-use Rattle.judge_mismatch.proofs.Rows.{Maps, among-at, among_not, among-to-same, has_same, row_once, stood}
+use Rattle.judge_mismatch.proofs.Rows.{Maps, among_to, among-at, among_not, among-to-same, has_same, row_once, stood}
 use Rattle.judge_mismatch.proofs.Own.{own-here, own-passed, none-twice, twice-next, own-has, once_tail, version-once}
 use Rattle.rules.proofs.Mismatch.{has_first, has-next, has-none}
 
@@ -164,6 +164,11 @@ module _ {p : PointInfo} {x : PointId} {before : List PointId} {m : ℕ} {found 
       at_row : is_among (round_in p m) (pairs_in p m) x ≡ false → (k : ℕ) (g : MarkedMap) → k ≡ m → Marked (round_in p k) (pairs_in p k) (x ∷ before) (get_or maps k g)
       at_row none k g r = rw r (mark_absent (w.left m g (omega arith) lt) x none)
 
+-- the maps are marked by an id too, which other ids marked before: whether a row has it, which none of them stood for
+abbrev IdMarked : PointInfo → List PointId → PointId → List MarkedMap → Bool → Type 0
+IdMarked p before i maps found =
+    (found ≡ among_to (length maps) p i) × (found ≡ true → has_id before i ≡ false) × MapsMarked p (i ∷ before) maps
+
 pub marking_start : {p : PointInfo} {x : PointId} {before : List PointId} {maps : List MarkedMap} → MapsMarked p before maps → Marking p x before 0 false maps
 unfolding among_to
 marking_start w = record {
@@ -175,7 +180,7 @@ marking_start w = record {
 }
 
 pub marking_end : {p : PointInfo} {x : PointId} {before : List PointId} {m : ℕ} {found : Bool} {maps : List MarkedMap} →
-    Marking p x before m found maps → length maps ≤ m → IdMarked p before x maps (Some found)
+    Marking p x before m found maps → length maps ≤ m → IdMarked p before x maps found
 marking_end {p} {x} {before} {m} {found} {maps} w h =
     let whole : m ≡ length maps = omega (arith, w.within) in
     (w.among ∙ ap (λ k. among_to k p x) whole, w.new, λ k d g. w.done k d (omega arith))
@@ -320,7 +325,7 @@ module _ {presence : ℕ} {p : PointInfo} {all rest : List Entry} {maps₀ : Lis
     walk-twice : has_id w.before x ≡ true → all_placed presence p [] all ≡ false
     walk-twice h = not_placed (stood (has_place presence p x) (has_id w.before x) (all_placed presence p (x ∷ w.before) es) h)
 
-    module _ {found : Bool} (maps : List MarkedMap) (k : IdMarked p w.before x maps (Some found)) (many : length maps ≡ maps_in presence) where
+    module _ {found : Bool} (maps : List MarkedMap) (k : IdMarked p w.before x maps found) (many : length maps ≡ maps_in presence) where
       among : found ≡ among_to (maps_in presence) p x
       among = k.0 ∙ ap (λ m. among_to m p x) many
 
@@ -565,7 +570,7 @@ module _ {presence : ℕ} {p : PointInfo} {all l r : List Listed} {maps : List M
     pub going_twice : has_id g.walk.before i ≡ true → all_placed presence p [] (directs all) ≡ false
     going_twice = walk-twice g.walk (directs-next f a) own.0 own.1
 
-    module _ {found : Bool} (marks : List MarkedMap) (k : IdMarked p g.walk.before i marks (Some found)) (n : length marks ≡ maps_in presence) where
+    module _ {found : Bool} (marks : List MarkedMap) (k : IdMarked p g.walk.before i marks found) (n : length marks ≡ maps_in presence) where
       -- no version stands again, so that each is a new one
       new-version : is_version p i ≡ is_new_version p (directs r) i
       new-version = version-once p f.first.entry _ i own.0 own.1 once-next

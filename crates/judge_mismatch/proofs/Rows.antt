@@ -5,7 +5,7 @@ use Prim.Native.Nat.{ℕ, zero, suc, ◌≤◌, ◌<◌}
 use native.Mathlib.Omega.{arith}
 use native.Mathlib.Decide.{dec_lt}
 use mathlib.Core.Path.{◌≡◌, refl, ap, sym, ◌∙◌}
-use mathlib.Core.Bool.{Bool, true, false, not, ◌&&◌, or-true}
+use mathlib.Core.Bool.{Bool, true, false, not, ◌&&◌, ◌||◌, or-true}
 use mathlib.Core.List.{List, [], ◌∷◌}
 use lib.ListN.{length, get_or}
 use lib.Dec.{eqb}
@@ -18,7 +18,7 @@ use Rattle.point.specs.Point.{PointId, PointInfo, same_id}
 use Rattle.point.proofs.Laws.{Readable}
 use Rattle.point.proofs.Ids.{same_fields, fields_same}
 use Rattle.rules.specs.Mismatch.{has_id, pair_id, is_among}
-use Rattle.judge_mismatch.specs.Code.{round_in, pairs_in, maps_in, no_pair, IsRow, among_to}
+use Rattle.judge_mismatch.specs.Code.{round_in, pairs_in, maps_in, no_pair, IsRow}
 
 -- ---- tests
 
@@ -27,6 +27,11 @@ stood true b c h = rw h
 stood false b c h = refl
 
 -- ---- ids
+
+-- whether an id is a dependency of the first maps
+unfoldable pub among_to : ℕ → PointInfo → PointId → Bool
+among_to zero p i = false
+among_to (suc m) p i = is_among (round_in p m) (pairs_in p m) i || among_to m p i
 
 -- the same id in another's place
 module _ (a b : PointId) (h : same_id a b ≡ true) where

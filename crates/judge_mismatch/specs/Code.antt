@@ -100,11 +100,6 @@ abbrev pub IsRow : ℕ → List Pair → PointId → Option ℕ → Type 0
 IsRow round l i None = is_among round l i ≡ false
 IsRow round l i (Some k) = (k < length l) × (same_id (pair_id round (get_or l k no_pair)) i ≡ true)
 
--- whether an id is a dependency of the first maps
-unfoldable pub among_to : ℕ → PointInfo → PointId → Bool
-among_to zero p i = false
-among_to (suc m) p i = is_among (round_in p m) (pairs_in p m) i || among_to m p i
-
 -- ---- the versions of the author's point at the round before
 
 -- the id of an entry, if it is of the author at the round before

@@ -1,11 +1,11 @@
 -- What the marked maps of the code stand for, and what the walk over the direct entries finds. They stand apart from Code, on which
 -- the struct MarkedMap rests.
-use Rattle.std.specs.Prelude.{ℕ, ◌≤◌, ◌<◌, Bool, true, false, List, [], ◌∷◌, get_or, drop, length, sum_by, ◌≡◌, Option, None, Some, is_some}
+use Rattle.std.specs.Prelude.{ℕ, ◌≤◌, ◌<◌, true, false, List, [], get_or, drop, length, sum_by, ◌≡◌, Option, None, Some, is_some}
 use Rattle.map.specs.Rows.{Pair, peers_of, pairs_of}
 use Rattle.point.specs.Point.{PointId, PointInfo}
 use Rattle.rules.specs.List.{read_list, directs, indirects}
 use Rattle.rules.specs.Mismatch.{has_id, pair_id, all_placed, ids_of, dropped_in}
-use Rattle.judge_mismatch.specs.Code.{listed, round_in, pairs_in, maps_in, no_pair, among_to, unmarked}
+use Rattle.judge_mismatch.specs.Code.{listed, round_in, pairs_in, maps_in, no_pair, unmarked}
 use Rattle.judge_mismatch.specs.declared.maps.MarkedMap as code-map
 use Rattle.judge_mismatch.specs.declared.walk.Walked as code-walked
 
@@ -19,13 +19,6 @@ pub record Marked (round : ℕ) (l : List Pair) (ids : List PointId) (x : code-m
 -- the maps are the first of a point, marked by these ids
 abbrev pub MapsMarked : PointInfo → List PointId → List code-map.MarkedMap → Type 0
 MapsMarked p ids maps = (m : ℕ) (x : code-map.MarkedMap) → m < length maps → Marked (round_in p m) (pairs_in p m) ids (get_or maps m x)
-
--- an id is looked up in the maps, which other ids marked before: whether a row has it, which is marked then, or nothing where one of
--- them stood for it
-abbrev pub IdMarked : PointInfo → List PointId → PointId → List code-map.MarkedMap → Option Bool → Type 0
-IdMarked p before i maps None = has_id before i ≡ true
-IdMarked p before i maps (Some found) =
-    (found ≡ among_to (length maps) p i) × (found ≡ true → has_id before i ≡ false) × MapsMarked p (i ∷ before) maps
 
 -- how many rows of the maps are not marked
 abbrev pub lacks : code-map.MarkedMap → ℕ
