@@ -65,10 +65,20 @@ pub or_cases : (a b : Bool) → (a || b) ≡ true → (a ≡ true) ⊎ (b ≡ tr
 or_cases true b h = inl refl
 or_cases false b h = inr h
 
-pub or_swap : (a b c : Bool) → ((a || b) || c) ≡ (b || (a || c))
+-- the first two in another order
+pub and_swap : (a b c : Bool) → (a && (b && c)) ≡ (b && (a && c))
+and_swap true b c = refl
+and_swap false true c = refl
+and_swap false false c = refl
+
+pub or_swap : (a b c : Bool) → (a || (b || c)) ≡ (b || (a || c))
 or_swap true true c = refl
 or_swap true false c = refl
 or_swap false b c = refl
+
+pub or_inside : (a b c : Bool) → ((a || b) || c) ≡ (b || (a || c))
+or_inside true b c = or_swap true b c
+or_inside false b c = refl
 
 -- ---- choice by a test
 

@@ -1,5 +1,5 @@
 -- Laws of an offer to a book's bytes: what is decided over them, and what the two writes make of them.
-use Rattle.std.specs.Prelude.{Option, None, Some}
+use Rattle.std.specs.Prelude.{None, Some}
 use Prim.Native.Nat.{ℕ, ◌+◌, ◌≤◌}
 use native.Mathlib.Omega.{arith}
 use mathlib.Core.Path.{◌≡◌, refl, ap, sym, ◌∙◌, subst}
@@ -7,7 +7,6 @@ use mathlib.Core.Bool.{Bool}
 use mathlib.Core.List.{List, [], ◌∷◌, ◌++◌, append-nil}
 use lib.ListN.{length}
 use lib.Dec.{eqb}
-use Rattle.base.proofs.Impossible.{impossible}
 use Rattle.parts.specs.Bytes.{put_at, Bytes}
 use Rattle.write.proofs.Laws.{put_nothing}
 use Rattle.point.specs.Point.{Includes, Direct, PointInfo, prev_id}
@@ -16,14 +15,10 @@ use Rattle.schedule.specs.Settings.{Settings}
 use Rattle.schedule.specs.Code.{settings_of}
 use Rattle.point.specs.Said.{said}
 use Rattle.reasons.specs.Verdict as verdict
-use Rattle.reasons.specs.declared.ill_formed.VerifyError.{VerifyError}
-use Rattle.reasons.specs.declared.ill_formed.WaveChecked.{WaveChecked}
-use Rattle.rules.specs.Unknown.{peer_bytes}
-use Rattle.rules.specs.Verify.{verify}
-use Rattle.rules.specs.Judge.{Input, refused, admitted, verify_buffer, JudgeAnswer, Number, Given, answered, needed, before_with, before}
-use Rattle.books.specs.Kept.{Kept, Book, mark, Opened}
+use Rattle.rules.specs.Judge.{Input, refused, admitted, verify_buffer, JudgeAnswer, Number, Given, answered, needed, before}
+use Rattle.books.specs.Kept.{Kept, Book, Opened}
 use Rattle.books.specs.Spread.{covers}
-use Rattle.books.specs.Offer.{Offer, Result, used, offer_tested, before_in, marked_by, marked_in, answer_in, left_by, judged_as, offer_with, offer}
+use Rattle.books.specs.Offer.{Offer, Result, used, offer_tested, before_in, marked_by, marked_in, answer_in, left_by, judged_as, offer_with, offer, covered_by}
 use Rattle.books.specs.Layout.{kept_bytes, entries_bytes, book_bytes, read_book}
 use Rattle.books.specs.Calls.{laid_out, in_bytes, offer_to, offer_bytes}
 use Rattle.books.proofs.RoundTrip.{settings-length}
@@ -31,10 +26,11 @@ use Rattle.books.proofs.Canonical.{BookOf, book-again}
 use Rattle.books.proofs.Shape.{mark-shape, whole}
 use Rattle.books.proofs.Spread.{covers-prev}
 use Rattle.books.proofs.Offered.{Accepted, accepted, marked-used}
-use Rattle.books.proofs.Bytes.{unmarked, append-bytes}
+use Rattle.books.proofs.Judged.{unwritten}
+use Rattle.books.proofs.Bytes.{append-bytes, unmarked-all}
 use Rattle.book_read.specs.Code.{IsRead}
 use Rattle.book_judge.specs.Code.{over_book}
-use Rattle.book.specs.Code.{covered_by, Marked, LeftAt, Ready, Refuses, Judges, Asks, ListJudged}
+use Rattle.book.specs.Code.{Marked, LeftAt, Ready, Refuses, Judges, Asks, ListJudged}
 use Rattle.book.specs.declared.decide.Needs as code-needs
 use Rattle.id_index.specs.declared.Index as code-index
 
@@ -103,16 +99,6 @@ module _ (s : List ℕ) (o : Offer) where
   abbrev pub Written : JudgeAnswer → List ℕ → List ℕ → Type 0
   Written a buffer last = (a ≡ (offer_bytes s o).answer) × ((buffer ≡ (offer_bytes s o).peers) × (last ≡ (offer_bytes s o).after))
 
--- a number comes only of a point that passed verification
-passed : (v : Option VerifyError) (g : Bool) (w : WaveChecked) (n : ℕ) → before_with v g w ≡ answered (Number n) → v ≡ None
-passed None g w n h = refl
-passed (Some e) g w n h = impossible (cc)
-
--- then no peer is unknown
-unwritten : (i : Input) (leader : ℕ) (buffer : List ℕ) (n : ℕ) → before_in i leader ≡ answered (Number n) → verify_buffer (admitted i) buffer ≡ buffer
-unfolding put_at peer_bytes before_in before
-unwritten i leader buffer n h = rw (passed (verify i.settings i.schedule i.point) _ _ n h)
-
 -- ---- over the bytes of a book that was read
 
 module _ (s : List ℕ) (w : Bytes s) (z : Opened) (r : read_book s ≡ Some z) where
@@ -166,7 +152,7 @@ module _ (s : List ℕ) (w : Bytes s) (z : Opened) (r : read_book s ≡ Some z) 
           refused_before : (n : ℕ) → before_in i o.leader ≡ answered (Number n) → Refuses s o n buffer
           unfolding answer_in marked_in
           refused_before n x =
-              rw (f ∙ unwritten i o.leader o.peers n x)
+              rw (f ∙ unwritten i o.leader n o.peers x)
               (taken-result (Number n) (rw x) ∙ ap (λ (l : List ℕ). record { answer = Number n; peers = o.peers; after = l }) as_found)
 
           -- a verdict before a list is needed; it marks nothing
@@ -256,10 +242,6 @@ module _ {s : List ℕ} {o : Offer} {n : code-needs.Needs} {x : code-index.Index
 
 -- ---- without a previous point nothing is marked
 
-uncovered : (c : Settings) (a b : Book) → mark (covers c a None) b ≡ b
-unfolding mark covers
-uncovered c a [] = refl
-uncovered c a (k ∷ b) = rw (unmarked (covers c a None) k refl, uncovered c a b)
-
 pub none-marked : (c : Settings) (p : PointInfo) (s : List ℕ) → Bytes s → prev_id p ≡ None → Marked c p s s
-none-marked c p s w h = λ z r. rw h ((book-again s z w r).bytes ∙ ap (book_bytes z.bytes (length s)) (sym (uncovered c z.book z.book)))
+unfolding covers
+none-marked c p s w h = λ z r. rw h ((book-again s z w r).bytes ∙ ap (book_bytes z.bytes (length s)) (sym (unmarked-all (covers c z.book None) z.book (λ k m. refl))))

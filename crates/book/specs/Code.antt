@@ -2,7 +2,7 @@
 use Rattle.std.specs.Prelude.{ℕ, ◌+◌, ◌≤◌, ◌≡◌, true, List, length, leb, Some, Result, Ok, Err}
 use Rattle.parts.specs.Bytes.{put_at}
 use Rattle.parts.specs.Limits.{tag33_length}
-use Rattle.point.specs.Point.{PointId, PointInfo, prev_id, in_domain}
+use Rattle.point.specs.Point.{PointId, PointInfo, in_domain}
 use Rattle.point.specs.Code.{point_of}
 use Rattle.point.specs.Said.{said}
 use Rattle.schedule.specs.Settings.{Settings}
@@ -14,9 +14,8 @@ use Rattle.reasons.specs.Code.{verdict_of}
 use Rattle.reasons.specs.Refusal.{refusal_number}
 use Rattle.reasons.specs.declared.refusal.Refusal.{Refusal}
 use Rattle.rules.specs.Judge.{Input, Tested, refused, admitted, tested_with, verify_buffer, Number, Given, needed}
-use Rattle.books.specs.Kept.{Book, mark, Opened}
-use Rattle.books.specs.Spread.{covers}
-use Rattle.books.specs.Offer.{Offer, tested_room, offer_tested, before_in, left_by}
+use Rattle.books.specs.Kept.{Opened}
+use Rattle.books.specs.Offer.{Offer, tested_room, offer_tested, before_in, left_by, covered_by}
 use Rattle.books.specs.Layout.{entries_bytes, book_bytes, read_book}
 use Rattle.books.specs.Calls.{offer_bytes}
 use Rattle.book_read.specs.Code.{IsRead}
@@ -30,10 +29,7 @@ use Rattle.book.specs.declared.decide.Decided.TheVariants as case-decided
 
 -- ---- the two writes
 
--- the entries with the marks that a point makes
-abbrev pub covered_by : Settings → PointInfo → Book → Book
-covered_by c p b = mark (covers c b (prev_id p)) b
-
+-- the entries get the marks that a point makes
 abbrev pub Marked : Settings → PointInfo → List ℕ → List ℕ → Type 0
 Marked c p s t = (z : Opened) → read_book s ≡ Some z → t ≡ book_bytes z.bytes (length s) (covered_by c p z.book)
 

@@ -36,7 +36,7 @@ pub struct Needs<'a> {
 // A verdict and where the entries end, or that the list is needed. No Result, since neither is a failure.
 #[derive(Clone, Copy)]
 pub enum Decided<'a> {
-    Judged(Verdict, usize),
+    Judged { verdict: Verdict, end: usize },
     Needed(Needs<'a>),
 }
 
@@ -92,7 +92,7 @@ fn judge_input<'a>(
     let conf = input.conf;
     let point = input.point;
     match judge::before_list(conf, &input.schedule, &point, leader == 1, peers)? {
-        Before::Judged(verdict) => Ok(Decided::Judged(verdict, end)),
+        Before::Judged(verdict) => Ok(Decided::Judged { verdict, end }),
         Before::Needed(required) => Ok(Decided::Needed(Needs {
             conf,
             point,

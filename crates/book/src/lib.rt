@@ -92,7 +92,7 @@ pub fn offer(
 {
     let mut index = Index::new();
     match decide::decide(book, schedule, leader, rec, peers, &mut index)? {
-        Decided::Judged(verdict, end) => {
+        Decided::Judged { verdict, end } => {
             keep(book, end, rec, verdict);
             Ok(verdict)
         }

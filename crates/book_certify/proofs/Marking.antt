@@ -5,7 +5,7 @@ use native.Mathlib.Numerals.{add-one}
 use native.Mathlib.Omega.{arith}
 use mathlib.Core.Path.{◌≡◌, refl, ap, sym, ◌∙◌, subst}
 use mathlib.Core.Bool.{Bool, true, false}
-use mathlib.Core.List.{List, [], ◌∷◌, ◌++◌, Memᴰ, append-nil}
+use mathlib.Core.List.{List, [], ◌∷◌, ◌++◌, append-nil}
 use lib.ListN.{length, get_or, set, take, drop, drop_of_length-le}
 use lib.Seq.{take_all, drop-nil}
 use Rattle.base.specs.Base.{pick}
@@ -20,7 +20,7 @@ use Rattle.books.specs.Kept.{Kept, Book, mark_one, mark}
 use Rattle.books.specs.Spread.{covers}
 use Rattle.books.specs.Offer.{used}
 use Rattle.books.specs.Layout.{book_bytes}
-use Rattle.books.proofs.Bytes.{mark-used, unmarked, entry-marked}
+use Rattle.books.proofs.Bytes.{mark-used, unmarked, unmarked-all, entry-marked}
 use Rattle.books.proofs.Canonical.{BookOf, book-again}
 use Rattle.books.proofs.RoundTrip.{settings-length}
 use Rattle.book_read.specs.Code.{IsRead}
@@ -50,11 +50,6 @@ module _ (test : PointId → Bool) where
       let g : b ≡ rest = cc in
       rw (f, g)
   marked_next (y ∷ b) (suc j) k rest e = ap (λ (l : Book). mark_one test y ∷ l) (marked_next b j k rest e)
-
-  unmarked-all : (b : Book) → ((k : Kept) → Memᴰ k b → test k.point.id ≡ false) → mark test b ≡ b
-  unfolding mark
-  unmarked-all [] f = refl
-  unmarked-all (k ∷ b) f = rw (unmarked test k (f k (Memᴰ.head refl)), unmarked-all b (λ y m. f y (Memᴰ.tail m)))
 
 -- the bytes of a book of which the first j entries have their marks
 abbrev pub Marking : List ℕ → (PointId → Bool) → ℕ → List ℕ → Type 0

@@ -16,7 +16,7 @@ use Rattle.base.specs.Base.{pick}
 use Rattle.base.proofs.Bool.{clash}
 use Rattle.base.proofs.Option.{picked, and_then_lem, some_of, unfound}
 use Rattle.base.proofs.Impossible.{impossible}
-use Rattle.parts.specs.Bytes.{little_bytes, big_bytes, put_at}
+use Rattle.parts.specs.Bytes.{put_at}
 use Rattle.parts.specs.Limits.{tag33_length}
 use Rattle.write.proofs.Laws.{put_three}
 use Rattle.record.specs.Record.{field_row, field_ok, record_end}
@@ -28,7 +28,7 @@ use Rattle.point.proofs.Known.{picked-some}
 use Rattle.reasons.specs.Invalid.{dag_round}
 use Rattle.rules.specs.List.{is_named, is_listable}
 use Rattle.books.specs.Kept.{Status, Valid, TransInvalid, Invalid, IllFormed, Kept}
-use Rattle.books.specs.Layout.{id_bytes, is_zeros, root_at, is_root_ok, read_status, is_keepable, read_kept, KeptFront, kept_front}
+use Rattle.books.specs.Layout.{is_zeros, root_at, is_root_ok, read_status, is_keepable, read_kept, KeptFront, kept_front}
 use Rattle.book_layout.specs.Code.{status_of, KeptAt, EntryTo, KeptEnd}
 use Rattle.book_layout.specs.declared.read.Kept as code-kept
 
@@ -288,10 +288,6 @@ module _ (s : List ℕ) (h : is_some (kept_front s) ≡ true) where
 pub put_right : (l : List ℕ) (at : ℕ) (xs ys zs : List ℕ) (m n : ℕ) → at + length xs ≡ m → m + length ys ≡ n → n + length zs ≤ length l →
     put_at (put_at (put_at l at xs) m ys) n zs ≡ put_at l at (xs ++ (ys ++ zs))
 put_right l at xs ys zs m n e f h = put_three l at xs ys zs m n e f h ∙ ap (put_at l at) (append_assoc xs ys zs)
-
-pub id_length : (i : PointId) → length (id_bytes i) ≡ 68
-unfolding little_bytes big_bytes
-id_length i = refl
 
 -- what the 105 bytes of tag 33 tell of a status, and what they and a record tell of an entry
 pub ruleset status_some = (valid_some, trans_some, invalid_some, ill_formed_some, status_none)

@@ -41,8 +41,15 @@ pub fn dag_point(info: PointInfo, status: Status) -> DagPoint
 {
     match status {
         Status::Valid => DagPoint::Valid(info),
-        Status::TransInvalid(d) => DagPoint::TransInvalid(info, d.to, d.reason),
-        Status::Invalid(n) => DagPoint::Invalid(info, n),
-        Status::IllFormed(n) => DagPoint::IllFormed(info.id, n),
+        Status::TransInvalid(d) => DagPoint::TransInvalid {
+            info,
+            root: d.to,
+            root_reason: d.reason,
+        },
+        Status::Invalid(reason) => DagPoint::Invalid { info, reason },
+        Status::IllFormed(reason) => DagPoint::IllFormed {
+            id: info.id,
+            reason,
+        },
     }
 }

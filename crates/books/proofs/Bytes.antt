@@ -1,23 +1,19 @@
 -- What an offer does to a book's bytes: a mark is one byte that is set, and a new entry is a run of bytes after the others.
-use Rattle.std.specs.Prelude.{None, Some}
 use Prim.Native.Nat.{ℕ, zero, suc, ◌+◌, ◌-◌, ◌≤◌, ◌<◌}
 use native.Mathlib.Nat.{suc-add, zero-add, sub-zero, zero-sub, suc-sub-suc}
 use native.Mathlib.Omega.{arith}
 use mathlib.Core.Path.{◌≡◌, refl, ap, sym, ◌∙◌}
 use mathlib.Core.Bool.{Bool, true, false, or-false, or-true}
-use mathlib.Core.List.{List, [], ◌∷◌, ◌++◌, append_assoc, append-nil}
+use mathlib.Core.List.{List, [], ◌∷◌, ◌++◌, Memᴰ, append_assoc, append-nil}
 use lib.ListN.{length, drop, set, replicate, length-append}
 use lib.Seq.{set-append_left}
 use Rattle.parts.specs.Bytes.{put_at}
 use Rattle.write.proofs.Laws.{put_after}
-use Rattle.point.specs.Point.{PointId, same_id}
-use Rattle.point.proofs.Ids.{same_sym}
-use Rattle.rules.specs.Mismatch.{is_id}
-use Rattle.books.specs.Kept.{Status, Valid, TransInvalid, Invalid, IllFormed, Kept, Book, find_kept, is_twice, mark_one, mark}
+use Rattle.point.specs.Point.{PointId}
+use Rattle.books.specs.Kept.{Status, Valid, TransInvalid, Invalid, IllFormed, Kept, Book, mark_one, mark}
 use Rattle.books.specs.Offer.{used}
 use Rattle.books.specs.Layout.{status_bytes, kept_bytes, entries_bytes, book_bytes}
 use Rattle.books.proofs.RoundTrip.{kept-length, entries-length}
-use Rattle.books.proofs.Find.{once_around, absent-first}
 
 -- ---- books one after the other
 
@@ -52,26 +48,10 @@ pub unmarked : (covers : PointId → Bool) (k : Kept) → covers k.point.id ≡ 
 unfolding mark_one
 unmarked covers k h = rw (h, or-false k.certified)
 
-pub mark-none : (b : Book) → mark (is_id None) b ≡ b
+pub unmarked-all : (covers : PointId → Bool) (b : Book) → ((k : Kept) → Memᴰ k b → covers k.point.id ≡ false) → mark covers b ≡ b
 unfolding mark
-mark-none [] = refl
-mark-none (k ∷ b) = rw (unmarked (is_id None) k refl, mark-none b)
-
-pub mark-absent : (i : PointId) (b : Book) → find_kept b i ≡ None → mark (is_id (Some i)) b ≡ b
-unfolding mark find_kept
-mark-absent i [] h = refl
-mark-absent i (k ∷ b) h =
-    let p = absent-first k b i h in
-    rw (unmarked (is_id (Some i)) k (same_sym i k.point.id ∙ p.0), mark-absent i b p.1)
-
--- ---- no id twice: the other entries have other ids
-
-module _ (i : PointId) (k : Kept) (back : Book) (t : same_id k.point.id i ≡ true) where
-  pub mark-once : (front : Book) → is_twice (front ++ k ∷ back) ≡ false → mark (is_id (Some i)) (front ++ k ∷ back) ≡ front ++ mark_one (is_id (Some i)) k ∷ back
-  unfolding mark
-  mark-once front h =
-      let p = once_around i k back t front h in
-      mark-append (is_id (Some i)) front (k ∷ back) ∙ rw (mark-absent i front p.0, mark-absent i back p.1)
+unmarked-all covers [] h = refl
+unmarked-all covers (k ∷ b) h = rw (unmarked covers k (h k (Memᴰ.head refl)), unmarked-all covers b (λ y m. h y (Memᴰ.tail m)))
 
 -- ---- a mark is one byte
 
@@ -117,14 +97,6 @@ module _ (covers : PointId → Bool) (k : Kept) (t : covers k.point.id ≡ true)
       let within : n < length (entries_bytes b) = omega (arith, entries-length b, entry-within front k back) in
       set_after settings (entries_bytes b ++ zeros) at n 1 (omega arith)
       ∙ rw (one-used front back, set-append_left (entries_bytes b) zeros n 1 within, entries-marked front back)
-
--- one mark alone
-pub mark-bytes : (i : PointId) (k : Kept) → same_id k.point.id i ≡ true → (settings : List ℕ) (len : ℕ) → length settings ≡ 47 → (front back : Book) (at : ℕ) →
-    at ≡ 47 + used front + length k.bytes + 3 + 1 → (b : Book) → b ≡ front ++ k ∷ back → is_twice b ≡ false →
-    set (book_bytes settings len b) at 1 ≡ book_bytes settings len (mark (is_id (Some i)) b)
-mark-bytes i k t settings len l front back at e b f o =
-    rw f (entry-marked (is_id (Some i)) k (same_sym i k.point.id ∙ t) settings len l front back at e
-    ∙ ap (book_bytes settings len) (sym (mark-once i k back t front (rw f at o))))
 
 -- ---- a new entry is a run of bytes
 

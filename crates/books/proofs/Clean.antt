@@ -28,10 +28,10 @@ use Rattle.rules.specs.Verify.{verify}
 use Rattle.rules.specs.CheckIllFormed.{wave_checked}
 use Rattle.rules.specs.Judge.{Input, Tested, admitted, Given, Before, needed, before_with, before}
 use Rattle.rules.proofs.Records.{valid-entries, trans_entry}
-use Rattle.books.specs.Kept.{Kept, Book, find_kept, mark, Opened}
+use Rattle.books.specs.Kept.{Kept, Book, find_kept, Opened}
 use Rattle.books.specs.Lists.{direct_list, indirect_list}
 use Rattle.books.specs.Spread.{covers}
-use Rattle.books.specs.Offer.{Offer, offer_tested, marked_by, answer_over, answer_with, before_in, marked_in, answer_in, offer}
+use Rattle.books.specs.Offer.{Offer, offer_tested, marked_by, answer_over, answer_with, before_in, marked_in, answer_in, offer, covered_by}
 use Rattle.books.specs.Run.{Run}
 use Rattle.books.specs.FoundBook.{EverMarked, with_next, is_bad, DependsOn, Caught}
 use Rattle.books.proofs.Find.{find-id, find-member, once-found}
@@ -73,13 +73,9 @@ module _ (c : Settings) (p : PointInfo) (b : Book) (v : Verdict) where
 
 -- ---- an offer whose verdict came of the lists
 
--- the book with what an offer of this point covers
-abbrev marked_for : Settings → PointInfo → Book → Book
-marked_for c p b = mark (covers c b (prev_id p)) b
-
--- the verdict over the lists that it gives
+-- the verdict over the lists that the book gives, with what an offer of this point covers
 abbrev result_over : Settings → Bool → PointInfo → Book → Verdict
-result_over c required p b = validate c required 3 p (direct_list (marked_for c p b) p) (indirect_list (marked_for c p b) p)
+result_over c required p b = validate c required 3 p (direct_list (covered_by c p b) p) (indirect_list (covered_by c p b) p)
 
 record Listed (z : Opened) (o : Offer) (v : Verdict) (p : PointInfo) : Type 0 where
   pub required : Bool
@@ -152,8 +148,8 @@ module _ (plain : Run Opened) (o : Offer) (h : Sound plain.last)
       let c : Settings = plain.last.settings in
       let w : Listed plain.last o verdict.Valid p =
       listed plain.last o verdict.Valid p read given (ne_eqb p.id.round c.genesis_round (λ e. omega arith)) in
-      let n = valid-entries c w.required 3 p (direct_list (marked_for c p book) p) (indirect_list (marked_for c p book) p) w.result in
-      let r = depends-none c (marked_for c p book) p w.rise w.second n.0 n.1 i t depends in
+      let n = valid-entries c w.required 3 p (direct_list (covered_by c p book) p) (indirect_list (covered_by c p book) p) w.result in
+      let r = depends-none c (covered_by c p book) p w.rise w.second n.0 n.1 i t depends in
       (ever verdict.Valid p w i k f).0
       (bad-certified c p.id.round _ t k.point k.status bad (sym (kept_record c book (covers c book (prev_id p)) p i t k f) ∙ r))
 
@@ -162,8 +158,8 @@ module _ (plain : Run Opened) (o : Offer) (h : Sound plain.last)
   next-caught p read d given =
       let c : Settings = plain.last.settings in
       let w : Listed plain.last o (verdict.TransInvalid d) p = listed plain.last o (verdict.TransInvalid d) p read given tt in
-      let n = trans_entry c w.required 3 p (direct_list (marked_for c p book) p) (indirect_list (marked_for c p book) p) d w.result in
-      let r = cause c (marked_for c p book) p w.rise w.second d n in
+      let n = trans_entry c w.required 3 p (direct_list (covered_by c p book) p) (indirect_list (covered_by c p book) p) d w.result in
+      let r = cause c (covered_by c p book) p w.rise w.second d n in
       let x = recorded-kept c book (covers c book (prev_id p)) p r.0 r.1 d r.3 in
       let e = recorded-by c p.id.round (is_marked p r.0 x.0) r.1 x.0 d
       (sym (kept_record c book (covers c book (prev_id p)) p r.0 r.1 x.0 x.1) ∙ r.3) in

@@ -18,7 +18,7 @@ use Rattle.point.specs.Point.{PointId, Through, AnchorLink, Direct, Indirect, Po
 use Rattle.point.specs.declared.data.AnchorStageRole.{AnchorStageRole}
 use Rattle.point.specs.declared.data.AnchorStageRole.TheVariants.{Proof, Trigger}
 use Rattle.point.proofs.Ids.{same_refl, eq_same, differ}
-use Rattle.rules.specs.DagPoint.{Entry, IndirectEntry, entry_id, is_dropped}
+use Rattle.rules.specs.DagPoint.{Entry, IndirectEntry, entry_id, is_dropped, is_by}
 use Rattle.rules.specs.Validate.{validate}
 use Rattle.schedule.specs.Settings.{Settings}
 use Rattle.rules.specs.Judge.{JudgeAnswer, Number, Given}
@@ -149,22 +149,18 @@ pair-stands round (x ∷ l) q m = go (pair-stands round l q) (Memᴰ.cases_cons 
     go rec (inl e) = Memᴰ.head (ap (λ (z : Pair). pair_id round z) e)
     go rec (inr m') = Memᴰ.tail (rec m')
 
--- an id is one of a version
-is_version_id : ℕ → ℕ → PointId → Bool
-is_version_id round author j = eqb j.round round && eqb j.author author
-
-version-member : (round author : ℕ) (b : Book) (j : PointId) → Memᴰ j (version_ids round author b) → (is_version_id round author j ≡ true) × Memᴰ j (book_ids b)
-unfolding version_ids book_ids is_version_id
+version-member : (round author : ℕ) (b : Book) (j : PointId) → Memᴰ j (version_ids round author b) → (is_by round author j ≡ true) × Memᴰ j (book_ids b)
+unfolding version_ids book_ids
 version-member round author [] j m = absurd (Memᴰ.not-nil m)
 version-member round author (k ∷ b) j m = go (is_of round author k) refl (version-member round author b j) m
   where
     go : (t : Bool) → is_of round author k ≡ t →
-        (Memᴰ j (version_ids round author b) → (is_version_id round author j ≡ true) × Memᴰ j (book_ids b)) →
-        Memᴰ j (pick t (k.point.id ∷ version_ids round author b) (version_ids round author b)) → (is_version_id round author j ≡ true) × Memᴰ j (k.point.id ∷ book_ids b)
+        (Memᴰ j (version_ids round author b) → (is_by round author j ≡ true) × Memᴰ j (book_ids b)) →
+        Memᴰ j (pick t (k.point.id ∷ version_ids round author b) (version_ids round author b)) → (is_by round author j ≡ true) × Memᴰ j (k.point.id ∷ book_ids b)
     go true h rec m = first (Memᴰ.cases_cons m)
       where
-        first : (j ≡ k.point.id) ⊎ Memᴰ j (version_ids round author b) → (is_version_id round author j ≡ true) × Memᴰ j (k.point.id ∷ book_ids b)
-        first (inl e) = (subst (λ (z : PointId). is_version_id round author z ≡ true) (sym e) h, Memᴰ.head e)
+        first : (j ≡ k.point.id) ⊎ Memᴰ j (version_ids round author b) → (is_by round author j ≡ true) × Memᴰ j (k.point.id ∷ book_ids b)
+        first (inl e) = (subst (λ (z : PointId). is_by round author z ≡ true) (sym e) h, Memᴰ.head e)
         first (inr m') = let w = rec m' in (w.0, Memᴰ.tail w.1)
     go false h rec m = let w = rec m in (w.0, Memᴰ.tail w.1)
 
@@ -176,7 +172,7 @@ record Own (b : Book) (p : PointInfo) (j : PointId) : Type 0 where
   member : Memᴰ j (book_ids b)
 
 own-member : (b : Book) (p : PointInfo) (j : PointId) → Memᴰ j (own_ids b p) → Own b p j
-unfolding own_ids is_version_id
+unfolding own_ids
 own-member b p j m = go (is_some (prev_digest p)) refl m
   where
     go : (t : Bool) → is_some (prev_digest p) ≡ t → Memᴰ j (pick t [] (version_ids (p.id.round - 1) p.id.author b)) → Own b p j
@@ -427,10 +423,10 @@ no_mismatch b p d ri rwi two =
 
 -- ---- 7 and 9: what holds of each kept entry and of each id that is not kept holds of both lists
 
-entries-append : (a b : List IndirectEntry) → entries_in (a ++ b) ≡ entries_in a ++ entries_in b
+entries_in-append : (a b : List IndirectEntry) → entries_in (a ++ b) ≡ entries_in a ++ entries_in b
 unfolding entries_in
-entries-append [] b = refl
-entries-append (x ∷ a) b = ap (λ (l : List Entry). x.entry ∷ l) (entries-append a b)
+entries_in-append [] b = refl
+entries_in-append (x ∷ a) b = ap (λ (l : List Entry). x.entry ∷ l) (entries_in-append a b)
 
 module _ (P : Entry → Type 0) (b : Book) (p : PointInfo)
     (lost : (i : PointId) → P (entry_with b p i None)) (kept : (k : Kept) → Memᴰ k b → P (kept_entry b k)) where
@@ -472,7 +468,7 @@ module _ (P : Entry → Type 0) (b : Book) (p : PointInfo)
   each_target g (Indirect to t) = (each_lookup to, tt)
 
   both-targets : (g h : AnchorStageRole) (l m : AnchorLink) → All P (entries_in (target_entry b p g l ++ target_entry b p h m))
-  both-targets g h l m = rw (entries-append (target_entry b p g l) (target_entry b p h m)) (all_append P (entries_in (target_entry b p g l)) (entries_in (target_entry b p h m)) (each_target g l) (each_target h m))
+  both-targets g h l m = rw (entries_in-append (target_entry b p g l) (target_entry b p h m)) (all_append P (entries_in (target_entry b p g l)) (entries_in (target_entry b p h m)) (each_target g l) (each_target h m))
 
   pub each_indirect : All P (entries_in (indirect_list b p))
   unfolding indirect_list

@@ -71,7 +71,7 @@ passed None g w n h = refl
 passed (Some e) g w n h = impossible (cc)
 
 -- then no peer is unknown
-unwritten : (i : Input) (leader n : ℕ) (buffer : List ℕ) → before_in i leader ≡ answered (Number n) → verify_buffer (admitted i) buffer ≡ buffer
+pub unwritten : (i : Input) (leader n : ℕ) (buffer : List ℕ) → before_in i leader ≡ answered (Number n) → verify_buffer (admitted i) buffer ≡ buffer
 unfolding before_in before put_at peer_bytes
 unwritten i leader n buffer h = rw (passed (verify i.settings i.schedule i.point) _ _ n h)
 

@@ -18,7 +18,7 @@ use Rattle.rules.specs.DagPoint.{is_by}
 use Rattle.books.specs.Kept.{Status, Valid, TransInvalid, Invalid, IllFormed, Kept, Book, find_kept}
 use Rattle.books.specs.Layout.{id_bytes}
 use Rattle.write.proofs.Laws.{bytes_below}
-use Rattle.books.specs.ListFor.{tag16, tag17, entry_as, entry_of, entry_for, of_pairs, of_versions, of_target, list_for}
+use Rattle.books.specs.ListFor.{tag16, tag17, entry_as, of_kept, entry_for, of_pairs, of_versions, of_target, list_for}
 use Rattle.books.proofs.Find.{find-member}
 use Rattle.books.proofs.Shape.{StatusFits, KeptShape, Shape}
 
@@ -87,7 +87,7 @@ role-below Trigger = omega arith
 -- ---- the list
 
 module _ (b : Book) (marked : PointId → Bool) (p : PointInfo) (h : Shape b) where
-  kept-bytes : (k : Kept) → Memᴰ k b → AllBytes (entry_of b marked k)
+  kept-bytes : (k : Kept) → Memᴰ k b → AllBytes (of_kept b marked k)
   kept-bytes k m = let o : KeptShape k = h.entries k m in entry-bytes k (record { bytes = o.bytes }) _ _ k.status o.status.fits
 
   found-bytes : (i : PointId) → AllBytes (entry_for b marked p i (find_kept b i))

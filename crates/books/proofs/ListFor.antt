@@ -22,7 +22,7 @@ use Rattle.rules.specs.Mismatch.{pair_id, is_id}
 use Rattle.rules.specs.List.{Listed, read_list, directs, indirects}
 use Rattle.books.specs.Kept.{Status, Valid, TransInvalid, Invalid, IllFormed, Kept, Book, find_kept, mark_one, mark}
 use Rattle.books.specs.Lists.{is_valid, is_of, first_valid, kept_entry, entry_with, lookup, lookups, versions, direct_list, target_entry, is_trigger_first, indirect_list}
-use Rattle.books.specs.ListFor.{tag17, is_kept_valid, is_first_valid, entry_of, entry_for, of_pairs, of_versions, of_target, list_for}
+use Rattle.books.specs.ListFor.{tag17, is_kept_valid, is_first_valid, of_kept, entry_for, of_pairs, of_versions, of_target, list_for}
 use Rattle.books.proofs.Find.{find-member, find-marked}
 use Rattle.rules.proofs.Fits.{IdFits, point-fits, TargetFits, DependenciesFit, dependencies_fit}
 use Rattle.books.proofs.Shape.{Shape}
@@ -51,7 +51,7 @@ first-valid covers (k ∷ b) i = rw (valid_same k.status) (go (is_valid k.status
 -- with a test that says of each entry whether it is certified once those that are covered are marked
 module _ (b : Book) (covers marked : PointId → Bool) (p : PointInfo) (h : Shape b)
     (same : (k : Kept) → Memᴰ k b → marked k.point.id ≡ (k.certified || covers k.point.id)) where
-  kept-written : (k : Kept) → Memᴰ k b → Written (entry_of b marked k) (kept_entry (mark covers b) (mark_one covers k))
+  kept-written : (k : Kept) → Memᴰ k b → Written (of_kept b marked k) (kept_entry (mark covers b) (mark_one covers k))
   unfolding kept_entry mark_one
   kept-written k m =
       rw (same k m, first-valid covers b k.point.id)
@@ -85,10 +85,10 @@ module _ (b : Book) (covers marked : PointId → Bool) (p : PointInfo) (h : Shap
         v = versions (mark covers b) (p.id.round - 1) p.id.author (mark covers l)
 
         go : (t : Bool) → Reads (length l + m) false (of_versions b marked p l ++ s) (v ++ es) ts →
-            Reads (suc (length l + m)) false ((pick t (entry_of b marked k) [] ++ of_versions b marked p l) ++ s)
+            Reads (suc (length l + m)) false ((pick t (of_kept b marked k) [] ++ of_versions b marked p l) ++ s)
             (pick t (kept_entry (mark covers b) (mark_one covers k) ∷ v) v ++ es) ts
         go true rec =
-            rw (append_assoc (entry_of b marked k) (of_versions b marked p l) s)
+            rw (append_assoc (of_kept b marked k) (of_versions b marked p l) s)
             (direct-more _ _ _ _ _ ts (kept-written k (f k (Memᴰ.head refl))) rec)
         go false rec = λ n g. rec n (omega arith)
 

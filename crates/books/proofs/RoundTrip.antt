@@ -24,6 +24,7 @@ use Rattle.point.proofs.Laws.{readable}
 use Rattle.schedule.specs.Settings.{Settings, settings_in, read_settings}
 use Rattle.reasons.specs.Answer.{flag}
 use Rattle.reasons.specs.Invalid.{InvalidDependency}
+use Rattle.reasons.proofs.Laws.{flag-back}
 use Rattle.rules.specs.List.{is_listable}
 use Rattle.books.specs.Kept.{Status, Valid, TransInvalid, Invalid, IllFormed, Kept, Book, is_twice, Opened}
 use Rattle.books.specs.Offer.{used}
@@ -35,6 +36,10 @@ use Rattle.books.proofs.Shape.{StatusShape, KeptShape, Shape}
 
 -- ---- tag 33
 
+pub id_length : (i : PointId) → length (id_bytes i) ≡ 68
+unfolding little_bytes big_bytes
+id_length i = refl
+
 pub through-length : (t : Through) → length (through_bytes t) ≡ 33
 through-length (Includes x) = ap suc (bytes-length 32 x)
 through-length (Witness x) = ap suc (bytes-length 32 x)
@@ -45,10 +50,6 @@ status-length Valid c = refl
 status-length (TransInvalid d) c = rw (through-length d.through)
 status-length (Invalid n) c = refl
 status-length (IllFormed n) c = refl
-
-pub flag-back : (c : Bool) → eqb (flag c) 1 ≡ c
-flag-back true = refl
-flag-back false = refl
 
 pub flag-fits : (c : Bool) → leb (flag c) 1 ≡ true
 flag-fits true = refl

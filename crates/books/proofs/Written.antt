@@ -22,14 +22,16 @@ use Rattle.reasons.specs.Invalid.{InvalidDependency, dag_round}
 use Rattle.rules.specs.DagPoint as dag
 use Rattle.rules.specs.DagPoint.{DagPoint, Entry, IndirectEntry}
 use Rattle.reasons.specs.Answer.{flag, role_number}
-use Rattle.rules.specs.List.{role_of, is_listable, record_front, is_root, read_state, Listed, entry_at, read_entry, is_in_order, list_from, directs, indirects}
+use Rattle.reasons.proofs.Laws.{flag-back}
+use Rattle.rules.specs.List.{is_listable, record_front, is_root, read_state, Listed, entry_at, read_entry, is_in_order, list_from, directs, indirects}
 use Rattle.books.specs.Kept.{Status, Valid, TransInvalid, Invalid, IllFormed, Kept}
 use Rattle.books.specs.Lists.{dag_point}
 use Rattle.books.specs.Layout.{id_bytes}
 use Rattle.books.specs.ListFor.{tag16, tag17, entry_as}
+use Rattle.rules.proofs.Decoded.{role-back}
 use Rattle.rules.proofs.Fits.{IdFits, point-fits}
 use Rattle.books.proofs.Shape.{StatusShape, KeptShape}
-use Rattle.books.proofs.RoundTrip.{flag-back, flag-fits, kept-shaped, field-there, id-back}
+use Rattle.books.proofs.RoundTrip.{id_length, flag-fits, kept-shaped, field-there, id-back}
 
 -- ---- one entry
 
@@ -62,18 +64,14 @@ id-state : (i : PointId) (rest : List ℕ) → IdFits i → (field_ok (field_row
 unfolding little_bytes big_bytes
 id-state i rest f = (field-there 17 68 [] (id_bytes i ++ rest) (omega arith), id-back 17 68 0 i rest f)
 
-id-length : (i : PointId) → length (id_bytes i) ≡ 68
-unfolding little_bytes big_bytes
-id-length i = refl
-
 pub lost-reads : (i : PointId) (rest : List ℕ) → IdFits i → read_state 4 0 (tag17 i ++ rest) ≡ Some (record { point = dag.NotFound i; size = length (tag17 i) })
 unfolding read_state
-lost-reads i rest f = rw ((id-state i rest f).0, (id-state i rest f).1, id-length i)
+lost-reads i rest f = rw ((id-state i rest f).0, (id-state i rest f).1, id_length i)
 
 ill-formed-reads : (i : PointId) (n : ℕ) (rest : List ℕ) → IdFits i → (leb 1 n && leb n 16) ≡ true →
     read_state 3 n (tag17 i ++ rest) ≡ Some (record { point = dag.IllFormed i n; size = length (tag17 i) })
 unfolding read_state
-ill-formed-reads i n rest f s = rw (s, (id-state i rest f).0, (id-state i rest f).1, id-length i)
+ill-formed-reads i n rest f s = rw (s, (id-state i rest f).0, (id-state i rest f).1, id_length i)
 
 -- tag 18 with its root cause
 abbrev tag18 : InvalidDependency → List ℕ
@@ -162,9 +160,9 @@ direct-more e x m s es ts w r (suc n) h =
       indirect = z.indirect;
     }
 
-role-back : (g : AnchorStageRole) → (leb (role_number g) 1 ≡ true) × (role_of (role_number g) ≡ g)
-role-back Proof = (refl, refl)
-role-back Trigger = (refl, refl)
+role-fits : (g : AnchorStageRole) → leb (role_number g) 1 ≡ true
+role-fits Proof = refl
+role-fits Trigger = refl
 
 abbrev tag19 : AnchorStageRole → List ℕ
 tag19 g = 19 ∷ 1 ∷ 0 ∷ role_number g ∷ []
@@ -174,8 +172,8 @@ read-indirect : (g : AnchorStageRole) (s : List ℕ) → read_entry (tag19 g ++ 
 unfolding read_entry
 read-indirect g s =
     pick_true (field_ok (field_row 19 1 1) (tag19 g ++ s) 0 && leb (role_number g) 1) _ None
-    (and_both (field_ok (field_row 19 1 1) (tag19 g ++ s) 0) _ (field-there 19 1 [] (role_number g ∷ s) (omega arith)) (role-back g).0)
-    ∙ ap (λ (r : AnchorStageRole). entry_at (Some r) 4 s) (role-back g).1
+    (and_both (field_ok (field_row 19 1 1) (tag19 g ++ s) 0) _ (field-there 19 1 [] (role_number g ∷ s) (omega arith)) (role-fits g))
+    ∙ ap (λ (r : AnchorStageRole). entry_at (Some r) 4 s) (role-back g)
 
 -- after it only such entries stand
 pub indirect-more : (g : AnchorStageRole) (e : List ℕ) (x : Entry) (m : ℕ) (s : List ℕ) (ts : List IndirectEntry) → Written e x → ((after : Bool) → Reads m after s [] ts) →

@@ -40,13 +40,13 @@ is_first_valid (k ∷ b) i =
     pick (is_kept_valid k.status && is_by i.round i.author k.point.id) (same_id k.point.id i) (is_first_valid b i)
 
 -- with the test `marked`, which says what is certified
-abbrev pub entry_of : Book → (PointId → Bool) → Kept → List ℕ
-entry_of b marked k = entry_as k (marked k.point.id) (is_first_valid b k.point.id) k.status
+abbrev pub of_kept : Book → (PointId → Bool) → Kept → List ℕ
+of_kept b marked k = entry_as k (marked k.point.id) (is_first_valid b k.point.id) k.status
 
 -- "unkept ids are not found"; the previous point "counts as certified even if not found"
 abbrev pub entry_for : Book → (PointId → Bool) → PointInfo → PointId → Option Kept → List ℕ
 entry_for b marked p i None = tag16 4 (is_id (prev_id p) i) false 0 ++ tag17 i
-entry_for b marked p i (Some k) = entry_of b marked k
+entry_for b marked p i (Some k) = of_kept b marked k
 
 unfoldable pub of_pairs : Book → (PointId → Bool) → PointInfo → ℕ → List Pair → List ℕ
 unfolding find_kept prev_id is_first_valid
@@ -57,7 +57,7 @@ of_pairs b marked p round (q ∷ l) = entry_for b marked p (pair_id round q) (fi
 unfoldable pub of_versions : Book → (PointId → Bool) → PointInfo → Book → List ℕ
 unfolding is_first_valid
 of_versions b marked p [] = []
-of_versions b marked p (k ∷ l) = pick (is_by (p.id.round - 1) p.id.author k.point.id) (entry_of b marked k) [] ++ of_versions b marked p l
+of_versions b marked p (k ∷ l) = pick (is_by (p.id.round - 1) p.id.author k.point.id) (of_kept b marked k) [] ++ of_versions b marked p l
 
 -- "Entries for indirect targets begin with tag 19: 0 proof, 1 trigger"
 abbrev pub of_target : Book → (PointId → Bool) → PointInfo → AnchorStageRole → AnchorLink → List ℕ

@@ -72,11 +72,14 @@ offer_tested z o = tested_room z o.bytes (input_tested z.settings o)
 
 -- ---- judging
 
--- "Rule for marks: where the list is needed, before its direct entries are judged, the previous point, if kept, is marked certified",
--- and with it what its certificate covers
+-- "Rule for marks: .. the previous point, if kept, is marked certified", and with it what its certificate covers
+abbrev pub covered_by : Settings → PointInfo → Book → Book
+covered_by c p b = mark (covers c b (prev_id p)) b
+
+-- "where the list is needed, before its direct entries are judged"
 abbrev pub marked_by : Settings → PointInfo → Book → Before → Book
 marked_by c p b (answered a) = b
-marked_by c p b (needed required) = mark (covers c b (prev_id p)) b
+marked_by c p b (needed required) = covered_by c p b
 
 -- the domain of a list, number 7: of records, root causes and reason numbers
 abbrev pub is_state_ok : DagPoint → Bool

@@ -114,7 +114,9 @@ pub record SpreadFacts : Type 0 where
   pub invalid : marks_of 2 (between (Invalid 4) false) (Some (at 14 1)) ≡ true ∷ true ∷ true ∷ []
   pub ill_formed : marks_of 2 (between (IllFormed 16) false) (Some (at 14 1)) ≡ false ∷ true ∷ true ∷ []
   -- a point at the genesis round, 10, takes it and passes nothing on
-  pub genesis_round : marks_of 3 (kept 9 1 [] [] (IllFormed 3) false ∷ kept 10 1 (1 ∷ []) [] Valid false ∷ kept 11 1 (1 ∷ []) [] Valid false ∷ []) (Some (at 11 1)) ≡ false ∷ true ∷ true ∷ []
+  pub genesis_round :
+      marks_of 3 (kept 9 1 [] [] (IllFormed 3) false ∷ kept 10 1 (1 ∷ []) [] Valid false ∷ kept 11 1 (1 ∷ []) [] Valid false ∷ []) (Some (at 11 1))
+      ≡ false ∷ true ∷ true ∷ []
   -- the walk goes on through an entry that was marked before, and takes no mark away
   pub marked_before : marks_of 2 (between Valid true) (Some (at 14 1)) ≡ true ∷ true ∷ true ∷ []
   pub marked_stays : marks_of 1 (between Valid true) (Some (at 12 1)) ≡ true ∷ true ∷ false ∷ []

@@ -44,17 +44,21 @@ pub fn record_of(
         ≡ record_of (settings_of conf.now) round certified (through_of through) (dag_point_of s state.now) }
 {
     match *state {
-        DagPoint::TransInvalid(_, to, reason) => {
-            if certified || is_out_of_window(conf, round, to.round) {
+        DagPoint::TransInvalid {
+            root,
+            root_reason,
+            ..
+        } => {
+            if certified || is_out_of_window(conf, round, root.round) {
                 return None;
             }
             Some(InvalidDependency {
-                to,
-                reason,
+                to: root,
+                reason: root_reason,
                 through,
             })
         }
-        DagPoint::Invalid(info, reason) => {
+        DagPoint::Invalid { info, reason } => {
             if certified {
                 return None;
             }

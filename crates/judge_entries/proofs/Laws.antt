@@ -14,7 +14,7 @@ use Rattle.base.specs.Base.{pick}
 use Rattle.base.proofs.Option.{picked, and_then_lem}
 use Rattle.record.specs.Record.{field_row, field_ok, record_end}
 use Rattle.record.proofs.Laws.{field-length, fitting, end-within}
-use Rattle.rules.proofs.Pieces.{root-length, entry-front}
+use Rattle.rules.proofs.Pieces.{entry-front}
 use Rattle.point.specs.Point.{PointId, PointInfo}
 use Rattle.point.specs.Reading.{point_id_at, read_point}
 use Rattle.point.specs.Said.{said}
@@ -96,9 +96,6 @@ ends_after s part rec front n e h =
     }
 
 -- ---- how long a slice is in which these were found
-
-pub root_long : (s : List ℕ) → is_root s ≡ true → 72 ≤ length s
-root_long = root-length
 
 pub flags_long : (s : List ℕ) → field_ok (field_row 16 4 4) s 0 ≡ true → 7 ≤ length s
 flags_long = field-length 16 4

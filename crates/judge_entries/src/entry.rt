@@ -7,14 +7,24 @@ ghost use Rattle.judge_entries.specs.Code.{dag_point_of, info_of, ReadFrom};
 
 use point::{AnchorStageRole, Point, PointId, PointInfo};
 
-// What a list says of a dependency: its point or its id, the id of its root cause, the number of a reason, in this order. A point's
-// maps stay in its record.
+// What a list says of a dependency: its point or its id, the id of its root cause, the number of a reason. A point's maps stay in its
+// record.
 #[derive(Clone, Copy)]
 pub enum DagPoint {
     Valid(PointInfo),
-    TransInvalid(PointInfo, PointId, u8),
-    Invalid(PointInfo, u8),
-    IllFormed(PointId, u8),
+    TransInvalid {
+        info: PointInfo,
+        root: PointId,
+        root_reason: u8,
+    },
+    Invalid {
+        info: PointInfo,
+        reason: u8,
+    },
+    IllFormed {
+        id: PointId,
+        reason: u8,
+    },
     NotFound(PointId),
     Dropped,
 }
@@ -55,9 +65,9 @@ impl DagPoint {
     {
         match self {
             DagPoint::Valid(info)
-            | DagPoint::TransInvalid(info, _, _)
-            | DagPoint::Invalid(info, _) => info.id,
-            DagPoint::IllFormed(id, _) | DagPoint::NotFound(id) => *id,
+            | DagPoint::TransInvalid { info, .. }
+            | DagPoint::Invalid { info, .. } => info.id,
+            DagPoint::IllFormed { id, .. } | DagPoint::NotFound(id) => *id,
             DagPoint::Dropped => point::NO_POINT,
         }
     }
@@ -77,8 +87,8 @@ impl<'a> Entry<'a> {
     {
         match self.state {
             DagPoint::Valid(info)
-            | DagPoint::TransInvalid(info, _, _)
-            | DagPoint::Invalid(info, _) => Some(Point {
+            | DagPoint::TransInvalid { info, .. }
+            | DagPoint::Invalid { info, .. } => Some(Point {
                 rec: self.rec,
                 info,
             }),

@@ -97,7 +97,7 @@ fn is_root(s: &[u8]) -> bool
     record::field_ok(s, 0, ROOT) && parts::is_round(parts::u32_at(s, 3)) && is_reason(s[71])
 }
 
-#[tactic(auto, unfolding(rules::specs::List::read_state), using(crate::proofs::Laws::root_long))]
+#[tactic(auto, unfolding(rules::specs::List::read_state), using(rules::proofs::Pieces::root_length))]
 fn read_trans_invalid(s: &[u8]) -> Option<Stated<'_>>
     ensures same { option_map stated_of result ≡ read_state 1 0 s.now }
     ensures placed { IfSome result (λ x. EndsWith s.now x.size x.rec.now) }
@@ -108,7 +108,11 @@ fn read_trans_invalid(s: &[u8]) -> Option<Stated<'_>>
     let point = read_record(&s[72..])?;
     Some(Stated {
         rec: point.rec,
-        state: DagPoint::TransInvalid(point.info, point::point_id_at(s, 3), s[71]),
+        state: DagPoint::TransInvalid {
+            info: point.info,
+            root: point::point_id_at(s, 3),
+            root_reason: s[71],
+        },
         size: 72 + point.rec.len(),
     })
 }
@@ -137,7 +141,10 @@ fn read_invalid(reason: u8, s: &[u8]) -> Option<Stated<'_>>
     let point = read_record(s)?;
     Some(Stated {
         rec: point.rec,
-        state: DagPoint::Invalid(point.info, reason),
+        state: DagPoint::Invalid {
+            info: point.info,
+            reason,
+        },
         size: point.rec.len(),
     })
 }
@@ -152,7 +159,10 @@ fn read_ill_formed(reason: u8, s: &[u8]) -> Option<Stated<'_>>
     }
     Some(Stated {
         rec: &[],
-        state: DagPoint::IllFormed(point::point_id_at(s, 3), reason),
+        state: DagPoint::IllFormed {
+            id: point::point_id_at(s, 3),
+            reason,
+        },
         size: 71,
     })
 }

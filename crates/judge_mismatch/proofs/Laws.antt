@@ -14,7 +14,7 @@ use lib.Seq.{get_or-set_same, get_or-set_other}
 use lib.Dec.{ltb, eqb}
 use borrow.Author.Tests.{lt-ltb, le-ltb, not-true, not-false}
 use Rattle.base.specs.Base.{pick, is_empty}
-use Rattle.base.proofs.Bool.{and_left, and_right, never, clash, or_left, or_right, or_cases, or_swap, cases, first-false, last-false}
+use Rattle.base.proofs.Bool.{and_left, and_right, never, clash, or_left, or_right, or_cases, or_inside, cases, first-false, last-false}
 use Rattle.base.proofs.Impossible.{impossible}
 use Rattle.map.specs.Rows.{Pair, pairs_of, rising, peers}
 use Rattle.point.specs.Point.{PointId, PointInfo, AnchorLink, Direct, Indirect, anchor_link, prev_digest, same_id}
@@ -380,7 +380,7 @@ module _ {presence : ℕ} {p : PointInfo} {all rest : List Entry} {maps₀ : Lis
             before = x ∷ w.before;
             placed = sym (placed-here e es x d same presence p w.before ∙ rw (f.place, f.new)) ∙ all_placed_lem;
             count = omega (arith, count-here e es x d same, all-count);
-            ids = λ i. rw (has-next x i w.before) (or_swap (same_id x i) (has_id w.before i) (has_id (ids_of es) i) ∙ (rw (← here_or_rest i) (all_ids i)));
+            ids = λ i. rw (has-next x i w.before) (or_inside (same_id x i) (has_id w.before i) (has_id (ids_of es) i) ∙ (rw (← here_or_rest i) (all_ids i)));
             fresh = λ i a b. fresh i a (or_cases (same_id x i) (has_id w.before i) (sym (has-next x i w.before) ∙ b)) f;
             marks = k.2;
             many = many;

@@ -53,8 +53,8 @@ fn absent_reason(state: &DagPoint) -> Option<InvalidReason>
     ensures { AbsentReason state.now result }
 {
     match *state {
-        DagPoint::IllFormed(dependency, reason) => Some(InvalidReason::DepIllFormed {
-            dependency,
+        DagPoint::IllFormed { id, reason } => Some(InvalidReason::DepIllFormed {
+            dependency: id,
             reason,
         }),
         DagPoint::NotFound(id) => Some(InvalidReason::DepNotFound(id)),
@@ -84,10 +84,10 @@ pub fn version_reason(state: &DagPoint, certified: bool, first_valid: bool) -> O
         DagPoint::Valid(info) => {
             first_valid.then_some(InvalidReason::MustHaveReferencedPrevPoint(info.id))
         }
-        DagPoint::TransInvalid(info, _, _) | DagPoint::Invalid(info, _) => {
+        DagPoint::TransInvalid { info, .. } | DagPoint::Invalid { info, .. } => {
             Some(InvalidReason::MustHaveSkippedRound(info.id))
         }
-        DagPoint::IllFormed(id, _) => Some(InvalidReason::MustHaveSkippedRound(*id)),
+        DagPoint::IllFormed { id, .. } => Some(InvalidReason::MustHaveSkippedRound(*id)),
         DagPoint::NotFound(id) => {
             certified.then_some(InvalidReason::MustHaveReferencedPrevPoint(*id))
         }

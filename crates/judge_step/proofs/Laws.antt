@@ -18,6 +18,7 @@ use Rattle.reasons.specs.Invalid.{InvalidReason, DependencyRoundDropped, Invalid
 use Rattle.rules.specs.DagPoint.{Valid, Entry, IndirectEntry, entry_id, is_dropped, PointView, point_view, DepView}
 use Rattle.rules.specs.Validate.{Findings, nothing, dependency_trail, record_of, join, dependency, Taken, as_dependency, as_prev_point, taken, findings_as}
 use Rattle.rules.specs.Validate.{entry_findings, indirect_findings, result_with, over_lists}
+use Rattle.rules.proofs.Joins.{none-second}
 use Rattle.rules.proofs.Folds.{direct_trail, direct_record, indirect_trail, indirect_record, lists_apart}
 use Rattle.rules.specs.List.{Listed, is_in_order, list_from, directs, indirects}
 use Rattle.judge_entries.proofs.Order.{in_order, in_order_lem, after-target}
@@ -196,11 +197,6 @@ module _ (c : Settings) (required : Bool) (p : PointInfo) where
 
 -- ---- what an entry gives
 
-join-none : (o : Option InvalidDependency) → join o None ≡ o
-unfolding join
-join-none None = refl
-join-none (Some d) = refl
-
 pub last-nothing : record { reason = None; root = None; dropped = false } ≡ gives_all nothing
 unfolding last_of
 last-nothing = refl
@@ -228,11 +224,11 @@ nothing-direct j g h = go j.ended g.dropped g.reason g.root refl h
     go false false (Some r) root e k = clash false k refl
     go false false None (Some d) e k = clash false k refl
     go false false None None e k =
-        λ i. record { direct = j.direct; indirect = j.indirect; recorded = join-none j.recorded i; ended = sym e i }
+        λ i. record { direct = j.direct; indirect = j.indirect; recorded = none-second j.recorded i; ended = sym e i }
 
 -- an indirect entry that is dropped changes nothing
 pub dropped-indirect : (j : Judging) → j ≡ with_indirect j (record { reason = None; root = None; dropped = true })
-dropped-indirect j = λ i. record { direct = j.direct; indirect = j.indirect; recorded = sym (join-none j.recorded) i; ended = j.ended }
+dropped-indirect j = λ i. record { direct = j.direct; indirect = j.indirect; recorded = sym (none-second j.recorded) i; ended = j.ended }
 
 pub nothing-indirect : (j : Judging) (g : Gives) → is_nothing g ≡ true → with_indirect j g ≡ j
 nothing-indirect j g h = go g.dropped g.reason g.root h
@@ -243,7 +239,7 @@ nothing-indirect j g h = go g.dropped g.reason g.root h
     go true reason root k = clash false k refl
     go false (Some r) root k = clash false k refl
     go false None (Some d) k = clash false k refl
-    go false None None k = λ i. record { direct = j.direct; indirect = j.indirect; recorded = join-none j.recorded i; ended = j.ended }
+    go false None None k = λ i. record { direct = j.direct; indirect = j.indirect; recorded = none-second j.recorded i; ended = j.ended }
 
 module _ (c : Settings) (required : Bool) (p : PointView) (e : Entry) where
   -- an entry by how it is taken

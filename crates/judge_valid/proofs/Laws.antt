@@ -51,10 +51,7 @@ module _ {A : Type 0} where
   unfolding concat
   rows_last r l = last_append r (concat l)
 
-  pub rows_one : (r : List A) → last_of (concat (r ∷ [])) ≡ last_of r
-  rows_one = last-of-one
-
 -- what the rules on a link's source tell, and what a table of rules tells
 pub ruleset source_told = (told, or_told, last_empty, last_append)
 
-pub ruleset rows_told = (or_told, rows_last, rows_one, last_single)
+pub ruleset rows_told = (or_told, rows_last, last-of-one, last_single)

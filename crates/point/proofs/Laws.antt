@@ -11,7 +11,7 @@ use Rattle.base.proofs.Option.{picked, none-some}
 use Rattle.parts.specs.Bytes.{little_at}
 use Rattle.map.specs.Rows.{Pair, peers_of, pairs_of, peers, rising, well_rowed}
 use Rattle.map.proofs.Laws.{peers_of-length, pairs_of-length, peers-pairs_of, well_rowed-rising, well_rowed-whole}
-use Rattle.record.specs.Record.{rows, row_of, start_of, content_of, well_shaped}
+use Rattle.record.specs.Record.{rows, row_of, content_of, well_shaped}
 use Rattle.record.proofs.Laws.{start_first, start_last, content-least, content-greatest, third-start, start-most}
 use Rattle.point.specs.Point.{Through, Includes, Witness, AnchorLink, PointInfo, through_map, anchor_link}
 use Rattle.point.specs.Reading.{point_id_at, read_link, read_role, maps_ok, point_in, read_point}
@@ -24,12 +24,6 @@ use Rattle.point.specs.declared.info.PointInfo as code-info
 -- ---- what a record of the right shape holds
 
 module _ (s : List ℕ) (w : well_shaped s ≡ true) where
-  pub start_third : start_of s 2 ≡ 82
-  start_third = third-start s w
-
-  pub start_small : (k : ℕ) → start_of s k ≤ 41126
-  start_small k = start-most s w k
-
   pub id_long : 68 ≤ length (content_of s 0)
   unfolding row_of rows
   id_long = content-least s w 0 (omega arith)
@@ -54,7 +48,7 @@ module _ (s : List ℕ) (w : well_shaped s ≡ true) where
   unfolding row_of rows
   times_long = content-least s w 8 (omega arith)
 
-pub ruleset shape_facts = (start_first, start_third, start_last, start_small, id_long, payload_long, proof_long, trigger_long, role_long, times_long)
+pub ruleset shape_facts = (start_first, third-start, start_last, start-most, id_long, payload_long, proof_long, trigger_long, role_long, times_long)
 
 -- ---- a point that was read
 

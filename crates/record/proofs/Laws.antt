@@ -279,10 +279,10 @@ pub record Agree (e : ℕ) (s t : List ℕ) : Type 0 where
   pub in_right : e ≤ length t
 
 module _ (e : ℕ) (s t : List ℕ) (a : Agree e s t) where
-  part_same : (n at : ℕ) → at + n ≤ e → bytes_at n t at ≡ bytes_at n s at
+  pub part_same : (n at : ℕ) → at + n ≤ e → bytes_at n t at ≡ bytes_at n s at
   part_same n at h = sym (part_front e n at t h) ∙ (ap (λ (l : List ℕ). bytes_at n l at) (sym a.same) ∙ part_front e n at s h)
 
-  byte_same : (at : ℕ) → at < e → get_or t at 0 ≡ get_or s at 0
+  pub byte_same : (at : ℕ) → at < e → get_or t at 0 ≡ get_or s at 0
   byte_same at h = sym (get_or-take e t at 0 h) ∙ (ap (λ (l : List ℕ). get_or l at 0) (sym a.same) ∙ get_or-take e s at 0 h)
 
   length-same : (at : ℕ) → at + 3 ≤ e → length_at t at ≡ length_at s at

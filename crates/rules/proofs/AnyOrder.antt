@@ -18,7 +18,7 @@ use Rattle.rules.specs.List.{Listed, read_list}
 use Rattle.rules.specs.Validate.{result_with, validate}
 use Rattle.rules.specs.Judge.{Tested, refused, admitted, tested, Given, Before, answered, needed, before, over_list, judge_from, flags_ok, judge_with}
 use Rattle.rules.specs.Told.{Call, judged}
-use Rattle.rules.specs.AnyOrder.{IsEntry, AllEntries, with_entries, Alike, NoneBrings, Earliest, AnyOrder}
+use Rattle.rules.specs.AnyOrder.{IsEntry, AllEntries, with_list, Alike, NoneBrings, Earliest, AnyOrder}
 use Rattle.rules.proofs.Joins.{rank_of, newer-higher, higher-newer}
 use Rattle.rules.proofs.Perms.{members_all}
 use Rattle.rules.proofs.Greatest.{join_all, all-absent, EarliestIn, earliest, member-rank}
@@ -56,7 +56,7 @@ judge_alike leader presence s t (admitted i) h =
     before-alike i.settings presence i.point s t (before i.settings i.schedule (eqb leader 1) i.point) h
 
 any-alike : (x : Call) (es es' ts ts' : List (List ℕ)) → AllEntries false es → AllEntries true ts → Permᴰ es es' → Permᴰ ts ts' →
-    Alike (judged (with_entries x es ts)) (judged (with_entries x es' ts'))
+    Alike (judged (with_list x es ts)) (judged (with_list x es' ts'))
 any-alike x es es' ts ts' h g d f =
     judge_alike x.leader x.presence (concat es ++ concat ts) (concat es' ++ concat ts')
     (tested x.settings x.schedule x.point (flags_ok x.leader x.presence) x.size)

@@ -3,7 +3,7 @@ use Rattle.std.specs.Prelude.{Option, None, Some, Err, Ok, Result}
 use Prim.Native.Nat.{ℕ, ◌<◌}
 use native.Mathlib.Omega.{arith}
 use mathlib.Core.Path.{◌≡◌, refl, ap}
-use mathlib.Core.Bool.{Bool, true, false}
+use mathlib.Core.Bool.{false}
 use lib.Dec.{eqb}
 use borrow.Author.Tests.{ne_eqb}
 use Rattle.base.specs.Base.{pick}
@@ -12,7 +12,7 @@ use Rattle.point.specs.declared.data.AnchorStageRole.{AnchorStageRole}
 use Rattle.point.specs.declared.data.AnchorStageRole.TheVariants.{Proof, Trigger}
 use Rattle.point.specs.declared.data.PointMap.{PointMap}
 use Rattle.point.specs.declared.data.PointMap.TheVariants as map
-use Rattle.reasons.specs.Answer.{Answer, map_number, role_number, flag}
+use Rattle.reasons.specs.Answer.{Answer, map_number, role_number}
 use Rattle.reasons.specs.IllFormed.{issue_answer, ill_formed_answer, error_answer}
 use Rattle.reasons.specs.Invalid.{InvalidReason, NoRoundInDag, DependencyRoundDropped, NotTrigger, TerminalTriggerBeforeLastProof}
 use Rattle.reasons.specs.Invalid.{TimeNotGreaterThanInPrevPoint, AnchorProofDoesntInheritAnchorTime, AnchorTimeNotInheritedFromProof}
@@ -29,6 +29,8 @@ use Rattle.reasons.specs.declared.ill_formed.IllFormedReason.TheVariants.{TooMan
 use Rattle.reasons.specs.declared.ill_formed.IllFormedReason.TheVariants.{UnknownPeers, UnknownPeerInAnchorLink, LackOfPeers, NotRegular, BadWaveLink}
 use Rattle.reasons.specs.declared.ill_formed.VerifyError.{VerifyError}
 use Rattle.reasons.specs.declared.ill_formed.VerifyError.TheVariants.{Fail, IllFormed}
+use Rattle.reasons.proofs.Laws.{flag-back}
+use Rattle.rules.specs.List.{role_of}
 use Rattle.rules.specs.Answer.{verified_answer, through_number, verdict_answer}
 
 -- ---- maps, roles and flags
@@ -41,16 +43,9 @@ map_back map.Evidence = refl
 map_back map.Includes = refl
 map_back map.Witness = refl
 
-abbrev role_of : ℕ → AnchorStageRole
-role_of n = pick (eqb n 0) Proof Trigger
-
-role-back : (g : AnchorStageRole) → role_of (role_number g) ≡ g
+pub role-back : (g : AnchorStageRole) → role_of (role_number g) ≡ g
 role-back Proof = refl
 role-back Trigger = refl
-
-flag-back : (b : Bool) → eqb (flag b) 1 ≡ b
-flag-back true = refl
-flag-back false = refl
 
 abbrev through_of : ℕ → ℕ → Through
 through_of n x = pick (eqb n 1) (Includes x) (Witness x)

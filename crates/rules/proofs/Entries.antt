@@ -24,7 +24,7 @@ use Rattle.rules.specs.DagPoint.{DagPoint, Valid, TransInvalid, Invalid, IllForm
 use Rattle.rules.specs.List.{is_listable, Stated, RecordFront, record_front, record_at, id_at17, is_root, read_state, Listed, entry_at, read_entry, is_in_order, list_from, read_list, directs, indirects}
 use Rattle.rules.proofs.Fits.{IdFits, PointFits, id-fits, point-fits}
 use Rattle.rules.proofs.All.{All}
-use Rattle.rules.proofs.Reasons.{StateFits, EntryFits, TargetFits}
+use Rattle.rules.proofs.Reasons.{StateFits, EntryFits, IndirectFits}
 
 abbrev StatedFits : Stated → Type 0
 StatedFits x = StateFits x.point
@@ -115,12 +115,12 @@ directs_fit (x ∷ l) h = go (is_some x.aim) (directs_fit l h.1)
     go true r = r
     go false r = (h.0, r)
 
-pub indirects_fit : (l : List Listed) → All ListedFits l → All TargetFits (indirects l)
+pub indirects_fit : (l : List Listed) → All ListedFits l → All IndirectFits (indirects l)
 unfolding indirects
 indirects_fit [] h = tt
 indirects_fit (x ∷ l) h = go x.aim (indirects_fit l h.1)
   where
-    go : (o : Option AnchorStageRole) → All TargetFits (indirects l) →
-        All TargetFits (unwrap_or (option_map (λ g. record { role = g; entry = x.entry } ∷ indirects l) o) (indirects l))
+    go : (o : Option AnchorStageRole) → All IndirectFits (indirects l) →
+        All IndirectFits (unwrap_or (option_map (λ g. record { role = g; entry = x.entry } ∷ indirects l) o) (indirects l))
     go None r = r
     go (Some g) r = (h.0, r)

@@ -5,6 +5,7 @@ use mathlib.Core.Bool.{Bool, true, false, ◌&&◌, ◌||◌}
 use mathlib.Core.List.{List, [], ◌∷◌, map, Memᴰ, Permᴰ}
 use lib.ListN.{length}
 use Rattle.base.specs.Base.{is_empty}
+use Rattle.base.proofs.Bool.{and_swap, or_swap}
 use Rattle.rules.proofs.All.{All}
 
 -- a test of all elements, of any
@@ -15,16 +16,6 @@ all f (x ∷ l) = f x && all f l
 unfoldable pub any : {A : Type 0} → (A → Bool) → List A → Bool
 any f [] = false
 any f (x ∷ l) = f x || any f l
-
-pub and_swap : (a b c : Bool) → (a && (b && c)) ≡ (b && (a && c))
-and_swap true b c = refl
-and_swap false true c = refl
-and_swap false false c = refl
-
-pub or_swap : (a b c : Bool) → (a || (b || c)) ≡ (b || (a || c))
-or_swap true true c = refl
-or_swap true false c = refl
-or_swap false b c = refl
 
 module _ {A : Type 0} (f : A → Bool) where
   pub all_perm : {l m : List A} → Permᴰ l m → all f l ≡ all f m

@@ -1,23 +1,22 @@
 -- An entry at the front of bytes is read as far as it goes: what follows it makes no difference. So lists that follow one another.
 use Rattle.std.specs.Prelude.{option_map, unwrap_or, Option, None, Some, is_some}
-use Prim.Native.Nat.{ℕ, zero, suc, ◌+◌, ◌-◌, ◌≤◌, ◌<◌}
+use Prim.Native.Nat.{ℕ, zero, suc, ◌+◌, ◌-◌, ◌≤◌}
 use native.Mathlib.Omega.{arith}
 use mathlib.Core.Path.{◌≡◌, refl, sym, ap, ◌∙◌, subst}
 use mathlib.Core.Logic.{◌⊎◌, inl, inr}
 use mathlib.Core.Bool.{Bool, true, false, ◌&&◌}
 use mathlib.Core.List.{List, [], ◌∷◌, ◌++◌}
 use lib.ListN.{length, get_or, take, drop, length-drop}
-use lib.Seq.{drop-append-le, get_or-take}
+use lib.Seq.{drop-append-le}
 use lib.Dec.{leb, eqb}
 use borrow.Author.Tests.{eqb-true}
 use Rattle.base.specs.Base.{pick, and_then}
 use Rattle.base.proofs.Bool.{and_left, and_right, and_both, pick_true, pick-false}
 use Rattle.base.proofs.Lists.{append-none}
 use Rattle.base.proofs.Option.{none-some, picked, and_then_lem, some-injective, map-eq-some_iff}
-use Rattle.parts.specs.Bytes.{bytes_at, little_at, big_at}
+use Rattle.parts.specs.Bytes.{little_at, big_at}
 use Rattle.record.specs.Record.{field_row, field_ok, record_end}
-use Rattle.parts.proofs.Laws.{part_front}
-use Rattle.record.proofs.Laws.{Agree, fitting, field-length, field-same, end_same, end-within, front_agrees, append_agrees}
+use Rattle.record.proofs.Laws.{Agree, part_same, byte_same, fitting, field-length, field-same, end_same, end-within, front_agrees, append_agrees}
 use Rattle.point.specs.Point.{PointId, PointInfo}
 use Rattle.point.specs.Reading.{point_id_at, read_point}
 use Rattle.point.specs.declared.data.AnchorStageRole.{AnchorStageRole}
@@ -29,25 +28,19 @@ use Rattle.rules.proofs.Halves.{directs-append}
 -- ---- bytes at the front
 
 module _ (e : ℕ) (s t : List ℕ) (a : Agree e s t) where
-  bytes-alike : (n at : ℕ) → at + n ≤ e → bytes_at n t at ≡ bytes_at n s at
-  bytes-alike n at h = sym (part_front e n at t h) ∙ (ap (λ (l : List ℕ). bytes_at n l at) (sym a.same) ∙ part_front e n at s h)
-
-  byte_alike : (at : ℕ) → at < e → get_or t at 0 ≡ get_or s at 0
-  byte_alike at h = sym (get_or-take e t at 0 h) ∙ (ap (λ (l : List ℕ). get_or l at 0) (sym a.same) ∙ get_or-take e s at 0 h)
-
   shorter : (n : ℕ) → n ≤ e → Agree n s t
-  shorter n h = record { same = sym (bytes-alike n 0 (omega arith)); in_left = omega (arith, a.in_left); in_right = omega (arith, a.in_right) }
+  shorter n h = record { same = sym (part_same e s t a n 0 (omega arith)); in_left = omega (arith, a.in_left); in_right = omega (arith, a.in_right) }
 
   -- the bytes after the first k
   agree_after : (k n : ℕ) → k + n ≤ e → Agree n (drop k s) (drop k t)
   agree_after k n h =
       let l = length-drop k s in
       let r = length-drop k t in
-      record { same = sym (bytes-alike n k h); in_left = omega (arith, a.in_left); in_right = omega (arith, a.in_right) }
+      record { same = sym (part_same e s t a n k h); in_left = omega (arith, a.in_left); in_right = omega (arith, a.in_right) }
 
   id-alike : 71 ≤ e → point_id_at t 3 ≡ point_id_at s 3
   unfolding point_id_at little_at big_at
-  id-alike h = rw (bytes-alike 4 3 (omega arith), bytes-alike 32 7 (omega arith), bytes-alike 32 39 (omega arith))
+  id-alike h = rw (part_same e s t a 4 3 (omega arith), part_same e s t a 32 7 (omega arith), part_same e s t a 32 39 (omega arith))
 
   field_alike : (tag n : ℕ) → field_ok (field_row tag n n) s 0 ≡ true → 3 + n ≤ e → field_ok (field_row tag n n) t 0 ≡ true
   field_alike tag n h k = let f = fitting (field_row tag n n) s 0 h in field-same e s t a 0 (omega (arith, f.greatest)) (field_row tag n n) f
@@ -75,7 +68,7 @@ record_front_lem s x h =
       λ t a.
           front-is t n.0 q.0
           (end_same x.size s t a n.0 n.1 (omega arith))
-          (ap read_point (bytes-alike x.size s t a n.0 0 (omega arith)) ∙ q.1)
+          (ap read_point (part_same x.size s t a n.0 0 (omega arith)) ∙ q.1)
           k.0
           ∙ k.1,
     )
@@ -102,15 +95,15 @@ id-at state s x h =
     let e : 71 ≡ x.size = ap (λ (z : Stated). z.size) (some-injective _ _ k.1) in
     (omega arith, λ t a. rw (field_alike x.size s t a 17 68 k.0 (omega arith), id-alike x.size s t a (omega arith)) k.1)
 
-pub root-length : (s : List ℕ) → is_root s ≡ true → 72 ≤ length s
+pub root_length : (s : List ℕ) → is_root s ≡ true → 72 ≤ length s
 unfolding is_root
-root-length s h = field-length 18 69 s (and_left (field_ok (field_row 18 69 69) s 0) _ h)
+root_length s h = field-length 18 69 s (and_left (field_ok (field_row 18 69 69) s 0) _ h)
 
 root_alike : (e : ℕ) (s t : List ℕ) → Agree e s t → 72 ≤ e → is_root s ≡ true → is_root t ≡ true
 unfolding is_root little_at
 root_alike e s t a l h =
     let f = and_left (field_ok (field_row 18 69 69) s 0) _ h in
-    rw (field_alike e s t a 18 69 f l, bytes-alike e s t a 4 3 (omega arith), byte_alike e s t a 71 (omega arith)) (and_right (field_ok (field_row 18 69 69) s 0) _ h)
+    rw (field_alike e s t a 18 69 f l, part_same e s t a 4 3 (omega arith), byte_same e s t a 71 (omega arith)) (and_right (field_ok (field_row 18 69 69) s 0) _ h)
 
 abbrev OfState : (List ℕ → Option Stated) → List ℕ → Type 0
 OfState f s = Fronted (λ x. x.size) f s
@@ -133,7 +126,7 @@ rooted : (state : List ℕ → PointInfo → DagPoint) (reason : ℕ) (s : List 
 rooted state reason s f x h =
     let k = picked (eqb reason 0 && is_root s) _ x h in
     let r = and_right (eqb reason 0) _ k.0 in
-    let g = record_at_lem (state s) 72 s (root-length s r) x k.1 in
+    let g = record_at_lem (state s) 72 s (root_length s r) x k.1 in
     let l = record_size_lem (state s) 72 s x k.1 in
     (g.0, λ t a. rw (and_left (eqb reason 0) _ k.0, root_alike x.size s t a l r, f x.size t a l) (g.1 t a))
 
@@ -150,7 +143,7 @@ state-front state reason s =
     (λ t. pick (eqb state 5 && eqb reason 0) (Some (record { point = Dropped; size = 0 })) None)
     s
     (guarded (eqb reason 0) (record_at Valid 0) s (λ e. record_at_lem Valid 0 s (omega arith)))
-    (rooted root reason s (λ e t a l. rw (id-alike e s t a (omega arith), byte_alike e s t a 71 (omega arith))))
+    (rooted root reason s (λ e t a l. rw (id-alike e s t a (omega arith), byte_same e s t a 71 (omega arith))))
     (guarded (is_some (dag_round reason)) (record_at (λ q. Invalid q reason) 0) s (λ e. record_at_lem (λ q. Invalid q reason) 0 s (omega arith)))
     (guarded (leb 1 reason && leb reason 16) (id_at17 (λ i. IllFormed i reason)) s (λ e. id-at (λ i. IllFormed i reason) s))
     (guarded (eqb reason 0) (id_at17 NotFound) s (λ e. id-at NotFound s))
@@ -195,10 +188,10 @@ at_front aim front s x h =
           λ n t a m.
           at-is aim front t (drop 7 t) (get_or s 3 0) (get_or s 4 0) (get_or s 5 0) (get_or s 6 0) y.0
           (field_alike n s t a 16 4 o (omega arith))
-          (byte_alike n s t a 3 (omega arith))
-          (byte_alike n s t a 4 (omega arith))
-          (byte_alike n s t a 5 (omega arith))
-          (byte_alike n s t a 6 (omega arith))
+          (byte_same n s t a 3 (omega arith))
+          (byte_same n s t a 4 (omega arith))
+          (byte_same n s t a 5 (omega arith))
+          (byte_same n s t a 6 (omega arith))
           (and_right (field_ok (field_row 16 4 4) s 0) _ k.0)
           refl
           (f.1 (drop 7 t) (agree_after n s t a 7 y.0.size (omega arith)))
@@ -240,8 +233,8 @@ entry-front s x h = go (eqb (get_or s 0 0) 19) refl h
           within = omega arith;
           alike =
               λ u a.
-              (let g = byte_alike x.size s u a 3 (omega arith) in
-              indirect-is u (ap (λ (y : ℕ). eqb y 19) (byte_alike x.size s u a 0 (omega arith)) ∙ t)
+              (let g = byte_same x.size s u a 3 (omega arith) in
+              indirect-is u (ap (λ (y : ℕ). eqb y 19) (byte_same x.size s u a 0 (omega arith)) ∙ t)
               (and_both _ _ (field_alike x.size s u a 19 1 o (omega arith)) (ap (λ (y : ℕ). leb y 1) g ∙ and_right (field_ok (field_row 19 1 1) s 0) _ w.0))
               ∙ ap (λ (y : ℕ). entry_at (Some (role_of y)) 4 (drop 4 u)) g
               ∙ f.alike (x.size - 4) (drop 4 u) (agree_after x.size s u a 4 (x.size - 4) (omega arith)) (omega arith));
@@ -253,7 +246,7 @@ entry-front s x h = go (eqb (get_or s 0 0) 19) refl h
         record {
           least = omega arith;
           within = omega arith;
-          alike = λ u a. direct_is u (ap (λ (y : ℕ). eqb y 19) (byte_alike x.size s u a 0 (omega arith)) ∙ t) ∙ f.alike x.size u a (omega arith);
+          alike = λ u a. direct_is u (ap (λ (y : ℕ). eqb y 19) (byte_same x.size s u a 0 (omega arith)) ∙ t) ∙ f.alike x.size u a (omega arith);
         }
 
 module _ (s : List ℕ) (x : Listed) (h : read_entry s ≡ Some x) where

@@ -6,6 +6,7 @@ use mathlib.Core.Bool.{Bool, true, false, not, ◌&&◌, ◌||◌}
 use mathlib.Core.List.{List, [], ◌∷◌, map, Permᴰ}
 use lib.Dec.{eqb}
 use Rattle.base.specs.Base.{pick}
+use Rattle.base.proofs.Bool.{and_swap, or_swap}
 use Rattle.map.specs.Rows.{Pair}
 use Rattle.point.specs.Point.{PointId, PointInfo, anchor_link, same_id}
 use Rattle.point.specs.declared.data.AnchorStageRole.{AnchorStageRole}
@@ -14,18 +15,18 @@ use Rattle.rules.specs.DagPoint.{Entry, IndirectEntry, entry_id, is_dropped}
 use Rattle.rules.specs.Mismatch.{has_id, pair_id, has_place, all_placed, ids_of, dropped_in, lacking_in, lacking, is_target_of, same_role, stood_before, all_targets, mismatch, uncovers, any_uncovers, entries_in, uncovered}
 use Rattle.point.proofs.Ids.{same_sym}
 use Rattle.rules.proofs.Mismatch.{has-next}
-use Rattle.rules.proofs.Perms.{and_swap, or_swap, any, any_perm, map_perm, empty_perm}
+use Rattle.rules.proofs.Perms.{any, any_perm, map_perm, empty_perm}
 
 -- ---- the same ids
 
-abbrev Alike : List PointId → List PointId → Type 0
-Alike a b = (i : PointId) → has_id a i ≡ has_id b i
+abbrev SameIds : List PointId → List PointId → Type 0
+SameIds a b = (i : PointId) → has_id a i ≡ has_id b i
 
-alike_next : (x : PointId) (a b : List PointId) → Alike a b → Alike (x ∷ a) (x ∷ b)
+alike_next : (x : PointId) (a b : List PointId) → SameIds a b → SameIds (x ∷ a) (x ∷ b)
 unfolding has_id
 alike_next x a b h i = ap (λ (z : Bool). same_id x i || z) (h i)
 
-alike_swap : (x y : PointId) (a : List PointId) → Alike (x ∷ y ∷ a) (y ∷ x ∷ a)
+alike_swap : (x y : PointId) (a : List PointId) → SameIds (x ∷ y ∷ a) (y ∷ x ∷ a)
 unfolding has_id
 alike_swap x y a i = or_swap (same_id x i) (same_id y i) (has_id a i)
 
@@ -48,7 +49,7 @@ module _ (presence : ℕ) (p : PointInfo) where
   abbrev Fits : List PointId → PointId → Bool
   Fits before i = has_place presence p i && not (has_id before i)
 
-  placed_alike : (l : List Entry) (a b : List PointId) → Alike a b → all_placed presence p a l ≡ all_placed presence p b l
+  placed_alike : (l : List Entry) (a b : List PointId) → SameIds a b → all_placed presence p a l ≡ all_placed presence p b l
   unfolding all_placed
   placed_alike [] a b h = refl
   placed_alike (e ∷ l) a b h =
@@ -57,7 +58,7 @@ module _ (presence : ℕ) (p : PointInfo) where
       ∙ ap (λ (z : Bool). pick (is_dropped e.state) (all_placed presence p b l) (Fits b (entry_id e.state) && z)) (placed_alike l (entry_id e.state ∷ a) (entry_id e.state ∷ b) (alike_next (entry_id e.state) a b h)))
 
   -- two entries change places
-  two-placed : (dx dy : Bool) (x y : PointId) (b : List PointId) (A : List PointId → Bool) → ((c d : List PointId) → Alike c d → A c ≡ A d) →
+  two-placed : (dx dy : Bool) (x y : PointId) (b : List PointId) (A : List PointId → Bool) → ((c d : List PointId) → SameIds c d → A c ≡ A d) →
       pick dx (pick dy (A b) (Fits b y && A (y ∷ b))) (Fits b x && pick dy (A (x ∷ b)) (Fits (x ∷ b) y && A (y ∷ x ∷ b)))
       ≡ pick dy (pick dx (A b) (Fits b x && A (x ∷ b))) (Fits b y && pick dx (A (y ∷ b)) (Fits (y ∷ b) x && A (x ∷ y ∷ b)))
   two-placed true true x y b A f = refl
@@ -114,17 +115,17 @@ ids-any (e ∷ l) i = go (is_dropped e.state) (ids-any l i)
     go true h = h
     go false h = ap (λ (z : Bool). same_id (entry_id e.state) i || z) h
 
-ids_perm : {l m : List Entry} → Permᴰ l m → Alike (ids_of l) (ids_of m)
+ids_perm : {l m : List Entry} → Permᴰ l m → SameIds (ids_of l) (ids_of m)
 ids_perm {l} {m} d i = ids-any l i ∙ (any_perm (has_this i) d ∙ sym (ids-any m i))
 
-lacking_in_lem : (round : ℕ) (l : List Pair) (a b : List PointId) → Alike a b → lacking_in round l a ≡ lacking_in round l b
+lacking_in_lem : (round : ℕ) (l : List Pair) (a b : List PointId) → SameIds a b → lacking_in round l a ≡ lacking_in round l b
 unfolding lacking_in
 lacking_in_lem round [] a b h = refl
 lacking_in_lem round (q ∷ l) a b h =
     ap (λ (z : Bool). pick z (lacking_in round l a) (suc (lacking_in round l a))) (h (pair_id round q))
     ∙ ap (λ (n : ℕ). pick (has_id b (pair_id round q)) n (suc n)) (lacking_in_lem round l a b h)
 
-lacking-alike : (presence : ℕ) (p : PointInfo) (a b : List PointId) → Alike a b → lacking presence p a ≡ lacking presence p b
+lacking-alike : (presence : ℕ) (p : PointInfo) (a b : List PointId) → SameIds a b → lacking presence p a ≡ lacking presence p b
 unfolding lacking
 lacking-alike presence p a b h =
     ap (λ (n : ℕ). n + pick (eqb presence 3) (lacking_in (p.id.round - 2) p.witness a) zero) (lacking_in_lem (p.id.round - 1) p.includes a b h)

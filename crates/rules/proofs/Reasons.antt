@@ -155,8 +155,8 @@ StateFits Dropped = Unit
 abbrev pub EntryFits : Entry → Type 0
 EntryFits e = StateFits e.state
 
-abbrev pub TargetFits : IndirectEntry → Type 0
-TargetFits a = EntryFits a.entry
+abbrev pub IndirectFits : IndirectEntry → Type 0
+IndirectFits a = EntryFits a.entry
 
 -- a table's rows, of every dependency
 abbrev RowsFit : (DepView → List (List InvalidReason)) → Type 0
@@ -258,13 +258,13 @@ module _ (c : Settings) (p : PointInfo) (f : PointFits p) where
         (state-rooted a.entry.state h),
   )
 
-  indirect-trail-fits : (ts : List IndirectEntry) → All TargetFits ts → All ReasonFits (indirect_trail c p ts)
+  indirect-trail-fits : (ts : List IndirectEntry) → All IndirectFits ts → All ReasonFits (indirect_trail c p ts)
   unfolding indirect_trail
   indirect-trail-fits [] h = tt
   indirect-trail-fits (a ∷ l) h =
       all_append ReasonFits (indirect_findings c p a).trail (indirect_trail c p l) (target_found a h.0).0 (indirect-trail-fits l h.1)
 
-  indirect_record_fits : (old : Option InvalidDependency) (ts : List IndirectEntry) → IfSome RootFits old → All TargetFits ts →
+  indirect_record_fits : (old : Option InvalidDependency) (ts : List IndirectEntry) → IfSome RootFits old → All IndirectFits ts →
       IfSome RootFits (indirect_record c p old ts)
   unfolding indirect_record
   indirect_record_fits old [] g h = g
@@ -285,7 +285,7 @@ result_fits (Some r) d f g = f
 result_fits None (Some d) f g = (record { id = g.root; first = none-fits 4; second = none-fits 4; peer = g.through }, tt)
 result_fits None None f g = valid-fits
 
-module _ (c : Settings) (required : Bool) (p : PointInfo) (f : PointFits p) (es : List Entry) (ts : List IndirectEntry) (g : All EntryFits es) (h : All TargetFits ts) where
+module _ (c : Settings) (required : Bool) (p : PointInfo) (f : PointFits p) (es : List Entry) (ts : List IndirectEntry) (g : All EntryFits es) (h : All IndirectFits ts) where
   lists_fit : VerdictFits (over_lists c required p es ts)
   unfolding point_view
   lists_fit =

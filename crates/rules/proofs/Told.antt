@@ -40,7 +40,7 @@ use Rattle.rules.proofs.All.{All}
 use Rattle.rules.proofs.AnswerBytes.{AnswerFits, answer-length, answer-same}
 use Rattle.rules.proofs.Decoded.{verified_of, verified-back, verdict_of, verdict-back}
 use Rattle.rules.proofs.Faults.{none-fits, no_point-fits, ill-fits, flag-fits, ErrorFits, verify-fits}
-use Rattle.rules.proofs.Reasons.{EntryFits, TargetFits, VerdictFits, valid-fits, validate-fits}
+use Rattle.rules.proofs.Reasons.{EntryFits, IndirectFits, VerdictFits, valid-fits, validate-fits}
 use Rattle.rules.proofs.Entries.{ListedFits, list-fits, directs_fit, indirects_fit}
 
 -- ---- the numbers 1 to 5
@@ -139,7 +139,7 @@ module _ (x : Call) where
 
     -- the list
 
-    over_ok : (required : Bool) (presence : ℕ) (es : List Entry) (ts : List IndirectEntry) → (OfBytes x → All EntryFits es) → (OfBytes x → All TargetFits ts) →
+    over_ok : (required : Bool) (presence : ℕ) (es : List Entry) (ts : List IndirectEntry) → (OfBytes x → All EntryFits es) → (OfBytes x → All IndirectFits ts) →
         JudgeOk (Given (validate i.settings required presence i.point es ts))
     over_ok required presence es ts f g b =
         validate-fits i.settings required i.point (point-fits x.point i.point b.0 r.point) es ts (f b) (g b) presence

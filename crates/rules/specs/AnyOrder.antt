@@ -30,8 +30,8 @@ abbrev pub AllEntries : Bool → List (List ℕ) → Type 0
 AllEntries is_indirect es = (e : List ℕ) → Memᴰ e es → IsEntry is_indirect e
 
 -- "one point, presence, settings, schedule and leader flag" and peer buffer, with a list of these direct and indirect entries
-abbrev pub with_entries : Call → List (List ℕ) → List (List ℕ) → Call
-with_entries x es ts =
+abbrev pub with_list : Call → List (List ℕ) → List (List ℕ) → Call
+with_list x es ts =
     record {
       settings = x.settings;
       schedule = x.schedule;
@@ -102,19 +102,16 @@ Brings c p x d =
 abbrev pub NoneBrings : Settings → PointInfo → List Listed → Type 0
 NoneBrings c p l = (x : Listed) (d : InvalidDependency) → Memᴰ x l → Brings c p x d → ⊥
 
--- "by root round, then by having a DAG round"
-abbrev pub Greater : InvalidDependency → InvalidDependency → Type 0
-Greater d e = Newer e d
-
--- "the earliest of the greatest": an entry brings it, what the entries before bring is less, and none after brings a greater one
+-- "the earliest of the greatest", "by root round, then by having a DAG round", which is what is newer by the rule of `dependency`: an
+-- entry brings it, what the entries before bring is less, and none after brings a greater one
 pub record Earliest (c : Settings) (p : PointInfo) (l : List Listed) (d : InvalidDependency) : Type 0 where
   pub before : List Listed
   pub entry : Listed
   pub after : List Listed
   pub place : l ≡ before ++ (entry ∷ after)
   pub brings : Brings c p entry d
-  pub less_before : (x : Listed) (e : InvalidDependency) → Memᴰ x before → Brings c p x e → Greater d e
-  pub no_greater_after : (x : Listed) (e : InvalidDependency) → Memᴰ x after → Brings c p x e → Greater e d → ⊥
+  pub less_before : (x : Listed) (e : InvalidDependency) → Memᴰ x before → Brings c p x e → Newer e d
+  pub no_greater_after : (x : Listed) (e : InvalidDependency) → Memᴰ x after → Brings c p x e → Newer d e → ⊥
 
 pub record AnyOrder : Type 0 where
   -- every list that can be read is one of such entries; and one outside the domain is such a one: dropped, with a certified flag of 2
@@ -123,7 +120,7 @@ pub record AnyOrder : Type 0 where
   pub outside : IsEntry false (16 ∷ 4 ∷ 0 ∷ 5 ∷ 2 ∷ 0 ∷ 0 ∷ [])
   -- "the kind of verdict, or the number, is the same": 7, 8 and 9 included
   pub alike : (x : Call) (es es' ts ts' : List (List ℕ)) → AllEntries false es → AllEntries true ts → Permᴰ es es' → Permᴰ ts ts' →
-      Alike (judged (with_entries x es ts)) (judged (with_entries x es' ts'))
+      Alike (judged (with_list x es ts)) (judged (with_list x es' ts'))
   -- such a call has read its list
   pub listed : (x : Call) → GivenOrder x → (l : List Listed) × (read_list x.list ≡ Some l)
   -- "the record is absent exactly if no entry given to `dependency` .. was" such a one; a verdict without a record is Valid

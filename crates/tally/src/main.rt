@@ -49,7 +49,7 @@ fn print_points<R: Read>(
         match points::take_turn(book, schedule, peers, buf, State { window, ..s }) {
             Next::Over => return Ok(()),
             Next::Last(line) => return print::line(rt, line),
-            Next::Point(line, next) => {
+            Next::Point { line, next } => {
                 print::line(rt, line)?;
                 s = next;
             }

@@ -55,13 +55,13 @@ pub fn take_turn(
     match tally_feed::next_point(book, schedule, s.place, &buf[w.start..w.end], peers) {
         Next::Over => Next::Over,
         Next::Last(line) => Next::Last(line),
-        Next::Point(line, size) => Next::Point(
+        Next::Point { line, next: size } => Next::Point {
             line,
-            State {
+            next: State {
                 window: window::after(w, size),
                 place: s.place + 1,
                 ..s
             },
-        ),
+        },
     }
 }

@@ -5,6 +5,7 @@ use Prim.Native.Nat.{ℕ, zero, suc, ◌+◌, ◌-◌, ◌≤◌}
 use native.Mathlib.Omega.{arith}
 use native.Mathlib.Decide.{dec_lt}
 use mathlib.Core.Path.{◌≡◌, refl, ap, sym, ◌∙◌}
+use Rattle.base.proofs.Bool.{never}
 use mathlib.Core.Bool.{Bool, true, false}
 use mathlib.Core.List.{List, [], ◌∷◌}
 use lib.ListN.{length, take, drop, length-drop}
@@ -107,12 +108,8 @@ step_part (suc n) schedule book peers place (x ∷ s) h =
 
 -- ---- schedules
 
-false_of : (x : Bool) → (x ≡ true → ⊥) → x ≡ false
-false_of true f = absurd (f refl)
-false_of false f = refl
-
 no_span : (s : List ℕ) (at : ℕ) → field_ok last_known s at ≡ true → field_ok span s at ≡ false
-no_span s at h = false_of (field_ok span s at) (λ g. omega (arith, (fitting span s at g).tag, (fitting last_known s at h).tag))
+no_span s at h = never (field_ok span s at) (λ g. omega (arith, (fitting span s at g).tag, (fitting last_known s at h).tag))
 
 module _ (e : ℕ) (s t : List ℕ) (a : Agree e s t) where
   from-same : (k at n : ℕ) → schedule_end_from k s at ≡ Some n → n ≤ e → schedule_end_from k t at ≡ Some n

@@ -1,4 +1,3 @@
 pub mod Laws
 pub mod AtHand
-pub mod Numbered
 pub mod Printed

@@ -14,7 +14,7 @@ use tally_line::Line;
 pub enum Next<T> {
     Over,
     Last(Line),
-    Point(Line, T),
+    Point { line: Line, next: T },
 }
 
 // How many bytes the record at the front of a slice takes: all of them where none ends there.
@@ -47,7 +47,10 @@ pub fn next_point(
     let rec = &feed[1..size];
     let answer = book::offer(book, schedule, feed[0], rec, peers);
     match point::read_point(rec) {
-        Some(point) => { Next::Point(answers::line_of(place, point.info.id.round, answer), size) }
+        Some(point) => Next::Point {
+            line: answers::line_of(place, point.info.id.round, answer),
+            next: size,
+        },
         None => Next::Last(answers::line_of(place, 0, answer)),
     }
 }

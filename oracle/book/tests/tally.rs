@@ -1,25 +1,12 @@
 //! Document 01's example: one genesis point of round 10, given twice, its set being one peer. And the stored run of the program `tally`.
 
-use oracle::value::{AnchorLink, Id, Point, PointRole, Schedule, Settings, Span, Through};
+use oracle::value::{Id, Point, Schedule, Settings, Span};
 use oracle::{read, write};
 
 #[test]
 fn a_genesis_point_given_twice() {
     let (author, digest) = ([7; 32], [9; 32]);
-    let own = AnchorLink { through: Through::Includes, peer: author, to: None };
-    let genesis = Point {
-        id: Id { round: 10, digest, author },
-        payload_len: 0,
-        payload_bytes: 0,
-        includes: vec![(author, [0; 32])],
-        witness: Vec::new(),
-        evidence: Vec::new(),
-        anchor_proof: own,
-        anchor_trigger: own,
-        role: PointRole::Genesis,
-        time: 1_000,
-        anchor_time: 1_000,
-    };
+    let genesis = Point::genesis(Id { round: 10, digest, author }, 1_000);
     let settings = Settings {
         genesis_round: 10,
         genesis_digest: digest,

@@ -62,20 +62,7 @@ impl Chain {
     }
 
     fn genesis(&self) -> Point {
-        let own = AnchorLink { through: Through::Includes, peer: GENESIS_AUTHOR, to: None };
-        Point {
-            id: self.genesis_id(),
-            payload_len: 0,
-            payload_bytes: 0,
-            includes: vec![(GENESIS_AUTHOR, [0; 32])],
-            witness: Vec::new(),
-            evidence: Vec::new(),
-            anchor_proof: own,
-            anchor_trigger: own,
-            role: PointRole::Genesis,
-            time: 1,
-            anchor_time: 1,
-        }
+        Point::genesis(self.genesis_id(), 1)
     }
 
     /// A regular point over these dependencies; it has a previous point if its author's is included.

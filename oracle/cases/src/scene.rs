@@ -5,6 +5,7 @@
 
 use oracle::PEER_BUFFER;
 use oracle::file::Case;
+use oracle::numbers::LAST_ROUND;
 use oracle::value::{
     AnchorLink, AnchorStageRole, Digest, Entry, Id, Peer, Point, PointRole, Schedule, Settings, Span, State, Through,
 };
@@ -107,8 +108,6 @@ pub struct Wish {
     pub sticky: bool,
 }
 
-const TOP_ROUND: u32 = 2_147_483_647;
-
 /// The genesis point of a scene's settings, judged.
 pub fn genesis(random: &mut Random) -> Scene {
     let round = genesis_round(random, 0);
@@ -133,27 +132,14 @@ pub fn genesis(random: &mut Random) -> Scene {
 }
 
 fn genesis_point(settings: &Settings, author: Peer, time: u64) -> Point {
-    let link = AnchorLink { through: Through::Includes, peer: author, to: None };
-    Point {
-        id: Id { round: settings.genesis_round, digest: settings.genesis_digest, author },
-        payload_len: 0,
-        payload_bytes: 0,
-        includes: vec![(author, [0; 32])],
-        witness: Vec::new(),
-        evidence: Vec::new(),
-        anchor_proof: link,
-        anchor_trigger: link,
-        role: PointRole::Genesis,
-        time,
-        anchor_time: time,
-    }
+    Point::genesis(Id { round: settings.genesis_round, digest: settings.genesis_digest, author }, time)
 }
 
 /// Mostly low; sometimes anywhere; sometimes so that the judged round is the greatest of the domain.
 fn genesis_round(random: &mut Random, above: u32) -> u32 {
     match random.below(8) {
-        0 => random.between(4, TOP_ROUND - above),
-        1 => TOP_ROUND - above,
+        0 => random.between(4, LAST_ROUND - above),
+        1 => LAST_ROUND - above,
         2 => 4,
         _ => random.between(4, 60),
     }

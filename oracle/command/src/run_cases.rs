@@ -38,24 +38,11 @@ pub fn histogram(seed: u64, count: u64) -> Result<(), String> {
 pub fn sharpness(seed: u64, count: u64) -> Result<(), String> {
     let start = Instant::now();
     let mut noticed = vec![0_u64; Mistake::ALL.len()];
-    let mut panics = 0;
-    for place in 0..count {
-        let case = cases::case(seed, place);
-        let answer = case.answer();
-        if let Answer::Panic(message) = &answer {
-            check_panic(message)?;
-            panics += 1;
-            continue;
-        }
-        let prepared = Prepared::new(&case);
-        let plain = prepared.answer(None);
-        if plain != answer {
-            return Err(disagreement(seed, place, &answer, &plain));
-        }
+    let panics = each_agreed(seed, count, |prepared, answer| {
         for (mistake, noticed) in Mistake::ALL.iter().zip(&mut noticed) {
-            *noticed += u64::from(prepared.answer(Some(*mistake)) != answer);
+            *noticed += u64::from(prepared.answer(Some(*mistake)) != *answer);
         }
-    }
+    })?;
     let seconds = start.elapsed().as_secs_f64();
     for (mistake, noticed) in Mistake::ALL.iter().zip(&noticed) {
         println!("{noticed:7} {}", mistake.text());
@@ -70,6 +57,15 @@ pub fn sharpness(seed: u64, count: u64) -> Result<(), String> {
 /// The oracle and the plain judge alone: for many cases.
 pub fn agree(seed: u64, count: u64) -> Result<(), String> {
     let start = Instant::now();
+    let panics = each_agreed(seed, count, |_, _| ())?;
+    let seconds = start.elapsed().as_secs_f64();
+    println!("seed {seed}: {count} cases in {seconds:.1} s: the plain judge agrees, {panics} panics not compared");
+    Ok(())
+}
+
+/// Runs cases through the oracle and the plain judge, and hands each on once they agree. Gives how often the oracle panicked, which
+/// is not compared.
+fn each_agreed(seed: u64, count: u64, mut then: impl FnMut(&Prepared, &Answer)) -> Result<u64, String> {
     let mut panics = 0;
     for place in 0..count {
         let case = cases::case(seed, place);
@@ -79,14 +75,14 @@ pub fn agree(seed: u64, count: u64) -> Result<(), String> {
             panics += 1;
             continue;
         }
-        let plain = Prepared::new(&case).answer(None);
+        let prepared = Prepared::new(&case);
+        let plain = prepared.answer(None);
         if plain != answer {
             return Err(disagreement(seed, place, &answer, &plain));
         }
+        then(&prepared, &answer);
     }
-    let seconds = start.elapsed().as_secs_f64();
-    println!("seed {seed}: {count} cases in {seconds:.1} s: the plain judge agrees, {panics} panics not compared");
-    Ok(())
+    Ok(panics)
 }
 
 fn disagreement(seed: u64, place: u64, answer: &Answer, plain: &Answer) -> String {

@@ -2,6 +2,7 @@
 
 use book::{Book, Offer};
 use cases::random::Random;
+use oracle::numbers::LAST_ROUND;
 use oracle::value::{Peer, Point};
 use oracle::{PEER_BUFFER, write};
 
@@ -11,9 +12,6 @@ use crate::{fault, offer_fault};
 
 /// In a sparse world one point of n is of an earlier round.
 const BEHIND: usize = 10;
-
-/// The greatest round of the domain.
-const LAST_ROUND: u32 = 2_147_483_647;
 
 pub struct Feeder {
     random: Random,

@@ -2,6 +2,7 @@
 
 use book::{Book, Entry, LONGEST, MOST, Root, SETTINGS, State};
 use cases::random::Random;
+use oracle::numbers::LAST_ROUND;
 use oracle::value::{AnchorLink, Id, Point, PointRole, Through};
 use oracle::write;
 
@@ -78,7 +79,7 @@ fn filled(random: &mut Random, world: &World, count: usize, spare: usize) -> Boo
 
 fn filler(random: &mut Random, world: &World) -> Entry {
     let first = world.settings.genesis_round + 1;
-    let round = (first + random.between(0, 60)).min(2_147_483_647);
+    let round = (first + random.between(0, 60)).min(LAST_ROUND);
     let author = random.pick(world.peers(round));
     let id = Id { round, digest: random.bytes(), author };
     let link = AnchorLink { through: Through::Includes, peer: author, to: Some(Id { round: first - 1, ..id }) };

@@ -2,7 +2,8 @@
 
 use cases::random::Random;
 use cases::scene::peer_set;
-use oracle::value::{AnchorLink, Id, Peer, Point, PointRole, Schedule, Settings, Span, Through};
+use oracle::numbers::LAST_ROUND;
+use oracle::value::{Id, Peer, Point, Schedule, Settings, Span, Through};
 
 /// Sets are told this many rounds ahead; r and r+4 have to be known.
 const AHEAD: u32 = 6;
@@ -27,7 +28,7 @@ impl World {
     pub fn new(random: &mut Random) -> Self {
         let genesis_round = match random.below(8) {
             0 => 4,
-            1 => 2_147_483_647 - random.between(8, 30),
+            1 => LAST_ROUND - random.between(8, 30),
             _ => random.between(5, 60),
         };
         let settings = Settings {
@@ -173,20 +174,8 @@ impl World {
     }
 
     pub fn genesis(&self, author: Peer) -> Point {
-        let own = AnchorLink { through: Through::Includes, peer: author, to: None };
-        Point {
-            id: Id { round: self.settings.genesis_round, digest: self.settings.genesis_digest, author },
-            payload_len: 0,
-            payload_bytes: 0,
-            includes: vec![(author, [0; 32])],
-            witness: Vec::new(),
-            evidence: Vec::new(),
-            anchor_proof: own,
-            anchor_trigger: own,
-            role: PointRole::Genesis,
-            time: self.genesis_time,
-            anchor_time: self.genesis_time,
-        }
+        let id = Id { round: self.settings.genesis_round, digest: self.settings.genesis_digest, author };
+        Point::genesis(id, self.genesis_time)
     }
 
     /// The genesis author that a point's schedule has to name.

@@ -69,8 +69,11 @@ pub fn within_limits(settings: &Settings) -> bool {
         && settings.commit_history_rounds >= 1
 }
 
+/// The greatest round of the domain.
+pub const LAST_ROUND: u32 = 2_147_483_647;
+
 pub fn round_in_domain(round: u32) -> bool {
-    (4..=2_147_483_647).contains(&round)
+    (4..=LAST_ROUND).contains(&round)
 }
 
 pub fn in_domain(point: &Point) -> bool {

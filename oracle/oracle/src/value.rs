@@ -117,6 +117,24 @@ impl State {
 }
 
 impl Point {
+    /// A genesis point: its author alone is in its includes, and its links lead to itself.
+    pub fn genesis(id: Id, time: u64) -> Self {
+        let own = AnchorLink { through: Through::Includes, peer: id.author, to: None };
+        Self {
+            id,
+            payload_len: 0,
+            payload_bytes: 0,
+            includes: vec![(id.author, [0; 32])],
+            witness: Vec::new(),
+            evidence: Vec::new(),
+            anchor_proof: own,
+            anchor_trigger: own,
+            role: PointRole::Genesis,
+            time,
+            anchor_time: time,
+        }
+    }
+
     pub fn link(&self, role: AnchorStageRole) -> &AnchorLink {
         match role {
             AnchorStageRole::Proof => &self.anchor_proof,

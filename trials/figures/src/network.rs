@@ -3,9 +3,7 @@
 use book::Offer;
 use cases::random::Random;
 use feeds::{link_through, top};
-use oracle::value::{
-    AnchorLink, AnchorStageRole, Digest, Id, Peer, Point, PointRole, Schedule, Settings, Span, Through,
-};
+use oracle::value::{AnchorStageRole, Digest, Id, Peer, Point, PointRole, Schedule, Settings, Span, Through};
 use oracle::{PEER_BUFFER, write};
 
 pub const GENESIS: u32 = 10;
@@ -61,20 +59,7 @@ impl Network {
         let author = random.bytes();
         let spans = vec![Span { first: GENESIS, peers: vec![author] }, Span { first: GENESIS + 1, peers: set.clone() }];
         let schedule = write::schedule(&Schedule { spans, last_known: 1_000_000 });
-        let own = AnchorLink { through: Through::Includes, peer: author, to: None };
-        let genesis = Point {
-            id: Id { round: GENESIS, digest: settings.genesis_digest, author },
-            payload_len: 0,
-            payload_bytes: 0,
-            includes: vec![(author, [0; 32])],
-            witness: Vec::new(),
-            evidence: Vec::new(),
-            anchor_proof: own,
-            anchor_trigger: own,
-            role: PointRole::Genesis,
-            time: TIME,
-            anchor_time: TIME,
-        };
+        let genesis = Point::genesis(Id { round: GENESIS, digest: settings.genesis_digest, author }, TIME);
         let below = [vec![(0, genesis.clone())], Vec::new()];
         Self { random, includes, settings, schedule, peers: set, genesis, round: GENESIS, below }
     }

@@ -119,20 +119,7 @@ fn entry(point: &Point) -> Entry {
 }
 
 fn genesis(author: Peer, settings: &Settings) -> Point {
-    let own = AnchorLink { through: Through::Includes, peer: author, to: None };
-    Point {
-        id: Id { round: settings.genesis_round, digest: settings.genesis_digest, author },
-        payload_len: 0,
-        payload_bytes: 0,
-        includes: vec![(author, [0; 32])],
-        witness: Vec::new(),
-        evidence: Vec::new(),
-        anchor_proof: own,
-        anchor_trigger: own,
-        role: PointRole::Genesis,
-        time: ANCHOR_TIME,
-        anchor_time: ANCHOR_TIME,
-    }
+    Point::genesis(Id { round: settings.genesis_round, digest: settings.genesis_digest, author }, ANCHOR_TIME)
 }
 
 /// To the genesis point, which stays the only anchor: direct where a map names it.

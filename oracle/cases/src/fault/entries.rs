@@ -1,6 +1,6 @@
 //! Changes to the entries of a list.
 
-use oracle::numbers::is_version;
+use oracle::numbers::{LAST_ROUND, is_version};
 use oracle::value::{AnchorLink, AnchorStageRole, Entry, Id, Point, PointRole, State, Through, back};
 
 use crate::random::Random;
@@ -292,7 +292,7 @@ fn soil(scene: &mut Scene, random: &mut Random, place: usize, certified: bool) {
             6 => newest + random.between(0, 300),
             _ => random.between(4.max(newest.saturating_sub(30)), newest.max(4)),
         };
-        let round = round.min(2_147_483_647);
+        let round = round.min(LAST_ROUND);
         State::TransInvalid(point, Id { round, digest: random.bytes(), author: random.bytes() }, reason)
     };
     entry.certified = certified;

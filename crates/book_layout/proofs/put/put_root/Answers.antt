@@ -4,8 +4,8 @@ use mathlib.Core.Path.{refl}
 use mathlib.Core.List.{[], ◌∷◌}
 use Rattle.reasons.specs.Code.{dependency_of}
 use Rattle.books.specs.Layout.{id_bytes, through_bytes, status_bytes}
-use Rattle.books.proofs.RoundTrip.{through-length}
-use Rattle.book_layout.proofs.Laws.{put_right, id_length}
+use Rattle.books.proofs.RoundTrip.{id_length, through-length}
+use Rattle.book_layout.proofs.Laws.{put_right}
 use Rattle.book_layout.proofs.put.put_root.Goals as goal
 
 pub returns : goal.returns

@@ -13,8 +13,9 @@ use Rattle.schedule.specs.Settings.{Settings}
 use Rattle.schedule.specs.Code.{settings_of}
 use Rattle.rules.specs.DagPoint.{PointView, DepView}
 use Rattle.rules.specs.Validate.{proof_row, time_row, newer_row, anchor_rows, point_rows}
+use Rattle.base.proofs.Tables.{last-of-one}
 use Rattle.judge_valid.specs.Code.{point_view_of, dep_view_of}
-use Rattle.judge_valid.proofs.Laws.{or_else_told, or_none, last_empty, rows_last, rows_one}
+use Rattle.judge_valid.proofs.Laws.{or_else_told, or_none, last_empty, rows_last}
 use Rattle.judge_valid.proofs.rows.check_dependency.Goals as goal
 use Rattle.judge_valid.proofs.rows.check_dependency.Goals.{After-or_else-later}
 
@@ -37,7 +38,7 @@ later c =
     (or_else_told _ _ _ _ (last_of (newer_row Trigger p q)) c.or_else.ensures c.check_links.ensures (λ k. search rules))
     (λ k. search rules))
     (λ k. search rules)
-    ∙ sym (rows_last _ _ ∙ rw (rows_last (newer_row Proof p q), rows_last (newer_row Trigger p q), rows_one))
+    ∙ sym (rows_last _ _ ∙ rw (rows_last (newer_row Proof p q), rows_last (newer_row Trigger p q), last-of-one))
 
 pub returns-then-is_prev_point : goal.returns-then-is_prev_point
 returns-then-is_prev_point c =
