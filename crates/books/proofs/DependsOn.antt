@@ -156,7 +156,7 @@ version_apart b p e (k, own, unprevious, s) (is_prev_point, h) =
 
 module _ (c : Settings) (b : Book) (p : PointInfo) where
   -- what the entry of an id records, through t
-  abbrev record_at : PointId → Through → Option InvalidDependency
+  abbrev pub record_at : PointId → Through → Option InvalidDependency
   record_at i t = record_of c p.id.round (lookup b p i).certified t (lookup b p i).state
 
   looked_taken : (i : PointId) → IsTaken (point_view p) i → IsTaken (point_view p) (entry_id (lookup b p i).state)

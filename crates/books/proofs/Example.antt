@@ -67,7 +67,7 @@ unfolding run offer record_bytes schedule_bytes little_at big_at pairs_of peers 
 as_left = refl
 
 as_found : FoundBook (settings_bytes conf) conf (length slice) (run offer_bytes (open_bytes (settings_bytes conf) slice) offers) plain
-as_found = (found_books (settings_bytes conf) slice conf offers reads (lit≤ tt) (lit≤ tt) (below_all offers all-below)).1
+as_found = (found_books (settings_bytes conf) slice conf offers reads (lit≤ tt) (lit≤ tt) (below_all offers all-below)).1.0
 
 -- ---- the slice
 

@@ -17,13 +17,11 @@ use Rattle.books.specs.Kept.{find_kept, Opened, with_entries}
 use Rattle.books.specs.Offer.{Offer, Result, start_in, used, offer}
 use Rattle.books.specs.Run.{Moment, Run, moment_of, run, AreBytes}
 use Rattle.books.specs.Layout.{read_book}
-use Rattle.books.specs.Calls.{open_number, open_bytes, opened, laid_out, in_bytes, offer_to, offer_bytes}
+use Rattle.books.specs.Calls.{open_number, open_bytes, opened, laid_out, offer_to, offer_bytes}
 use Rattle.books.specs.FoundBook.{Left, leaves, all_left, left_in, EverMarked, run_in_bytes}
-use Rattle.books.specs.AnyMarks.{Built, empty}
 use Rattle.books.proofs.Shape.{Shape, empty-shape}
-use Rattle.books.proofs.RoundTrip.{settings-length, book-length, book-reads}
+use Rattle.books.proofs.RoundTrip.{book-reads}
 use Rattle.books.proofs.Offered.{offer-within, offer-shape, offer-room}
-use Rattle.books.proofs.Kept.{offer-built}
 use Rattle.books.proofs.Marks.{is_certified, offer-marked}
 use Rattle.books.proofs.LeftEntries.{offer-left, all-left-more, in_slice}
 use Rattle.books.proofs.Run.{more, run_more, by-offers}
@@ -35,12 +33,11 @@ pub record Sound (z : Opened) : Type 0 where
   pub short : z.length ≤ longest_book
   pub shape : Shape z.book
   pub room : start_in z + used z.book ≤ z.length
-  pub built : Built z.settings z.book
 
 offer-sound : (z : Opened) (o : Offer) → Bytes o.bytes → Sound z → Sound (offer z o).after
 offer-sound z o w h =
     subst Sound (sym (offer-within z o))
-    (record { settings = h.settings; short = h.short; shape = offer-shape z o w h.shape; room = offer-room z o h.room; built = offer-built z o h.built })
+    (record { settings = h.settings; short = h.short; shape = offer-shape z o w h.shape; room = offer-room z o h.room })
 
 module _ (z : Opened) (h : Sound z) where
   -- it is read back from its slice
@@ -48,15 +45,10 @@ module _ (z : Opened) (h : Sound z) where
   unfolding laid_out
   sound-reads = book-reads z.bytes z.settings z.length z.book h.settings h.short h.shape h.room
 
-  -- its slice is as long as it says
-  pub laid-length : length (laid_out z) ≡ z.length
-  unfolding laid_out
-  laid-length = book-length z.bytes z.length z.book (settings-length z.bytes z.settings h.settings) h.room
-
   -- an offer to its slice is an offer to it
-  pub offer-bytes : (o : Offer) → offer_bytes (laid_out z) o ≡ in_bytes (offer z o)
+  pub offer-read : (o : Offer) → offer_bytes (laid_out z) o ≡ offer_to (laid_out z) o (Some z)
   unfolding offer_bytes
-  offer-bytes o = ap (offer_to (laid_out z) o) sound-reads
+  offer-read o = ap (offer_to (laid_out z) o) sound-reads
 
 -- ---- of a run over bytes and the plain book's
 
@@ -75,7 +67,7 @@ module _ (start : Opened) (found : Run (List ℕ)) (plain : Run Opened) (h : Inv
   same_more =
       ap (λ (x : Run (List ℕ)). more offer_bytes x o) h.same
       ∙ (ap (λ (x : Result (List ℕ)). record { moments = map in_slice plain.moments ++ (record { before = laid_out z; offer = o; result = x } ∷ []); last = x.after })
-      (offer-bytes z h.sound o)
+      (offer-read z h.sound o)
       ∙ ap (λ (l : List (Moment (List ℕ))). record { moments = l; last = laid_out (offer z o).after }) (sym (map-append in_slice plain.moments (moment_of offer z o ∷ []))))
 
   invariant-more : Bytes o.bytes → Invariant start (more offer_bytes found o) (more offer plain o)
@@ -114,7 +106,7 @@ module _ (settings slice : List ℕ) (c : Settings) (r : read_settings settings 
   invariant-opened =
       record {
         stays = refl;
-        sound = record { settings = r; short = most; shape = empty-shape; room = room-opened; built = empty };
+        sound = record { settings = r; short = most; shape = empty-shape; room = room-opened };
         same = ap (λ (x : List ℕ). record { moments = []; last = x }) as_opened;
         kept = refl;
         marks = λ i. (λ e. impossible (cc), λ e. absurd (Memᴰ.not-nil e.1.0));

@@ -4,13 +4,16 @@ use Prim.Native.Nat.{ℕ}
 use mathlib.Core.Path.{◌≡◌, refl, ap, sym, ◌∙◌}
 use mathlib.Core.Logic.{◌↔◌}
 use mathlib.Core.Bool.{Bool, true, false, ◌||◌}
-use mathlib.Core.List.{List, Memᴰ}
+use mathlib.Core.List.Memᴰ
+use mathlib.Core.List.{List, [], Memᴰ}
+use lib.Dec.{eqb}
 use Rattle.base.specs.Base.{pick}
+use Rattle.base.proofs.Option.{some-injective}
 use Rattle.base.proofs.Impossible.{impossible}
 use Rattle.parts.specs.Bytes.{put_at, Bytes}
 use Rattle.point.specs.Point.{PointId, PointInfo, prev_id}
 use Rattle.point.specs.Reading.{read_point}
-use Rattle.schedule.specs.Settings.{Settings}
+use Rattle.schedule.specs.Settings.{Settings, read_settings}
 use Rattle.reasons.specs.declared.ill_formed.VerifyError.{VerifyError}
 use Rattle.reasons.specs.declared.ill_formed.WaveChecked.{WaveChecked}
 use Rattle.reasons.specs.Verdict.{Verdict}
@@ -24,33 +27,39 @@ use Rattle.books.specs.Spread.{covers}
 use Rattle.books.specs.Offer.{Offer, Result, tested_room, is_full, input_tested, offer_tested, marked_by, answer_over, answer_with, before_in, marked_in, answer_in, numbered, judged_as, offer}
 use Rattle.books.specs.Run.{Run}
 use Rattle.books.specs.ListFor.{list_for}
-use Rattle.books.specs.FoundBook.{EverMarked, Tells, with_next, tested_as}
+use Rattle.books.specs.FoundBook.{EverMarked, Tells, with_next, tested_as, NextOffer}
 use Rattle.books.proofs.Clear.{no_state_out}
 use Rattle.books.proofs.Shape.{Shape, mark-shape}
 use Rattle.books.proofs.ListFor.{list_read}
 use Rattle.books.proofs.ListBytes.{list-bytes}
-use Rattle.books.proofs.Offered.{accepted, offer-cases, same_tests, number-before}
+use Rattle.books.proofs.Offered.{tested-input, accepted, offer-cases, same_tests, number-before}
 use Rattle.books.proofs.Marks.{is_certified, covers_with, covers_by, next-same}
 use Rattle.books.proofs.Invariant.{Sound}
 
 -- ---- the answer
 
 module _ (c : Settings) (bytes : List ℕ) (p : PointInfo) (b : Book) (marked : PointId → Bool) (h : Shape b) (by : Bytes bytes) (r : read_point bytes ≡ Some p) where
-  over-list : (required : Bool) → ((k : Kept) → Memᴰ k b → marked k.point.id ≡ (k.certified || covers c b (prev_id p) k.point.id)) →
-      answer_over c required 3 p (direct_list (mark (covers c b (prev_id p)) b) p) (indirect_list (mark (covers c b (prev_id p)) b) p)
-      ≡ over_list c required 3 p (read_list (list_for b marked p))
+  -- with a test that says of each entry whether it is certified once those that are covered are marked
+  over-list : (covers : PointId → Bool) → ((k : Kept) → Memᴰ k b → marked k.point.id ≡ (k.certified || covers k.point.id)) → (required : Bool) →
+      answer_over c required 3 p (direct_list (mark covers b) p) (indirect_list (mark covers b) p) ≡ over_list c required 3 p (read_list (list_for b marked p))
   unfolding answer_over
-  over-list required same =
-      let b' : Book = mark (covers c b (prev_id p)) b in
-      let s = mark-shape (covers c b (prev_id p)) b h in
-      let l = list_read b (covers c b (prev_id p)) marked p h same bytes by r in
+  over-list covers same required =
+      let b' : Book = mark covers b in
+      let s = mark-shape covers b h in
+      let l = list_read b covers marked p h same bytes by r in
       rw (no_state_out b' p (λ k m. (s.entries k m).status.state), l.1, l.2, l.3)
 
   -- where the list is needed, over that list; else the list is not read
   over-before : (x : Before) → ((k : Kept) → Memᴰ k b → marked k.point.id ≡ (k.certified || covers_with c p b x k.point.id)) →
       answer_with c 3 p (marked_by c p b x) x ≡ judge_from c 3 p (list_for b marked p) x
   over-before (answered a) same = refl
-  over-before (needed required) same = over-list required same
+  over-before (needed required) same = over-list (covers c b (prev_id p)) same required
+
+  -- with a test that is true of each entry that is certified
+  over-marked : ((k : Kept) → Memᴰ k b → marked k.point.id ≡ (k.certified || marked k.point.id)) → (x : Before) →
+      answer_with c 3 p (mark marked b) x ≡ judge_from c 3 p (list_for b marked p) x
+  over-marked same (answered a) = refl
+  over-marked same (needed required) = over-list marked same required
 
 -- ---- the tests
 
@@ -125,3 +134,53 @@ next-judged plain o by h marks p r again full marked tells = (
   rw (same_tests plain.last o h.settings)
       (offer-judged plain.last o marked h.shape by (next-same plain o h.settings h.shape marks marked tells) p r again full),
 )
+
+-- a test that is true wherever another one is
+also_true : (a b : Bool) → (a ≡ true → b ≡ true) → b ≡ (a || b)
+also_true true b h = h refl
+also_true false b h = refl
+
+-- ---- what the sentence says of an offer, whatever it is that answers
+
+-- a verdict of judging over the entries of a book, once what a test covers is marked
+pub record JudgedOver (c : Settings) (b : Book) (o : Offer) (marked : PointId → Bool) (v : Verdict) (p : PointInfo) : Type 0 where
+  pub input : Input
+  pub tested : input_tested c o ≡ admitted input
+  pub point : input.point ≡ p
+  pub answer : answer_with c 3 p (mark marked b) (before_in input o.leader) ≡ Given v
+
+module _ (c : Settings) (b : Book) (o : Offer) (w : Bytes o.bytes) (shape : Shape b) (marked : PointId → Bool)
+    (whole : (k : Kept) → Memᴰ k b → marked k.point.id ≡ (k.certified || marked k.point.id))
+    (v : Verdict) (p : PointInfo) (read : read_point o.bytes ≡ Some p) where
+  with_input : (d : Settings) (q : PointInfo) (x : Before) → d ≡ c → q ≡ p → judge_from d 3 q (list_for b marked p) x ≡ Given v →
+      judge_from c 3 p (list_for b marked p) x ≡ Given v
+  with_input d q x set same h = rw (set, same) at h
+
+  judged-input : (i : Input) → i.settings ≡ c → i.point ≡ p → judge_with o.leader 3 (list_for b marked p) (admitted i) ≡ Given v →
+      answer_with c 3 p (mark marked b) (before_in i o.leader) ≡ Given v
+  unfolding judge_with before_in
+  judged-input i set same h =
+      let x : Before = before i.settings i.schedule (eqb o.leader 1) i.point in
+      over-marked c o.bytes p b marked shape w read whole x ∙ with_input i.settings i.point x set same h
+
+  judged-tested : (t : Tested) → input_tested c o ≡ t → judge_with o.leader 3 (list_for b marked p) t ≡ Given v → JudgedOver c b o marked v p
+  unfolding judge_with
+  judged-tested (refused n) e h = impossible (cc)
+  judged-tested (admitted i) e h =
+      let a = tested-input c o i e in
+      let same : i.point ≡ p = some-injective i.point p (sym a.2 ∙ read) in
+      record { input = i; tested = e; point = same; answer = judged-input i a.0 same h }
+
+module _ (found : Run (List ℕ)) (plain : Run Opened) (o : Offer) (x : Result (List ℕ)) (h : NextOffer found plain o x) (w : Bytes o.bytes)
+    (c : Settings) (set : read_settings plain.last.bytes ≡ Some c) (shape : Shape plain.last.book)
+    (marks : (k : Kept) → Memᴰ k plain.last.book → (k.certified ≡ true) ↔ EverMarked plain.moments k.point.id) where
+  -- the test that tells the marks is true of each entry that is certified
+  pub told_whole : (k : Kept) → Memᴰ k plain.last.book → h.judged.0.0 k.point.id ≡ (k.certified || h.judged.0.0 k.point.id)
+  told_whole k m =
+      also_true k.certified (h.judged.0.0 k.point.id) (λ e. (let y = (marks k m).0 e in (h.judged.0.1 k m).1 (y.0, (Memᴰ.append_left _ y.1.0, y.1.1))))
+
+  pub offer-over : (v : Verdict) (p : PointInfo) → read_point o.bytes ≡ Some p → x.answer ≡ Given v → JudgedOver c plain.last.book o h.judged.0.0 v p
+  offer-over v p read given =
+      let j = h.judged.1 p read (λ n. impossible (cc)) (λ n. impossible (cc)) h.judged.0.0 h.judged.0.1 in
+      judged-tested c plain.last.book o w shape h.judged.0.0 told_whole v p read (tested_as plain.last.bytes o)
+      (sym (same_tests (record { bytes = plain.last.bytes; settings = c; length = plain.last.length; book = [] }) o set)) (sym j.1.0 ∙ given)

@@ -1,15 +1,15 @@
--- Every entry of a book that is built of judged points stands, whatever the marks; the book after an offer is built of them.
+-- Every entry of a book that is built of judged points stands, whatever the marks.
 use Rattle.std.specs.Prelude.{Option, None, Some}
 use Prim.Native.Nat.{ℕ, ◌≤◌}
 use native.Mathlib.Omega.{arith}
 use mathlib.Core.Path.{◌≡◌, refl, sym, ap, subst}
 use mathlib.Core.Bool.{Bool, true, false}
 use mathlib.Core.List.Memᴰ
-use mathlib.Core.List.{List, [], ◌∷◌, ◌++◌, Memᴰ}
+use mathlib.Core.List.{List, [], ◌∷◌, Memᴰ}
 use lib.Dec.{eqb}
 use borrow.Author.Tests.{eqb-true}
 use Rattle.map.specs.Rows.{rising, peers}
-use Rattle.point.specs.Point.{PointInfo, prev_id}
+use Rattle.point.specs.Point.{PointInfo}
 use Rattle.point.proofs.Laws.{readable}
 use Rattle.schedule.specs.Settings.{Settings}
 use Rattle.schedule.specs.Schedule.{Schedule}
@@ -22,20 +22,18 @@ use Rattle.reasons.specs.declared.ill_formed.VerifyError.TheVariants as case-err
 use Rattle.rules.specs.Verify.{verify}
 use Rattle.rules.specs.DagPoint.{IndirectEntry, point_view}
 use Rattle.rules.specs.Validate.{validate}
-use Rattle.rules.specs.Judge.{Input, admitted, JudgeAnswer, Number, Given, Before, answered, needed, before_with, before}
+use Rattle.rules.specs.Judge.{Input, admitted, JudgeAnswer, Number, Given, before_with, before}
 use Rattle.reasons.specs.declared.ill_formed.WaveChecked.{WaveChecked}
 use Rattle.reasons.specs.declared.ill_formed.WaveChecked.TheVariants as case-wave
 use Rattle.rules.specs.CheckIllFormed.{wave_checked}
 use Rattle.rules.specs.Passed.{has_reason, Passed}
 use Rattle.rules.proofs.Passed.{validate-all}
-use Rattle.books.specs.Kept.{Status, Valid, TransInvalid, Invalid, IllFormed, Kept, Book, Opened}
+use Rattle.books.specs.Kept.{Status, Valid, TransInvalid, Invalid, IllFormed, Kept, Book}
 use Rattle.books.specs.Lists.{direct_list, indirect_list}
-use Rattle.books.specs.Spread.{covers}
-use Rattle.books.specs.Offer.{Offer, input_tested, offer_tested, marked_by, answer_over, answer_with, kept_as, left_by, before_in, marked_in, answer_in, offer}
+use Rattle.books.specs.Offer.{Offer, input_tested, answer_over, answer_with, kept_as, left_by, before_in}
 use Rattle.books.specs.AnyMarks.{Built, empty, remarks, judges, AnyMarks}
 use Rattle.books.proofs.Clear.{over-cases}
-use Rattle.books.proofs.Find.{or_covers, mark-remark}
-use Rattle.books.proofs.Offered.{tested-input, accepted, offer-cases}
+use Rattle.books.proofs.Offered.{tested-input}
 use Rattle.books.proofs.Shape.{domain-least}
 use Rattle.books.proofs.Following.{Stands, AllStand}
 use Rattle.books.proofs.Growth.{all_stand_remarked, all_stand_append}
@@ -147,23 +145,3 @@ module _ (c : Settings) where
 
 pub any-marks : AnyMarks
 any-marks c b h = found-connected c b (built-stands c b h)
-
--- ---- and so is the book after an offer
-
-by-built : (c : Settings) (p : PointInfo) (b : Book) (x : Before) → Built c b → Built c (marked_by c p b x)
-by-built c p b (answered a) h = h
-by-built c p b (needed required) h = subst (Built c) (sym (mark-remark (covers c b (prev_id p)) b)) (remarks b h (or_covers (covers c b (prev_id p))))
-
-module _ (z : Opened) (o : Offer) where
-  given-built : (i : Input) → offer_tested z o ≡ admitted i → (v : Verdict) → answer_in z i o.leader ≡ Given v → Built z.settings z.book →
-      Built i.settings (marked_in z i o.leader ++ left_by o.bytes i.point v)
-  unfolding answer_in marked_in
-  given-built i q v e h =
-      let w = accepted z o i q in
-      judges (marked_in z i o.leader) (by-built i.settings i.point z.book (before_in i o.leader) (rw w.settings h)) o i
-      (subst (λ (c : Settings). input_tested c o ≡ admitted i) (sym w.settings) w.input) v e
-
-  pub offer-built : Built z.settings z.book → Built z.settings (offer z o).after.book
-  offer-built h =
-      offer-cases z o (λ x. Built z.settings x.after.book) (λ n q. h) (λ i q n e. h)
-      (λ i q v e. subst (λ (c : Settings). Built c (marked_in z i o.leader ++ left_by o.bytes i.point v)) (accepted z o i q).settings (given-built i q v e h))

@@ -29,12 +29,12 @@ use Rattle.books.proofs.Offered.{offer-cases}
 
 -- ---- one offer more
 
-left-append : (a b : Book) → left_in (a ++ b) ≡ left_in a ++ left_in b
+pub left-append : (a b : Book) → left_in (a ++ b) ≡ left_in a ++ left_in b
 unfolding left_in
 left-append [] b = refl
 left-append (k ∷ a) b = ap (λ (l : List Left). record { bytes = k.bytes; status = k.status } ∷ l) (left-append a b)
 
-mark-left : (covers : PointId → Bool) (b : Book) → left_in (mark covers b) ≡ left_in b
+pub mark-left : (covers : PointId → Bool) (b : Book) → left_in (mark covers b) ≡ left_in b
 unfolding left_in mark mark_one
 mark-left covers [] = refl
 mark-left covers (k ∷ b) = ap (λ (l : List Left). record { bytes = k.bytes; status = k.status } ∷ l) (mark-left covers b)
@@ -47,7 +47,7 @@ marked-left : (z : Opened) (i : Input) (leader : ℕ) → left_in (marked_in z i
 unfolding marked_in
 marked-left z i leader = by_left i.settings i.point z.book (before_in i leader)
 
-verdict-left : (bytes : List ℕ) (p : PointInfo) (v : Verdict) → left_in (left_by bytes p v) ≡ leaves bytes (Given v)
+pub verdict-left : (bytes : List ℕ) (p : PointInfo) (v : Verdict) → left_in (left_by bytes p v) ≡ leaves bytes (Given v)
 unfolding left_in
 verdict-left bytes p (verdict.Fail u) = refl
 verdict-left bytes p (verdict.IllFormed r) = refl

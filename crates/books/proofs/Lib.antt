@@ -29,5 +29,8 @@ pub mod Example
 pub mod SpreadFacts
 pub mod DependsOn
 pub mod Clean
-pub mod FoundBooks
+pub mod Read
 pub mod OffersTold
+pub mod Built
+pub mod Implied
+pub mod FoundBooks

@@ -1,5 +1,5 @@
 -- The numbers of an offer made next, said of what the offers before left: 2 to 5, 11, 12, and that a number changes nothing.
-use Rattle.std.specs.Prelude.{is_some}
+use Rattle.std.specs.Prelude.{Some, is_some}
 use Prim.Native.Nat.{ℕ}
 use native.Mathlib.Omega.{arith}
 use mathlib.Core.Path.{◌≡◌, refl, ap, sym, ◌∙◌}
@@ -10,8 +10,9 @@ use Rattle.base.proofs.Impossible.{impossible}
 use Rattle.rules.specs.Judge.{Input, Tested, refused, admitted, Number}
 use Rattle.books.specs.Kept.{find_kept, Opened}
 use Rattle.books.specs.Offer.{Offer, is_full, tested_room, offer_tested, offer_with, offer}
+use Rattle.books.specs.Calls.{laid_out, offer_to, IsOfferNumber}
 use Rattle.books.specs.FoundBook.{left_in, WasKept, HasNoRoom, tested_as}
-use Rattle.books.proofs.Offered.{same_tests, number_of, number_six, offer-cases}
+use Rattle.books.proofs.Offered.{same_tests, number_of, number_six, numbers, number-unchanged, offer-cases}
 use Rattle.books.proofs.LeftEntries.{was_kept, is_found, has_no_room, is-full}
 use Rattle.books.proofs.Invariant.{Sound}
 
@@ -26,6 +27,11 @@ module _ (z : Opened) (o : Offer) (h : Sound z) where
 
   pub next-tests : (n : ℕ) → tested_as z.bytes o ≡ refused n → (offer z o).answer ≡ Number n
   next-tests n e = refused-next n (tested-next (refused n) e)
+
+  -- of the call on the book's slice
+  pub next-unchanged : (n : ℕ) → (offer_to (laid_out z) o (Some z)).answer ≡ Number n →
+      IsOfferNumber n × (((offer_to (laid_out z) o (Some z)).after ≡ laid_out z) × ((offer_to (laid_out z) o (Some z)).peers ≡ o.peers))
+  next-unchanged n e = let u = number-unchanged z o n e in (numbers z o h.shape n e, (ap laid_out u.0, u.1))
 
   module _ (i : Input) (e : tested_as z.bytes o ≡ admitted i) where
     abbrev is_kept : Bool

@@ -2,9 +2,10 @@
 use Rattle.std.specs.Prelude.{Option, None, Some, is_some}
 use Prim.Native.Nat.{ℕ, ◌+◌, ◌-◌, ◌≤◌, ◌<◌}
 use native.Mathlib.Omega.{arith}
-use mathlib.Core.Path.{◌≡◌, refl, ap, ◌∙◌, subst}
+use mathlib.Core.Path.{◌≡◌, refl, ap, sym, ◌∙◌, subst}
 use mathlib.Core.Logic.{inl, inr}
 use mathlib.Core.Bool.{Bool, true, false, not, ◌&&◌, and-true}
+use mathlib.Core.List.Memᴰ
 use mathlib.Core.List.{List, [], ◌∷◌, ◌++◌, append-nil}
 use lib.ListN.{length}
 use lib.Dec.{leb, ltb, eqb}
@@ -43,7 +44,7 @@ use Rattle.books.proofs.Named.{listable}
 use Rattle.rules.proofs.Roots.{Recorded}
 use Rattle.books.proofs.Roots.{Root, reason-fits, validated}
 use Rattle.books.proofs.Bytes.{used-append, mark-used}
-use Rattle.books.proofs.Shape.{StatusShape, Shape, mark-length, mark-shape, append-shape, direct-rooted, indirect-rooted, whole}
+use Rattle.books.proofs.Shape.{StatusShape, KeptShape, AllShaped, Shape, mark-length, mark-shape, append-shape, direct-rooted, indirect-rooted, whole}
 use Rattle.books.proofs.Find.{marked-found}
 use Rattle.books.proofs.Spread.{covers-prev}
 
@@ -264,18 +265,18 @@ invalid-number (DepIllFormed i n) = refl
 invalid-number (DepNotFound i) = refl
 
 -- of what is left as an entry
-abbrev VerdictShape : PointInfo → Verdict → Type 0
+abbrev pub VerdictShape : PointInfo → Verdict → Type 0
 VerdictShape p (verdict.Fail u) = Unit
 VerdictShape p (verdict.IllFormed r) = StatusShape p (IllFormed (ill_formed_number r))
 VerdictShape p (verdict.Invalid r) = StatusShape p (Invalid (invalid_number r))
 VerdictShape p (verdict.TransInvalid d) = StatusShape p (TransInvalid d)
 VerdictShape p verdict.Valid = StatusShape p Valid
 
-abbrev AnswerShape : PointInfo → JudgeAnswer → Type 0
+abbrev pub AnswerShape : PointInfo → JudgeAnswer → Type 0
 AnswerShape p (Number n) = Unit
 AnswerShape p (Given v) = VerdictShape p v
 
-abbrev BeforeShape : PointInfo → Before → Type 0
+abbrev pub BeforeShape : PointInfo → Before → Type 0
 BeforeShape p (answered a) = AnswerShape p a
 BeforeShape p (needed required) = is_listable p ≡ true
 
@@ -287,15 +288,15 @@ module _ (p : PointInfo) where
       record { keepable = d; state = n; fits = omega arith }
 
   module _ (l : is_listable p ≡ true) where
-    valid-shape : VerdictShape p verdict.Valid
+    pub valid-shape : VerdictShape p verdict.Valid
     valid-shape = record { keepable = l; state = l; fits = tt }
 
-    invalid-shape : (r : InvalidReason) → VerdictShape p (verdict.Invalid r)
+    pub invalid-shape : (r : InvalidReason) → VerdictShape p (verdict.Invalid r)
     invalid-shape r =
         let n = invalid-number r in
         record { keepable = l; state = and_both (is_listable p) _ l n; fits = reason-fits (invalid_number r) n }
 
-    trans_invalid-shape : (d : InvalidDependency) → Recorded Root d → VerdictShape p (verdict.TransInvalid d)
+    pub trans_invalid-shape : (d : InvalidDependency) → Recorded Root d → VerdictShape p (verdict.TransInvalid d)
     trans_invalid-shape d h =
         let r = h.root in
         record {
@@ -304,7 +305,7 @@ module _ (p : PointInfo) where
           fits = record { to = r.id; reason = reason-fits d.reason r.reason; through = h.through };
         }
 
-  before-shape : (c : Settings) (s : Schedule) (leader : Bool) → in_domain p ≡ true → BeforeShape p (before c s leader p)
+  pub before-shape : (c : Settings) (s : Schedule) (leader : Bool) → in_domain p ≡ true → BeforeShape p (before c s leader p)
   unfolding before
   before-shape c s leader d = go (verify c s p) refl (eqb p.id.round c.genesis_round) (wave_checked s leader p)
     where
@@ -315,6 +316,18 @@ module _ (p : PointInfo) where
       go None v false case-wave.Horizon = tt
       go None v false (case-wave.IllFormed r) = ill-formed-shape d r
       go None v false (case-wave.Sound required) = listable c s p v d
+
+-- what is left of it is of that shape
+module _ (bytes : List ℕ) (p : PointInfo) (by : Bytes bytes) (r : read_point bytes ≡ Some p) (d : in_domain p ≡ true) where
+  one_shaped : (s : Status) → StatusShape p s → AllShaped (kept_as bytes p s ∷ [])
+  one_shaped s h k m = subst KeptShape (sym (Memᴰ.eq_of_singleton m)) (record { bytes = by; read = r; domain = d; status = h })
+
+  pub left-shaped : (v : Verdict) → VerdictShape p v → AllShaped (left_by bytes p v)
+  left-shaped (verdict.Fail u) h = λ k m. absurd (Memᴰ.not-nil m)
+  left-shaped (verdict.IllFormed r) h = one_shaped (IllFormed (ill_formed_number r)) h
+  left-shaped (verdict.Invalid r) h = one_shaped (Invalid (invalid_number r)) h
+  left-shaped (verdict.TransInvalid e) h = one_shaped (TransInvalid e) h
+  left-shaped verdict.Valid h = one_shaped Valid h
 
 -- ---- an offer keeps the shape
 

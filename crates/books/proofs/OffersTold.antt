@@ -32,7 +32,7 @@ unread None s others size = (1, refl)
 unread (Some c) None others size = (2, refl)
 unread (Some c) (Some s) others size = (3, refl)
 
-unread-offer : (settings : List ℕ) (o : Offer) → read_point o.bytes ≡ None → (n : ℕ) × (tested_as settings o ≡ refused n)
+pub unread-offer : (settings : List ℕ) (o : Offer) → read_point o.bytes ≡ None → (n : ℕ) × (tested_as settings o ≡ refused n)
 unfolding tested
 unread-offer settings o r = rw r (unread (read_settings settings) (read_schedule o.schedule) (flags_ok o.leader 3) (length o.peers))
 
@@ -54,7 +54,7 @@ module _ (found : Run (List ℕ)) (plain : Run Opened) (o : Offer) (x : Result (
             point = o.bytes;
             leader = o.leader;
             presence = 3;
-            list = list_for plain.last.book h.told.0 p;
+            list = list_for plain.last.book h.judged.0.0 p;
             size = length o.peers;
           }
 
@@ -64,7 +64,7 @@ module _ (found : Run (List ℕ)) (plain : Run Opened) (o : Offer) (x : Result (
           let n = h.tests u.0 u.1 in
           impossible (cc)
       go (Some p) r =
-          let j = h.judged p r (λ n. impossible (cc)) (λ n. impossible (cc)) h.told.0 h.told.1 in
+          let j = h.judged.1 p r (λ n. impossible (cc)) (λ n. impossible (cc)) h.judged.0.0 h.judged.0.1 in
           record { call = call p; bytes = (w, j.0); answer = j.1.0 }
 
   number-above : (n : ℕ) → x.answer ≡ Number n → IsOfferNumber n

@@ -58,8 +58,11 @@ pub record KeptShape (k : Kept) : Type 0 where
   pub domain : in_domain k.point ≡ true
   pub status : StatusShape k.point k.status
 
+abbrev pub AllShaped : Book → Type 0
+AllShaped b = (k : Kept) → Memᴰ k b → KeptShape k
+
 pub record Shape (b : Book) : Type 0 where
-  pub entries : (k : Kept) → Memᴰ k b → KeptShape k
+  pub entries : AllShaped b
   pub once : is_twice b ≡ false
   pub few : length b ≤ 4096
 
@@ -85,7 +88,7 @@ module _ (covers : PointId → Bool) where
   unfolding mark_one
   mark-one k h = record { bytes = h.bytes; read = h.read; domain = h.domain; status = h.status }
 
-  mark-entries : (b : Book) → ((k : Kept) → Memᴰ k b → KeptShape k) → (k : Kept) → Memᴰ k (mark covers b) → KeptShape k
+  mark-entries : (b : Book) → AllShaped b → AllShaped (mark covers b)
   mark-entries b f k m = let x = mark-member covers b k m in subst KeptShape (sym x.1.1) (mark-one x.0 (f x.0 x.1.0))
 
   mark-twice : (b : Book) → is_twice (mark covers b) ≡ is_twice b

@@ -113,7 +113,51 @@ run_in_bytes x =
       last = laid_out x.last;
     }
 
--- ---- bad ancestors
+-- ---- the statement: each sentence excludes a wrong book that no other sentence does (docs/RULES.md, the last section, has it)
+
+-- of an offer that is made next, after the run `found` over a slice's bytes, and of what it gives: `plain` is the plain book's run
+pub record NextOffer (found : Run (List ℕ)) (plain : Run Opened) (o : Offer) (x : Result (List ℕ)) : Type 0 where
+  -- "the table's number": 2 to 5 first
+  pub tests : (n : ℕ) → tested_as plain.last.bytes o ≡ refused n → x.answer ≡ Number n
+  -- 11 "id already in the book"
+  pub again : (i : Input) → tested_as plain.last.bytes o ≡ admitted i →
+      (x.answer ≡ Number 11) ↔ WasKept (all_left found.moments) i.point.id
+  -- 12 "4,096 entries, or record plus 108 bytes exceeds the rest"
+  pub full : (i : Input) → tested_as plain.last.bytes o ≡ admitted i →
+      (x.answer ≡ Number 12)
+      ↔ ((WasKept (all_left found.moments) i.point.id → ⊥) × HasNoRoom plain.last.length (all_left found.moments) o.bytes)
+  -- "A number comes without a verdict, with all lent bytes unchanged"
+  pub unchanged : (n : ℕ) → x.answer ≡ Number n → IsOfferNumber n × ((x.after ≡ found.last) × (x.peers ≡ o.peers))
+  -- "demand 2's verdict, reason and unknown peers": those of the public call `judge`, presence 3, over the list that the entries and
+  -- the marks of this moment give, with the marks that this offer makes. There is a test that tells these marks, and with any such test
+  -- the list consists of bytes.
+  pub judged : ((marked : PointId → Bool) × Tells marked plain.last.book (with_next plain o))
+      × ((p : PointInfo) → read_point o.bytes ≡ Some p → (x.answer ≡ Number 11 → ⊥) → (x.answer ≡ Number 12 → ⊥) →
+      (marked : PointId → Bool) → Tells marked plain.last.book (with_next plain o) →
+      Bytes (list_for plain.last.book marked p)
+      × ((x.answer ≡ judge_with o.leader 3 (list_for plain.last.book marked p) (tested_as plain.last.bytes o))
+      × (x.peers ≡ verify_buffer (tested_as plain.last.bytes o) o.peers)))
+
+-- of a slice of `len` bytes that was opened with `settings`, which say c, after a list of offers to it: `found` is the run over its
+-- bytes, `plain` the plain book's
+pub record FoundBook (settings : List ℕ) (c : Settings) (len : ℕ) (found : Run (List ℕ)) (plain : Run Opened) : Type 0 where
+  -- "each on the bytes the last one left: all answers, unknown peers with every byte of every peer buffer, and book bytes are the
+  -- plain book's"
+  pub same : found ≡ run_in_bytes plain
+  -- the bytes read as that book, "behind the same settings in as long a slice": those that were given
+  pub reads : read_book found.last ≡ Some plain.last
+  pub stays : (plain.last.bytes ≡ settings) × ((plain.last.settings ≡ c) × (plain.last.length ≡ len))
+  -- each entry's point is the one that its record says, and by an id the entry of that id is found, and nothing else
+  pub says : (k : Kept) → Memᴰ k plain.last.book → read_point k.bytes ≡ Some k.point
+  pub finds : (i : PointId) (k : Kept) → (find_kept plain.last.book i ≡ Some k) ↔ (Memᴰ k plain.last.book × (k.point.id ≡ i))
+  -- "every offer that got no number and isn't Fail left one entry, in order", with the verdict that it got
+  pub kept : left_in plain.last.book ≡ all_left found.moments
+  -- "marked certified are exactly the entries that the rule for marks, applied in these offers, marked"
+  pub marks : (k : Kept) → Memᴰ k plain.last.book → (k.certified ≡ true) ↔ EverMarked plain.moments k.point.id
+  -- whatever is offered next
+  pub next : (o : Offer) → Bytes o.bytes → NextOffer found plain o (offer_bytes found.last o)
+
+-- ---- what follows speaks of bad ancestors
 
 -- kept Invalid, or TransInvalid with its root cause inside the window of a point of this round
 abbrev pub is_bad : Settings → ℕ → Status → Bool
@@ -142,7 +186,7 @@ pub record Caught (c : Settings) (b : Book) (l : List (Moment Opened)) (p : Poin
   pub unmarked : EverMarked l entry.point.id → ⊥
   pub root : IsRootOf entry d entry.status
 
--- ---- kept points
+-- ---- and of kept points
 
 abbrev pub NoIdTwice : Book → Type 0
 NoIdTwice [] = Unit
@@ -180,63 +224,27 @@ pub record Connected (c : Settings) (b : Book) : Type 0 where
   pub times : (k : Kept) → Usable c b k → T (not (is_anchor_proof k.point.role)) → (e : Kept) → Followed c b Proof k.point e →
       e.point.anchor_time ≡ k.point.anchor_time
 
--- ---- the statement
+-- ---- what follows from the statement: proved of any plain runs of which the statement is so after every list (proofs/Implied.antt)
 
--- of an offer that is made next, after the run `found` over a slice's bytes, and of what it gives: `plain` is the plain book's run
-pub record NextOffer (found : Run (List ℕ)) (plain : Run Opened) (o : Offer) (x : Result (List ℕ)) : Type 0 where
-  -- "the table's number": 2 to 5 first
-  pub tests : (n : ℕ) → tested_as plain.last.bytes o ≡ refused n → x.answer ≡ Number n
-  -- 11 "id already in the book"
-  pub again : (i : Input) → tested_as plain.last.bytes o ≡ admitted i →
-      (x.answer ≡ Number 11) ↔ WasKept (all_left found.moments) i.point.id
-  -- 12 "4,096 entries, or record plus 108 bytes exceeds the rest"
-  pub full : (i : Input) → tested_as plain.last.bytes o ≡ admitted i →
-      (x.answer ≡ Number 12)
-      ↔ ((WasKept (all_left found.moments) i.point.id → ⊥) × HasNoRoom plain.last.length (all_left found.moments) o.bytes)
-  -- "A number comes without a verdict, with all lent bytes unchanged"
-  pub unchanged : (n : ℕ) → x.answer ≡ Number n → IsOfferNumber n × ((x.after ≡ found.last) × (x.peers ≡ o.peers))
-  -- "demand 2's verdict, reason and unknown peers": those of the public call `judge`, presence 3, over the list that the entries and
-  -- the marks of this moment give, with the marks that this offer makes. The list consists of bytes.
-  pub judged : (p : PointInfo) → read_point o.bytes ≡ Some p → (x.answer ≡ Number 11 → ⊥) → (x.answer ≡ Number 12 → ⊥) →
-      (marked : PointId → Bool) → Tells marked plain.last.book (with_next plain o) →
-      Bytes (list_for plain.last.book marked p)
-      × ((x.answer ≡ judge_with o.leader 3 (list_for plain.last.book marked p) (tested_as plain.last.bytes o))
-      × (x.peers ≡ verify_buffer (tested_as plain.last.bytes o) o.peers))
-  -- there is a test that tells these marks
-  pub told : (marked : PointId → Bool) × Tells marked plain.last.book (with_next plain o)
-  -- a point above genesis is Valid only if each bad one that it depends on is marked, with the marks that this offer makes
-  pub clean : (p : PointInfo) → read_point o.bytes ≡ Some p → x.answer ≡ Given verdict.Valid →
-      plain.last.settings.genesis_round < p.id.round →
-      (k : Kept) → Memᴰ k plain.last.book → (t : Through) → DependsOn p k.point.id t →
-      T (is_bad plain.last.settings p.id.round k.status) → EverMarked (with_next plain o) k.point.id
-  -- and is TransInvalid only by one that is not
-  pub caught : (p : PointInfo) → read_point o.bytes ≡ Some p → (d : InvalidDependency) → x.answer ≡ Given (verdict.TransInvalid d) →
-      Caught plain.last.settings plain.last.book (with_next plain o) p d
-
--- of a slice of `len` bytes that was opened with `settings`, which say c, after a list of offers to it: `found` is the run over its
--- bytes, `plain` the plain book's
-pub record FoundBook (settings : List ℕ) (c : Settings) (len : ℕ) (found : Run (List ℕ)) (plain : Run Opened) : Type 0 where
-  -- "each on the bytes the last one left: all answers, unknown peers with every byte of every peer buffer, and book bytes are the
-  -- plain book's"
-  pub same : found ≡ run_in_bytes plain
-  -- the bytes read as that book, "behind the same settings in as long a slice": those that were given
-  pub reads : read_book found.last ≡ Some plain.last
-  pub stays : (plain.last.bytes ≡ settings) × ((plain.last.settings ≡ c) × (plain.last.length ≡ len))
+-- of the same slice and book
+pub record Implied (c : Settings) (len : ℕ) (found : Run (List ℕ)) (plain : Run Opened) : Type 0 where
+  -- from `reads` and `stays`, since other bytes don't read as that book: the slice is as long as it was; "no id twice", "at most 4,096
+  -- entries"
   pub long : length found.last ≡ len
-  -- "no id twice", "at most 4,096 entries"; each entry's point is the one that its record says
   pub once : NoIdTwice plain.last.book
   pub few : length plain.last.book ≤ most_kept
-  pub says : (k : Kept) → Memᴰ k plain.last.book → read_point k.bytes ≡ Some k.point
-  -- by an id the entry of that id is found, and nothing else
-  pub finds : (i : PointId) (k : Kept) → (find_kept plain.last.book i ≡ Some k) ↔ (Memᴰ k plain.last.book × (k.point.id ≡ i))
-  -- "every offer that got no number and isn't Fail left one entry, in order", with the verdict that it got
-  pub kept : left_in plain.last.book ≡ all_left found.moments
-  -- kept dependencies, links and times
+  -- from `tests`, `judged`, `kept` and `says` of every offer before, by which each entry was judged: kept dependencies, links and times
   pub connected : Connected c plain.last.book
-  -- "marked certified are exactly the entries that the rule for marks, applied in these offers, marked"
-  pub marks : (k : Kept) → Memᴰ k plain.last.book → (k.certified ≡ true) ↔ EverMarked plain.moments k.point.id
-  -- whatever is offered next
-  pub next : (o : Offer) → Bytes o.bytes → NextOffer found plain o (offer_bytes found.last o)
+  -- from `judged` and `marks`, by what `judge` gives over a list: a point above genesis is Valid only if each bad one that it depends on
+  -- is marked, with the marks that this offer makes
+  pub clean : (o : Offer) → Bytes o.bytes → (p : PointInfo) → read_point o.bytes ≡ Some p →
+      (offer_bytes found.last o).answer ≡ Given verdict.Valid → c.genesis_round < p.id.round → (k : Kept) → Memᴰ k plain.last.book →
+      (t : Through) → DependsOn p k.point.id t → T (is_bad c p.id.round k.status) → EverMarked (with_next plain o) k.point.id
+  -- and is TransInvalid only by one that is not
+  pub caught : (o : Offer) → Bytes o.bytes → (p : PointInfo) → read_point o.bytes ≡ Some p → (d : InvalidDependency) →
+      (offer_bytes found.last o).answer ≡ Given (verdict.TransInvalid d) → Caught c plain.last.book (with_next plain o) p d
+
+-- ---- of every list
 
 -- "for every settings, every slice length that opens, every list": settings that are read open every slice of 47 to 16,777,216 bytes,
 -- and refused and Fail offers stand in the list like any other
@@ -245,4 +253,5 @@ FoundBooks =
     (settings slice : List ℕ) (c : Settings) (l : List Offer) → read_settings settings ≡ Some c →
     entries_start ≤ length slice → length slice ≤ longest_book → AreBytes l →
     (open_number settings (length slice) ≡ 0)
-    × FoundBook settings c (length slice) (run offer_bytes (open_bytes settings slice) l) (run offer (opened settings c (length slice)) l)
+    × (FoundBook settings c (length slice) (run offer_bytes (open_bytes settings slice) l) (run offer (opened settings c (length slice)) l)
+    × Implied c (length slice) (run offer_bytes (open_bytes settings slice) l) (run offer (opened settings c (length slice)) l))

@@ -9,7 +9,8 @@ ghost use Rattle.books.specs.Example.{Example};
 ghost use Rattle.books.specs.AnyMarks.{AnyMarks};
 ghost use Rattle.books.specs.SpreadFacts.{SpreadFacts};
 
-// The statement and one book that it speaks of as a promise: without their proofs this crate is not proved, nor any that uses it.
+// The statement, what follows from it and one book that it speaks of, as a promise: without their proofs this crate is not proved, nor any
+// that uses it.
 pub fn found_books()
     ensures { FoundBooks × Example }
 {}
