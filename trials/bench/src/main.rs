@@ -6,6 +6,7 @@ mod offer;
 mod once;
 mod pass;
 mod rounds;
+mod tally;
 mod verify;
 mod worst;
 
@@ -22,7 +23,10 @@ processor's. A ratio is the Rust's time divided by the library's in the same rou
 
 const USAGE: &str = "bench [verify | judge | offer]     the tables, or one of them
 bench worst [full]                 the dearest inputs that were found; full: as long as they get
-bench once WAY PEERS [ENTRIES]     one call, for callgrind to count: verify, judge, offer or refused by the library;
+bench tally PROGRAM                the program tally on feeds
+bench once worst ROW               the call of a row of `bench worst`, for callgrind to count; the first row is 1
+bench once WAY PEERS [ENTRIES]     one call, for callgrind to count: verify, judge, offer, offer-far (a history of 255) or
+                                   refused by the library;
                                    verify-direct, verify-alone, judge-direct or judge-alone by the Rust";
 
 fn main() -> ExitCode {
@@ -37,6 +41,8 @@ fn main() -> ExitCode {
         ["offer"] => offer::table(),
         ["worst"] => worst::table(false),
         ["worst", "full"] => worst::table(true),
+        ["tally", program] => tally::table(program),
+        ["once", "worst", row] => number(row).and_then(worst::once),
         ["once", way, peers] => number(peers).and_then(|peers| once::run(way, peers, 100)),
         ["once", way, peers, entries] => {
             number(peers).and_then(|peers| number(entries).and_then(|entries| once::run(way, peers, entries)))

@@ -15,17 +15,17 @@ pub fn run(way: &str, peers: usize, entries: usize) -> Result<(), String> {
         "judge" => judge::once(judge::Way::Library, peers)?,
         "judge-direct" => judge::once(judge::Way::Direct, peers)?,
         "judge-alone" => judge::once(judge::Way::Alone, peers)?,
-        "offer" => offer(peers, entries, entries)? == 0,
-        "refused" => offer(peers, entries, entries - 1)? == KEPT,
+        "offer" => offer(&Dag::new(peers, entries + 1), entries, entries)? == 0,
+        "offer-far" => offer(&Dag::new(peers, entries + 1).with_history(u8::MAX), entries, entries)? == 0,
+        "refused" => offer(&Dag::new(peers, entries + 1), entries, entries - 1)? == KEPT,
         _ => return Err(format!("there is no way {way}")),
     };
     if right { Ok(()) } else { Err("the call gave something else than it had to".to_string()) }
 }
 
 /// Offers the point at a place to the book of the first points.
-fn offer(peers: usize, entries: usize, place: usize) -> Result<u8, String> {
-    let dag = Dag::new(peers, entries + 1);
-    let mut offering = Offering::new(&dag, entries)?;
+fn offer(dag: &Dag, entries: usize, place: usize) -> Result<u8, String> {
+    let mut offering = Offering::new(dag, entries)?;
     Ok(result_of(&mut || offering.offer(place).0))
 }
 

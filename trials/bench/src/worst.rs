@@ -9,6 +9,8 @@ use inputs::dear::{Made, Shape};
 use oracle::file::Case;
 use wutherdish::lent::{self, ANSWER};
 
+use crate::once::result_of;
+
 /// Shapes that can be longer are made with half of this count and with this count first.
 const START: usize = 8_192;
 /// A shape is made with its greatest count if it would take no longer by the square of its count.
@@ -41,6 +43,19 @@ pub fn table(full: bool) -> Result<(), String> {
             rows.iter().for_each(|row| row.print(&shape));
         }
     }
+    Ok(())
+}
+
+/// Makes the call of a shape once, with its greatest count, for callgrind to count. Shapes are numbered from 1, as they
+/// stand in the table.
+pub fn once(number: usize) -> Result<(), String> {
+    let shapes = Shape::all();
+    let shape = number.checked_sub(1).and_then(|place| shapes.get(place));
+    let shape = shape.ok_or_else(|| format!("there are {} rows", shapes.len()))?;
+    let Made { call, .. } = shape.make(&mut Random::new(1, 0), shape.most);
+    let mut lent = Lent::new(&call);
+    let given = result_of(&mut || lent.call(&call));
+    println!("{}: {given}", shape.name);
     Ok(())
 }
 

@@ -1,6 +1,6 @@
 //! The processor's time, which other processes don't lengthen as they do the clock's.
 
-use std::ffi::c_int;
+use std::ffi::{c_int, c_long};
 use std::time::Duration;
 
 /// The clock of a thread's own time on a processor.
@@ -13,8 +13,29 @@ struct Time {
     nanoseconds: i64,
 }
 
+/// The children that ended and were waited for.
+const CHILDREN: c_int = -1;
+
+/// `struct timeval`
+#[repr(C)]
+#[derive(Default)]
+struct Used {
+    seconds: i64,
+    microseconds: i64,
+}
+
+/// `struct rusage`
+#[repr(C)]
+#[derive(Default)]
+struct Usage {
+    user: Used,
+    system: Used,
+    counts: [c_long; 14],
+}
+
 unsafe extern "C" {
     fn clock_gettime(clock: c_int, time: *mut Time) -> c_int;
+    fn getrusage(who: c_int, usage: *mut Usage) -> c_int;
 }
 
 /// What this thread has used of the processor. Asking takes some hundred nanoseconds.
@@ -31,4 +52,14 @@ pub fn timed<T>(run: impl FnOnce() -> T) -> (T, Duration) {
     let start = thread_time();
     let result = run();
     (result, thread_time().saturating_sub(start))
+}
+
+/// What the children that have ended used of the processor, in their own code and in the system.
+pub fn children_time() -> Duration {
+    let mut usage = Usage::default();
+    // SAFETY: the usage is laid out as the C library's.
+    let status = unsafe { getrusage(CHILDREN, &mut usage) };
+    assert_eq!(status, 0, "the children's time can't be read");
+    let time = |used: &Used| Duration::new(used.seconds as u64, used.microseconds as u32 * 1_000);
+    time(&usage.user) + time(&usage.system)
 }

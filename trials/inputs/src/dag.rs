@@ -80,6 +80,11 @@ impl Dag {
         }
     }
 
+    /// What the program `tally` is fed of its first points.
+    pub fn feed(&self, points: usize) -> Vec<u8> {
+        feed(&self.settings, &self.schedule, self.entries[..points].iter().map(|entry| &entry.record[..]))
+    }
+
     pub fn record(&self, place: usize) -> &[u8] {
         &self.entries[place].record
     }
@@ -106,6 +111,16 @@ impl Dag {
         bytes.resize(self.start(room), 0);
         bytes
     }
+}
+
+/// Settings, a schedule, and points of authors that lead no round, as the program `tally` reads them.
+pub fn feed<'a>(settings: &[u8], schedule: &[u8], records: impl Iterator<Item = &'a [u8]>) -> Vec<u8> {
+    let mut feed = [settings, schedule].concat();
+    for record in records {
+        feed.push(0);
+        feed.extend(record);
+    }
+    feed
 }
 
 /// The genesis author has a set of its own.

@@ -3,6 +3,7 @@
 mod judge;
 mod offer;
 mod spread;
+pub mod tally;
 mod verify;
 
 use cases::random::Random;
@@ -50,9 +51,9 @@ impl Shape {
 /// A set, and a point of it.
 type Of = (Vec<Peer>, Point);
 
-/// A point of four peers that includes none of its author.
-fn without_prev(random: &mut Random) -> Of {
-    let set = set(random, 4);
+/// A point with full maps, but for its author in the includes, and without evidence.
+fn without_prev(random: &mut Random, peers: usize) -> Of {
+    let set = set(random, peers);
     let mut point = judged(random, &set, 0);
     point.includes.retain(|(peer, _)| *peer != point.id.author);
     point.evidence.clear();

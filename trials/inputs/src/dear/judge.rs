@@ -15,7 +15,7 @@ const LONGEST: usize = 65_535 - 9;
 /// Peers of the typical lists.
 const PEERS: usize = 100;
 
-pub const SHAPES: [Shape; 12] = [
+pub const SHAPES: [Shape; 14] = [
     Shape::typical("all valid, full maps of 100 peers", PEERS, |random, count| {
         let set = set(random, count.max(4));
         full_maps(random, set)
@@ -27,20 +27,26 @@ pub const SHAPES: [Shape; 12] = [
     Shape::dear("versions of the author, not found", LONGEST, |random, count| {
         versions(random, count, Random::bytes, State::NotFound)
     }),
-    Shape::dear("the same, their digests alike in 24 bytes", LONGEST, |random, count| {
+    Shape::dear("versions of the author, not found, their digests alike in 24 bytes", LONGEST, |random, count| {
         versions(random, count, fronts_alike, State::NotFound)
     }),
-    Shape::dear("the same, their digests end alike", LONGEST, |random, count| {
+    Shape::dear("versions of the author, not found, their digests end alike", LONGEST, |random, count| {
         versions(random, count, ends_alike, State::NotFound)
     }),
     Shape::dear("versions of the author, ill-formed", LONGEST, |random, count| {
         versions(random, count, Random::bytes, |id| State::IllFormed(id, 3))
     }),
+    Shape::dear("versions of the author, ill-formed, their digests end alike", LONGEST, |random, count| {
+        versions(random, count, ends_alike, |id| State::IllFormed(id, 3))
+    }),
     Shape::dear("versions of the author, trans-invalid", LONGEST, |random, count| {
         versions(random, count, Random::bytes, |id| State::TransInvalid(shortest(id), id, 1))
     }),
+    Shape::dear("versions of the author, trans-invalid, their digests end alike", LONGEST, |random, count| {
+        versions(random, count, ends_alike, |id| State::TransInvalid(shortest(id), id, 1))
+    }),
     Shape::dear("dropped entries", LONGEST, |random, count| {
-        let point = without_prev(random);
+        let point = without_prev(random, 4);
         let dropped = vec![entry(State::Dropped); count];
         made(random, &point, dropped)
     }),
@@ -52,7 +58,7 @@ pub const SHAPES: [Shape; 12] = [
         others(random, count, |id| State::TransInvalid(shortest(id), id, 1))
     }),
     Shape::dear("one dependency again and again, not found", LONGEST, |random, count| {
-        let point = without_prev(random);
+        let point = without_prev(random, 4);
         let (author, digest) = point.1.includes[0];
         let repeated = entry(State::NotFound(Id { round: ROUND - 1, digest, author }));
         made(random, &point, vec![repeated; count])
@@ -66,7 +72,7 @@ fn full_maps(random: &mut Random, set: Vec<Peer>) -> Made {
 
 /// Entries of the author's points in the round before.
 fn versions(random: &mut Random, count: usize, digest: fn(&mut Random) -> Digest, state: fn(Id) -> State) -> Made {
-    let of = without_prev(random);
+    let of = without_prev(random, 4);
     let author = of.1.id.author;
     let version = |_| entry(state(Id { round: ROUND - 1, digest: digest(random), author }));
     let entries = (0..count).map(version).collect();
@@ -75,7 +81,7 @@ fn versions(random: &mut Random, count: usize, digest: fn(&mut Random) -> Digest
 
 /// Entries that are not the point's: number 8, after all of the list is read and judged.
 fn others(random: &mut Random, count: usize, state: fn(Id) -> State) -> Made {
-    let of = without_prev(random);
+    let of = without_prev(random, 4);
     let other = |_| entry(state(Id { round: ROUND - 1, digest: random.bytes(), author: random.bytes() }));
     let entries = (0..count).map(other).collect();
     made(random, &of, entries)

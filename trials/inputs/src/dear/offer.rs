@@ -1,9 +1,9 @@
 //! Books to open and to offer to.
 
-use book::{Entry, LONGEST, Offer, State};
+use book::{Entry, LONGEST, Offer, Root, State};
 use cases::random::Random;
 use oracle::PEER_BUFFER;
-use oracle::value::{Digest, Id, Peer, Point};
+use oracle::value::{Digest, Id, Peer, Point, Through};
 use oracle::write;
 
 use super::{Made, Shape, ends_alike, shortest, without_prev};
@@ -16,7 +16,7 @@ const MOST: usize = 4_095;
 /// The most peers with which the Rust doesn't panic.
 const PEERS: usize = 253;
 
-pub const SHAPES: [Shape; 13] = [
+pub const SHAPES: [Shape; 15] = [
     Shape::typical("the longest slice, opened", 0, |random, _| {
         let Bytes { settings, .. } = with_records(random, Vec::new(), Vec::new());
         Made { call: Call::Open { settings, length: LONGEST }, entries: 0 }
@@ -47,10 +47,13 @@ pub const SHAPES: [Shape; 13] = [
         made
     }),
     Shape::dear("no previous point, to 4,095 versions of it", MOST, |random, count| {
-        let (set, point) = without_prev(random);
-        let author = point.id.author;
-        let ids = (0..count).map(|_| Id { round: ROUND - 1, digest: random.bytes(), author }).collect();
-        made(random, set, ids, &point)
+        versions(random, 4, count, Random::bytes, ill_formed)
+    }),
+    Shape::dear("the same, digests that end alike", MOST, |random, count| {
+        versions(random, 4, count, ends_alike, ill_formed)
+    }),
+    Shape::dear("the same, trans-invalid, and 504 dependencies that are not kept", MOST, |random, count| {
+        versions(random, PEERS, count, ends_alike, trans_invalid)
     }),
     Shape::dear("a point to the longest slice without entries", 0, |random, _| {
         padded(unkept(random, 0, 4, Random::bytes), 0)
@@ -80,21 +83,49 @@ fn unkept(random: &mut Random, count: usize, peers: usize, digest: fn(&mut Rando
     made(random, set, ids, &point)
 }
 
-/// A point, to a book of ill-formed entries with these ids and the shortest records; with room for the point.
+/// A point of a set of peers without a previous point, to a book of entries of its author in the round before.
+fn versions(
+    random: &mut Random,
+    peers: usize,
+    count: usize,
+    digest: fn(&mut Random) -> Digest,
+    entry: fn(Id) -> Entry,
+) -> Made {
+    let (set, point) = without_prev(random, peers);
+    let version = |_| entry(Id { round: ROUND - 1, digest: digest(random), author: point.id.author });
+    let entries: Vec<Entry> = (0..count).map(version).collect();
+    to_book_of(random, set, &entries, &point)
+}
+
+/// A point, to a book of ill-formed entries with these ids.
 fn made(random: &mut Random, set: Vec<Peer>, ids: Vec<Id>, point: &Point) -> Made {
+    let entries: Vec<Entry> = ids.into_iter().map(ill_formed).collect();
+    to_book_of(random, set, &entries, point)
+}
+
+/// A point, to a book of these entries, with room for the point.
+fn to_book_of(random: &mut Random, set: Vec<Peer>, entries: &[Entry], point: &Point) -> Made {
     let Bytes { settings, schedule, .. } = with_records(random, set, Vec::new());
     let mut book = settings;
-    for id in &ids {
-        let mut shortest = shortest(*id);
-        // direct links, which need not name a peer here
-        (shortest.anchor_proof.to, shortest.anchor_trigger.to) = (None, None);
-        let record = write::record(&shortest);
-        Entry { record, id: *id, certified: false, state: State::IllFormed(3) }.write(&mut book);
-    }
+    entries.iter().for_each(|entry| entry.write(&mut book));
     let record = write::record(point);
     book.resize(book.len() + record.len() + book::BESIDE_RECORD, 0);
     let offer = Offer { schedule, leader: 0, record, peer_buffer: PEER_BUFFER };
-    Made { call: Call::Offer { book: Some(book), offer }, entries: ids.len() }
+    Made { call: Call::Offer { book: Some(book), offer }, entries: entries.len() }
+}
+
+/// An entry with the shortest record.
+fn ill_formed(id: Id) -> Entry {
+    let mut shortest = shortest(id);
+    // direct links, which need not name a peer here
+    (shortest.anchor_proof.to, shortest.anchor_trigger.to) = (None, None);
+    Entry { record: write::record(&shortest), id, certified: false, state: State::IllFormed(3) }
+}
+
+/// An entry with the shortest record that reads in this state.
+fn trans_invalid(id: Id) -> Entry {
+    let root = Root { id, reason: 1, through: Through::Includes, peer: id.author };
+    Entry { record: write::record(&shortest(id)), id, certified: false, state: State::TransInvalid(root) }
 }
 
 /// The same in the longest slice, with a last byte.
