@@ -32,11 +32,12 @@
  * Which library this header belongs to; docs/FORMAT.md, "Versions", says when each number changes.
  *
  *   ABI     the calls: their names, parameters and results
- *   FORMAT  the bytes that are lent and answered
+ *   FORMAT  the bytes that are lent and answered: 2 for point records whose includes and witness have their peers first and
+ *           their digests after them (the arrangement `columns`); 1 was for pairs of peer and digest (`pairs`)
  *   VERSION the release, and, but for its patch, all of these in one number, a byte each: ABI, FORMAT, MAJOR, MINOR
  */
 #define WUTHERDISH_ABI 1
-#define WUTHERDISH_FORMAT 1
+#define WUTHERDISH_FORMAT 2
 #define WUTHERDISH_VERSION_MAJOR 0
 #define WUTHERDISH_VERSION_MINOR 1
 #define WUTHERDISH_VERSION_PATCH 0
@@ -93,8 +94,8 @@ extern "C" {
  * The caller's part: no pointer is null, not even with the length 0; each has as many bytes after it as its length
  * says, the answer 114; and the peer buffer and the answer overlap neither each other nor the rest.
  *
- * Stack, as measured on x86-64 (docs/RELIABILITY.md) with room added: verifying needs at most 4 KB, judging 48 KB, opening
- * 1 KB and an offer 72 KB. A call takes no other memory.
+ * Stack, as measured on x86-64 (docs/RELIABILITY.md) with room added: verifying and converting need at most 4 KB, judging
+ * 48 KB, opening 1 KB and an offer 72 KB. A call takes no other memory.
  *
  * Threads: a call keeps nothing for the next one. Calls may be made from several threads at once, also on separate books
  * and on the same bytes where these are const. One book may be in one call at a time, and is not read by others
@@ -172,6 +173,25 @@ uint8_t wutherdish_offer(uint8_t *book, size_t book_len,
                          const uint8_t *record, size_t record_len,
                          uint8_t *peers, size_t peers_len,
                          uint8_t answer[WUTHERDISH_ANSWER]);
+
+/*
+ * Converts a point record from the arrangement of FORMAT 1, `pairs`, to that of FORMAT 2, `columns`; the other call converts
+ * back. A record keeps its length, and there and back gives the same bytes. Nothing in a record tells the two apart, and
+ * where neither includes nor witness have two peers they are the same bytes: the caller says by the call which it hands
+ * over. All other calls take `columns`. Converting tests, in this order:
+ *
+ *    3  the record can't be read in the arrangement that is handed over; one whose round or times are outside the domain
+ *       is converted all the same
+ *   14  out is shorter than the record
+ *
+ * and returns 0 if the converted record stands at the front of out: then *written is its length, and the bytes of out
+ * after it keep what they held. With a number *written and all of out keep what they held. As above, out and *written
+ * overlap neither each other nor the record; written is aligned as a uint32_t.
+ */
+uint8_t wutherdish_pairs_to_columns(const uint8_t *record, size_t record_len,
+                                    uint8_t *out, size_t out_len, uint32_t *written);
+uint8_t wutherdish_columns_to_pairs(const uint8_t *record, size_t record_len,
+                                    uint8_t *out, size_t out_len, uint32_t *written);
 
 /*
  * The WUTHERDISH_VERSION of the linked library. Where it is not this header's in the upper 16 bits, ABI and FORMAT, no

@@ -31,13 +31,21 @@ def fields(data):
     return out
 
 
-def rows(content, width):
-    """The rows of a map of 0 to 255 strictly rising peers, or None."""
-    if len(content) % width or len(content) // width > 255:
+def rising_peers(content):
+    """0 to 255 strictly rising peers, or None."""
+    if len(content) % 32 or len(content) // 32 > 255:
         return None
-    out = [content[i : i + width] for i in range(0, len(content), width)]
-    peers = [row[:32] for row in out]
-    return out if all(a < b for a, b in zip(peers, peers[1:])) else None
+    out = [content[i : i + 32] for i in range(0, len(content), 32)]
+    return out if all(a < b for a, b in zip(out, out[1:])) else None
+
+
+def map_of(content):
+    """A map from 0 to 255 peers, rising, which stand first, to their digests in the same order, or None."""
+    if len(content) % 64:
+        return None
+    half = len(content) // 2
+    peers = rising_peers(content[:half])
+    return None if peers is None else {peer: content[half + 32 * i : half + 32 * i + 32] for i, peer in enumerate(peers)}
 
 
 def point_id(data):
@@ -76,13 +84,12 @@ class Point:
             return
         self.id = point_id(c[0])
         self.payload = struct.unpack("<II", c[1])
-        pairs, witness, evidence = rows(c[2], 64), rows(c[3], 64), rows(c[4], 32)
+        self.maps = [map_of(c[2]), map_of(c[3])]
+        self.evidence = rising_peers(c[4])
         self.links = [link(c[5]), link(c[6])]
         self.role = role(c[7])
-        if None in (pairs, witness, evidence, self.role) or None in self.links:
+        if None in (*self.maps, self.evidence, *self.links, self.role):
             return
-        self.maps = [{r[:32]: r[32:] for r in m} for m in (pairs, witness)]
-        self.evidence = evidence
         self.times = struct.unpack("<QQ", c[8])
         self.ok = True
 
@@ -148,10 +155,10 @@ class Schedule:
             return
         if len(parts[-1][1]) != 4 or any(len(c) < 4 for _, c in parts):
             return
-        self.spans = [(int.from_bytes(c[:4], "little"), rows(c[4:], 32)) for _, c in parts[:-1]]
+        self.spans = [(int.from_bytes(c[:4], "little"), rising_peers(c[4:])) for _, c in parts[:-1]]
         self.last_known = int.from_bytes(parts[-1][1], "little")
         firsts = [first for first, _ in self.spans]
-        if any(peers is None for _, peers in self.spans) or any(a >= b for a, b in zip(firsts, firsts[1:])):
+        if any(span is None for _, span in self.spans) or any(a >= b for a, b in zip(firsts, firsts[1:])):
             return
         self.ok = True
 

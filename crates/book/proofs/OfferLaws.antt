@@ -18,7 +18,7 @@ use Rattle.reasons.specs.Verdict as verdict
 use Rattle.rules.specs.Judge.{Input, refused, admitted, verify_buffer, JudgeAnswer, Number, Given, answered, needed, before}
 use Rattle.books.specs.Kept.{Kept, Book, Opened}
 use Rattle.books.specs.Spread.{covers}
-use Rattle.books.specs.Offer.{Offer, Result, used, offer_tested, before_in, marked_by, marked_in, answer_in, left_by, judged_as, offer_with, offer, covered_by}
+use Rattle.books.specs.Offer.{Offer, Result, used, offer_tested, before_in, marked_by, marked_in, answer_in, left_by, judged_as, offer_with, offer, offer_in, covered_by}
 use Rattle.books.specs.Layout.{kept_bytes, entries_bytes, book_bytes, read_book}
 use Rattle.books.specs.Calls.{laid_out, in_bytes, offer_to, offer_bytes}
 use Rattle.books.proofs.RoundTrip.{settings-length}
@@ -121,13 +121,13 @@ module _ (s : List ℕ) (w : Bytes s) (z : Opened) (r : read_book s ≡ Some z) 
 
     -- a number that comes of the tests
     number-result : (n : ℕ) → offer_tested z o ≡ refused n → Refuses s o n o.peers
-    unfolding offer offer_with
+    unfolding offer_in offer_with
     number-result n t =
         to-book ∙ (ap (λ x. in_bytes (offer_with z o x)) t ∙ ap (λ (l : List ℕ). record { answer = Number n; peers = o.peers; after = l }) as_found)
 
     module _ (i : Input) (t : offer_tested z o ≡ admitted i) where
       taken-result : (a : JudgeAnswer) → answer_in z i o.leader ≡ a → offer_bytes s o ≡ in_bytes (judged_as z o i a)
-      unfolding offer offer_with
+      unfolding offer_in offer_with
       taken-result a e = to-book ∙ (ap (λ x. in_bytes (offer_with z o x)) t ∙ ap (λ (x : JudgeAnswer). in_bytes (judged_as z o i x)) e)
 
       module _ (end : ℕ) (e : end ≡ 47 + used z.book) where

@@ -15,7 +15,7 @@ use Rattle.schedule.specs.Settings.{Settings}
 use Rattle.schedule.specs.Schedule.{Schedule, read_schedule}
 use Rattle.rules.specs.Judge.{Input, Tested, refused, admitted, tested_with}
 use Rattle.books.specs.Kept.{find_kept, Opened}
-use Rattle.books.specs.Offer.{Offer, used, is_full, tested_room, input_tested, offer_tested}
+use Rattle.books.specs.Offer.{Offer, used, is_full, tested_room, input_tested, offer_tested, offer_tested_in}
 
 -- ---- the previous point
 
@@ -64,11 +64,11 @@ passed_buffer c o i h = subst (Roomy (length o.peers)) h (all (read_schedule o.s
 
 module _ (z : Opened) (c : Settings) (e : c ≡ z.settings) (o : Offer) where
   pub input-refused : (n : ℕ) → input_tested c o ≡ refused n → offer_tested z o ≡ refused n
-  unfolding offer_tested
+  unfolding offer_tested_in
   input-refused n h = ap (λ (x : Settings). tested_room z o.bytes (input_tested x o)) (sym e) ∙ rw h
 
   pub after-input : (i : Input) → input_tested c o ≡ admitted i → offer_tested z o ≡ tested_room z o.bytes (admitted i)
-  unfolding offer_tested
+  unfolding offer_tested_in
   after-input i h = ap (λ (x : Settings). tested_room z o.bytes (input_tested x o)) (sym e) ∙ ap (tested_room z o.bytes) h
 
 module _ (z : Opened) (bytes : List ℕ) (i : Input) (id : PointId) (e : i.point.id ≡ id) where

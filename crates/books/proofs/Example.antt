@@ -12,13 +12,13 @@ use Rattle.base.specs.Base.{concat}
 use Rattle.base.proofs.Bool.{and_left, and_right}
 use Rattle.base.proofs.Impossible.{impossible}
 use Rattle.parts.specs.Bytes.{little_at, big_at, Bytes}
-use Rattle.map.specs.Rows.{pairs_of, peers}
+use Rattle.map.specs.Rows.{pair_at, pairs_in, peers, digests}
 use Rattle.point.specs.Point.{source, target}
 use Rattle.schedule.specs.Settings.{read_settings}
 use Rattle.rules.specs.Mismatch.{mismatch, uncovered}
 use Rattle.rules.specs.Validate.{validate}
 use Rattle.books.specs.Kept.{Valid, Invalid, IllFormed, find_kept, mark}
-use Rattle.books.specs.Offer.{Offer, used, offer}
+use Rattle.books.specs.Offer.{Offer, used, offer_in}
 use Rattle.books.specs.Run.{Run, run, AreBytes}
 use Rattle.books.specs.Layout.{entries_bytes, book_bytes}
 use Rattle.books.specs.Calls.{open_bytes, laid_out, offer_bytes}
@@ -59,11 +59,11 @@ unfolding all_below are_below record_bytes
 all-below = refl
 
 as_given : given ≡ expected_answers
-unfolding run offer record_bytes schedule_bytes little_at big_at pairs_of peers mark mismatch uncovered validate
+unfolding run offer_in record_bytes schedule_bytes little_at big_at pairs_in pair_at peers digests mark mismatch uncovered validate
 as_given = refl
 
 as_left : plain.last.book ≡ expected_book
-unfolding run offer record_bytes schedule_bytes little_at big_at pairs_of peers mark mismatch uncovered validate
+unfolding run offer_in record_bytes schedule_bytes little_at big_at pairs_in pair_at peers digests mark mismatch uncovered validate
 as_left = refl
 
 as_found : FoundBook (settings_bytes conf) conf (length slice) (run offer_bytes (open_bytes (settings_bytes conf) slice) offers) plain

@@ -117,18 +117,25 @@ module _ (i : PointId) (k : Kept) (back : Book) (t : same_id k.point.id i ≡ tr
       let d : same_id x.point.id i ≡ false = same_sym x.point.id i ∙ rw (same_eq k.point.id i t) at (absent-other front k back x.point.id u) in
       (rw (d, p.0), p.1)
 
+-- ---- entries that are changed but for their ids
+
+module _ (each : Kept → Kept) (same : (k : Kept) → (each k).point.id ≡ k.point.id) where
+  pub find-each : (b : Book) (j : PointId) → find_kept (map each b) j ≡ option_map each (find_kept b j)
+  unfolding find_kept
+  find-each [] j = refl
+  find-each (k ∷ b) j =
+      ap (λ i. pick (same_id i j) (Some (each k)) (find_kept (map each b) j)) (same k) ∙ go (same_id k.point.id j) (find-each b j)
+    where
+      go : (t : Bool) → find_kept (map each b) j ≡ option_map each (find_kept b j) →
+          pick t (Some (each k)) (find_kept (map each b) j) ≡ option_map each (pick t (Some k) (find_kept b j))
+      go true h = refl
+      go false h = h
+
 -- ---- marks: an entry that is marked differs in its mark alone
 
 module _ (marks : Kept → Bool) where
   find_remarked : (b : Book) (j : PointId) → find_kept (map (remark marks) b) j ≡ option_map (remark marks) (find_kept b j)
-  unfolding find_kept
-  find_remarked [] j = refl
-  find_remarked (k ∷ b) j = go (same_id k.point.id j) (find_remarked b j)
-    where
-      go : (t : Bool) → find_kept (map (remark marks) b) j ≡ option_map (remark marks) (find_kept b j) →
-          pick t (Some (remark marks k)) (find_kept (map (remark marks) b) j) ≡ option_map (remark marks) (pick t (Some k) (find_kept b j))
-      go true h = refl
-      go false h = h
+  find_remarked = find-each (remark marks) (λ k. refl)
 
   pub remarked_kept : (b : Book) (j : PointId) (k : Kept) → find_kept b j ≡ Some k → find_kept (map (remark marks) b) j ≡ Some (remark marks k)
   remarked_kept b j k h = find_remarked b j ∙ ap (option_map (remark marks)) h

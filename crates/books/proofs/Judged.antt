@@ -20,11 +20,11 @@ use Rattle.reasons.specs.Verdict.{Verdict}
 use Rattle.rules.specs.Unknown.{peer_bytes}
 use Rattle.rules.specs.Verify.{verify}
 use Rattle.rules.specs.List.{read_list}
-use Rattle.rules.specs.Judge.{Input, Tested, refused, admitted, verify_buffer, Number, Given, Before, answered, needed, before_with, before, over_list, judge_from, judge_with}
+use Rattle.rules.specs.Judge.{Input, Tested, refused, admitted, verify_buffer, Number, Given, Before, answered, needed, before_with, before, over_list, judge_from, judge_with, judge_with_in}
 use Rattle.books.specs.Kept.{Kept, Book, find_kept, mark, Opened}
 use Rattle.books.specs.Lists.{direct_list, indirect_list}
 use Rattle.books.specs.Spread.{covers}
-use Rattle.books.specs.Offer.{Offer, Result, tested_room, is_full, input_tested, offer_tested, marked_by, answer_over, answer_with, before_in, marked_in, answer_in, numbered, judged_as, offer}
+use Rattle.books.specs.Offer.{Offer, Result, tested_room, is_full, input_tested, offer_tested, offer_tested_in, marked_by, answer_over, answer_with, before_in, marked_in, answer_in, numbered, judged_as, offer}
 use Rattle.books.specs.Run.{Run}
 use Rattle.books.specs.ListFor.{list_for}
 use Rattle.books.specs.FoundBook.{EverMarked, Tells, with_next, tested_as, NextOffer}
@@ -89,7 +89,7 @@ unwritten i leader n buffer h = rw (passed (verify i.settings i.schedule i.point
 module _ (z : Opened) (o : Offer) (marked : PointId → Bool) (h : Shape z.book) (by : Bytes o.bytes)
     (same : (k : Kept) → Memᴰ k z.book → marked k.point.id ≡ (k.certified || covers_by z.book o.leader (offer_tested z o) k.point.id)) where
   answer-judged : (i : Input) → offer_tested z o ≡ admitted i → answer_in z i o.leader ≡ judge_with o.leader 3 (list_for z.book marked i.point) (admitted i)
-  unfolding answer_in marked_in before_in judge_with
+  unfolding answer_in marked_in before_in judge_with_in
   answer-judged i q =
       over-before i.settings o.bytes i.point z.book marked h by (accepted z o i q).read (before_in i o.leader)
       (λ k m. same k m ∙ ap (λ (x : Tested). k.certified || covers_by z.book o.leader x k.point.id) q)
@@ -104,7 +104,7 @@ module _ (z : Opened) (o : Offer) (marked : PointId → Bool) (h : Shape z.book)
     where
       refusal : (n : ℕ) → offer_tested z o ≡ refused n → Judges p (input_tested z.settings o) (numbered z o n)
       refusal n q again full =
-          unfold offer_tested judge_with in
+          unfold offer_tested_in judge_with_in in
           rw (room-refused z o.bytes (input_tested z.settings o) n q (λ e. again (ap Number e)) (λ e. full (ap Number e))) (refl, refl)
 
       -- the answer to an offer that is judged
@@ -158,13 +158,13 @@ module _ (c : Settings) (b : Book) (o : Offer) (w : Bytes o.bytes) (shape : Shap
 
   judged-input : (i : Input) → i.settings ≡ c → i.point ≡ p → judge_with o.leader 3 (list_for b marked p) (admitted i) ≡ Given v →
       answer_with c 3 p (mark marked b) (before_in i o.leader) ≡ Given v
-  unfolding judge_with before_in
+  unfolding judge_with_in before_in
   judged-input i set same h =
       let x : Before = before i.settings i.schedule (eqb o.leader 1) i.point in
       over-marked c o.bytes p b marked shape w read whole x ∙ with_input i.settings i.point x set same h
 
   judged-tested : (t : Tested) → input_tested c o ≡ t → judge_with o.leader 3 (list_for b marked p) t ≡ Given v → JudgedOver c b o marked v p
-  unfolding judge_with
+  unfolding judge_with_in
   judged-tested (refused n) e h = impossible (cc)
   judged-tested (admitted i) e h =
       let a = tested-input c o i e in

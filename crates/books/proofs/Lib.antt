@@ -34,3 +34,5 @@ pub mod OffersTold
 pub mod Built
 pub mod Implied
 pub mod FoundBooks
+pub mod ConvertedBook
+pub mod Converted

@@ -19,7 +19,7 @@ use Rattle.point.specs.declared.data.AnchorStageRole.TheVariants.{Proof, Trigger
 use Rattle.rules.specs.DagPoint as dag
 use Rattle.rules.specs.DagPoint.{Entry, IndirectEntry}
 use Rattle.rules.specs.Mismatch.{pair_id, is_id}
-use Rattle.rules.specs.List.{Listed, read_list, directs, indirects}
+use Rattle.rules.specs.List.{Listed, read_list, read_list_in, directs, indirects}
 use Rattle.books.specs.Kept.{Status, Valid, TransInvalid, Invalid, IllFormed, Kept, Book, find_kept, mark_one, mark}
 use Rattle.books.specs.Lists.{is_valid, is_of, first_valid, kept_entry, entry_with, lookup, lookups, versions, direct_list, target_entry, is_trigger_first, indirect_list}
 use Rattle.books.specs.ListFor.{tag17, is_kept_valid, is_first_valid, of_kept, entry_for, of_pairs, of_versions, of_target, list_for}
@@ -141,7 +141,7 @@ module _ (b : Book) (covers marked : PointId → Bool) (p : PointInfo) (h : Shap
   -- the whole list, of a point that was read
   pub list_read : (bytes : List ℕ) → Bytes bytes → read_point bytes ≡ Some p →
       (l : List Listed) × (read_list (list_for b marked p) ≡ Some l) × (directs l ≡ direct_list (mark covers b) p) × (indirects l ≡ indirect_list (mark covers b) p)
-  unfolding list_for read_list direct_list
+  unfolding list_for read_list_in direct_list
   list_read bytes by r =
       let f = dependencies_fit bytes p by r in
       let w = readable bytes p r in

@@ -9,7 +9,7 @@ use Rattle.base.proofs.Bool.{never, clash}
 use Rattle.base.proofs.Impossible.{impossible}
 use Rattle.rules.specs.Judge.{Input, Tested, refused, admitted, Number}
 use Rattle.books.specs.Kept.{find_kept, Opened}
-use Rattle.books.specs.Offer.{Offer, is_full, tested_room, offer_tested, offer_with, offer}
+use Rattle.books.specs.Offer.{Offer, is_full, tested_room, offer_tested, offer_tested_in, offer_with, offer, offer_in}
 use Rattle.books.specs.Calls.{laid_out, offer_to, IsOfferNumber}
 use Rattle.books.specs.FoundBook.{left_in, WasKept, HasNoRoom, tested_as}
 use Rattle.books.proofs.Offered.{same_tests, number_of, number_six, numbers, number-unchanged, offer-cases}
@@ -18,11 +18,11 @@ use Rattle.books.proofs.Invariant.{Sound}
 
 module _ (z : Opened) (o : Offer) (h : Sound z) where
   tested-next : (t : Tested) → tested_as z.bytes o ≡ t → offer_tested z o ≡ tested_room z o.bytes t
-  unfolding offer_tested
+  unfolding offer_tested_in
   tested-next t e = ap (tested_room z o.bytes) (sym (same_tests z o h.settings) ∙ e)
 
   refused-next : (n : ℕ) → offer_tested z o ≡ refused n → (offer z o).answer ≡ Number n
-  unfolding offer offer_with
+  unfolding offer_in offer_with
   refused-next n e = ap (λ (t : Tested). (offer_with z o t).answer) e
 
   pub next-tests : (n : ℕ) → tested_as z.bytes o ≡ refused n → (offer z o).answer ≡ Number n

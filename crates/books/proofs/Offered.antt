@@ -28,7 +28,7 @@ use Rattle.reasons.specs.declared.ill_formed.VerifyError.TheVariants as case-err
 use Rattle.reasons.specs.Verdict as verdict
 use Rattle.reasons.specs.Verdict.{Verdict}
 use Rattle.rules.specs.Verify.{verify}
-use Rattle.rules.specs.Judge.{Input, Tested, refused, admitted, tested_with, tested, JudgeAnswer, Number, Given, Before, answered, needed, before_with, before}
+use Rattle.rules.specs.Judge.{Input, Tested, refused, admitted, tested_with, tested_in, JudgeAnswer, Number, Given, Before, answered, needed, before_with, before}
 use Rattle.rules.specs.CheckIllFormed.{wave_checked}
 use Rattle.reasons.specs.declared.ill_formed.WaveChecked.{WaveChecked}
 use Rattle.reasons.specs.declared.ill_formed.WaveChecked.TheVariants as case-wave
@@ -36,7 +36,7 @@ use Rattle.rules.specs.List.{is_listable}
 use Rattle.books.specs.Kept.{Status, Valid, TransInvalid, Invalid, IllFormed, Book, find_kept, mark, Opened, with_entries}
 use Rattle.books.specs.Lists.{direct_list, indirect_list}
 use Rattle.books.specs.Spread.{covers}
-use Rattle.books.specs.Offer.{Offer, Result, start_in, used, is_full, tested_room, input_tested, offer_tested, marked_by, answer_with, kept_as, left_by, before_in, marked_in, answer_in, numbered, judged_as, offer_with, offer}
+use Rattle.books.specs.Offer.{Offer, Result, start_in, used, is_full, tested_room, input_tested, offer_tested, offer_tested_in, marked_by, answer_with, kept_as, left_by, before_in, marked_in, answer_in, numbered, judged_as, offer_with, offer, offer_in}
 use Rattle.books.specs.Calls.{IsOfferNumber}
 use Rattle.books.specs.FoundBook.{tested_as}
 use Rattle.rules.proofs.Fits.{point-fits}
@@ -98,7 +98,7 @@ room-taken z bytes (admitted j) i h = go (is_some (find_kept z.book j.point.id))
 
 module _ (z : Opened) (o : Offer) where
   pub accepted : (i : Input) → offer_tested z o ≡ admitted i → Accepted z o i
-  unfolding offer_tested is_full
+  unfolding offer_tested_in is_full
   accepted i h =
       let r = room-taken z o.bytes (input_tested z.settings o) i h in
       let w = tested-input z.settings o i r.0 in
@@ -119,7 +119,7 @@ pub offer-cases : (z : Opened) (o : Offer) (P : Result Opened → Type 0) →
     ((i : Input) → offer_tested z o ≡ admitted i → (n : ℕ) → answer_in z i o.leader ≡ Number n → P (numbered z o n)) →
     ((i : Input) → offer_tested z o ≡ admitted i → (v : Verdict) → answer_in z i o.leader ≡ Given v → P (judged_as z o i (Given v))) →
     P (offer z o)
-unfolding offer offer_with
+unfolding offer_in offer_with
 offer-cases z o P refusal number given = go (offer_tested z o) refl
   where
     judged : (i : Input) → offer_tested z o ≡ admitted i → (a : JudgeAnswer) → answer_in z i o.leader ≡ a → P (judged_as z o i a)
@@ -134,7 +134,7 @@ offer-cases z o P refusal number given = go (offer_tested z o) refl
 
 -- the tests of a call with the book's settings are the book's
 pub same_tests : (z : Opened) (o : Offer) → read_settings z.bytes ≡ Some z.settings → tested_as z.bytes o ≡ input_tested z.settings o
-unfolding tested
+unfolding tested_in
 same_tests z o s = rw (s, and-true (leb o.leader 1))
 
 abbrev Refusal : Tested → Type 0
@@ -161,7 +161,7 @@ room-refusal z bytes (admitted i) h = go (is_some (find_kept z.book i.point.id))
     go false false = tt
 
 tested-refusal : (z : Opened) (o : Offer) → Refusal (offer_tested z o)
-unfolding offer_tested
+unfolding offer_tested_in
 tested-refusal z o =
     room-refusal z o.bytes (input_tested z.settings o)
     (with_refusal z.settings (read_schedule o.schedule) (read_point o.bytes) (leb o.leader 1) (length o.peers))

@@ -15,7 +15,7 @@ use Rattle.schedule.specs.Settings.{Settings, read_settings}
 use Rattle.schedule.specs.Schedule.{Schedule, read_schedule}
 use Rattle.reasons.specs.Verdict.{Verdict}
 use Rattle.rules.specs.Answer.{judge_number, judge_answer}
-use Rattle.rules.specs.Judge.{refused, tested, tested_with, flags_ok, JudgeAnswer, Number, Given}
+use Rattle.rules.specs.Judge.{refused, tested_in, tested_with, flags_ok, JudgeAnswer, Number, Given}
 use Rattle.rules.specs.Told.{Call, OfBytes, judged}
 use Rattle.rules.proofs.Told.{told}
 use Rattle.books.specs.Kept.{Opened}
@@ -33,7 +33,7 @@ unread (Some c) None others size = (2, refl)
 unread (Some c) (Some s) others size = (3, refl)
 
 pub unread-offer : (settings : List ℕ) (o : Offer) → read_point o.bytes ≡ None → (n : ℕ) × (tested_as settings o ≡ refused n)
-unfolding tested
+unfolding tested_in
 unread-offer settings o r = rw r (unread (read_settings settings) (read_schedule o.schedule) (flags_ok o.leader 3) (length o.peers))
 
 -- the call of `judge` whose answer an offer gets that gets a verdict

@@ -1,20 +1,20 @@
 -- The checker computes the facts on how far marks spread.
 use mathlib.Core.Path.{refl}
 use Rattle.parts.specs.Bytes.{little_at, big_at}
-use Rattle.map.specs.Rows.{pairs_of, peers}
+use Rattle.map.specs.Rows.{pair_at, pairs_in, peers, digests}
 use Rattle.point.specs.Point.{prev_id, source, target}
 use Rattle.rules.specs.Mismatch.{mismatch, uncovered}
 use Rattle.rules.specs.Validate.{validate}
 use Rattle.books.specs.Kept.{find_kept, mark}
 use Rattle.books.specs.Lists.{direct_list, indirect_list}
 use Rattle.books.specs.Spread.{covers}
-use Rattle.books.specs.Offer.{answer_over, offer}
+use Rattle.books.specs.Offer.{answer_over, offer_in}
 use Rattle.books.specs.Run.{run}
 use Rattle.books.specs.Example.{record_bytes, schedule_bytes}
 use Rattle.books.specs.SpreadFacts.{SpreadFacts}
 
 pub spread_facts : SpreadFacts
-unfolding run offer record_bytes schedule_bytes little_at big_at pairs_of peers covers mark find_kept prev_id answer_over direct_list indirect_list mismatch uncovered validate source target
+unfolding run offer_in record_bytes schedule_bytes little_at big_at pairs_in pair_at peers digests covers mark find_kept prev_id answer_over direct_list indirect_list mismatch uncovered validate source target
 spread_facts =
     record {
       one = refl;

@@ -23,7 +23,7 @@ use Rattle.rules.specs.DagPoint as dag
 use Rattle.rules.specs.DagPoint.{DagPoint, Entry, IndirectEntry}
 use Rattle.reasons.specs.Answer.{flag, role_number}
 use Rattle.reasons.proofs.Laws.{flag-back}
-use Rattle.rules.specs.List.{is_listable, record_front, is_root, read_state, Listed, entry_at, read_entry, is_in_order, list_from, directs, indirects}
+use Rattle.rules.specs.List.{is_listable, record_front, record_front_in, is_root, read_state, read_state_in, Listed, entry_at, entry_at_in, read_entry, read_entry_in, is_in_order, list_from, list_from_in, directs, indirects}
 use Rattle.books.specs.Kept.{Status, Valid, TransInvalid, Invalid, IllFormed, Kept}
 use Rattle.books.specs.Lists.{dag_point}
 use Rattle.books.specs.Layout.{id_bytes}
@@ -44,7 +44,7 @@ pub record Written (e : List ℕ) (x : Entry) : Type 0 where
 pub tagged : (state reason : ℕ) (c f : Bool) (body : List ℕ) (x : DagPoint) →
     ((rest : List ℕ) → read_state state reason (body ++ rest) ≡ Some (record { point = x; size = length body })) →
     Written (tag16 state c f reason ++ body) (record { state = x; certified = c; first_valid = f })
-unfolding entry_at
+unfolding entry_at_in
 tagged state reason c f body x h =
     record {
       tag = λ rest. refl;
@@ -56,7 +56,7 @@ tagged state reason c f body x h =
 -- the record of an entry
 record_front_lem : (k : Kept) (rest : List ℕ) → KeptShape k → is_listable k.point ≡ true →
     record_front (k.bytes ++ rest) ≡ Some (record { point = k.point; size = length k.bytes })
-unfolding record_front
+unfolding record_front_in
 record_front_lem k rest o l = rw (append-end k.bytes rest (kept-shaped k o), take-append_seam k.bytes rest, o.read, l)
 
 -- tag 17
@@ -65,12 +65,12 @@ unfolding little_bytes big_bytes
 id-state i rest f = (field-there 17 68 [] (id_bytes i ++ rest) (omega arith), id-back 17 68 0 i rest f)
 
 pub lost-reads : (i : PointId) (rest : List ℕ) → IdFits i → read_state 4 0 (tag17 i ++ rest) ≡ Some (record { point = dag.NotFound i; size = length (tag17 i) })
-unfolding read_state
+unfolding read_state_in
 lost-reads i rest f = rw ((id-state i rest f).0, (id-state i rest f).1, id_length i)
 
 ill-formed-reads : (i : PointId) (n : ℕ) (rest : List ℕ) → IdFits i → (leb 1 n && leb n 16) ≡ true →
     read_state 3 n (tag17 i ++ rest) ≡ Some (record { point = dag.IllFormed i n; size = length (tag17 i) })
-unfolding read_state
+unfolding read_state_in
 ill-formed-reads i n rest f s = rw (s, (id-state i rest f).0, (id-state i rest f).1, id_length i)
 
 -- tag 18 with its root cause
@@ -79,12 +79,12 @@ tag18 d = 18 ∷ 69 ∷ 0 ∷ (id_bytes d.to ++ (d.reason ∷ []))
 
 module _ (k : Kept) (rest : List ℕ) (o : KeptShape k) where
   valid-reads : is_listable k.point ≡ true → read_state 0 0 (k.bytes ++ rest) ≡ Some (record { point = dag.Valid k.point; size = length k.bytes })
-  unfolding read_state
+  unfolding read_state_in
   valid-reads l = rw (record_front_lem k rest o l, zero-add (length k.bytes))
 
   invalid-reads : (n : ℕ) → is_listable k.point ≡ true → is_some (dag_round n) ≡ true →
       read_state 2 n (k.bytes ++ rest) ≡ Some (record { point = dag.Invalid k.point n; size = length k.bytes })
-  unfolding read_state
+  unfolding read_state_in
   invalid-reads n l r = rw (r, record_front_lem k rest o l, zero-add (length k.bytes))
 
   module _ (d : InvalidDependency) (f : IdFits d.to) where
@@ -95,7 +95,7 @@ module _ (k : Kept) (rest : List ℕ) (o : KeptShape k) where
 
     trans_invalid-reads : is_listable k.point ≡ true → is_root (tag18 d ++ (k.bytes ++ rest)) ≡ true →
         read_state 1 0 ((tag18 d ++ k.bytes) ++ rest) ≡ Some (record { point = dag.TransInvalid k.point d.to d.reason; size = length (tag18 d ++ k.bytes) })
-    unfolding read_state little_bytes big_bytes
+    unfolding read_state_in little_bytes big_bytes
     trans_invalid-reads l r =
         let e : 72 + length k.bytes ≡ length (tag18 d ++ k.bytes) = omega arith in
         rw (r, record_front_lem k rest o l, id-back 18 69 0 d.to (d.reason ∷ (k.bytes ++ rest)) f, e)
@@ -127,7 +127,7 @@ abbrev pub Reads : ℕ → Bool → List ℕ → List Entry → List IndirectEnt
 Reads m after s es ts = (n : ℕ) → m ≤ n → Read n after s es ts
 
 pub none_read : (after : Bool) → Reads 0 after [] [] []
-unfolding list_from directs indirects
+unfolding list_from_in directs indirects
 none_read after zero h = record { list = []; reads = refl; direct = refl; indirect = refl }
 none_read after (suc n) h = record { list = []; reads = refl; direct = refl; indirect = refl }
 
@@ -138,12 +138,12 @@ filled (x ∷ s) t h = ne_eqb (suc (length s)) 0 (λ e. omega arith)
 -- one more entry in front
 more-reads : (n : ℕ) (after : Bool) (e s : List ℕ) (x : Listed) (l : List Listed) (t : ℕ) → get_or (e ++ s) 0 0 ≡ suc t → read_entry (e ++ s) ≡ Some x → x.size ≡ length e →
     is_in_order after x.aim ≡ true → list_from n (is_some x.aim) s ≡ Some l → list_from (suc n) after (e ++ s) ≡ Some (x ∷ l)
-unfolding list_from
+unfolding list_from_in
 more-reads n after e s x l t b r z i h = rw (filled (e ++ s) t b, r, i, z, drop-append_seam e s, h)
 
 -- an entry that begins with tag 16
 read-direct : (s : List ℕ) → get_or s 0 0 ≡ 16 → read_entry s ≡ entry_at None 0 s
-unfolding read_entry
+unfolding read_entry_in
 read-direct s t = pick-false (eqb (get_or s 0 0) 19) _ _ (ap (λ (y : ℕ). eqb y 19) t)
 
 pub direct-more : (e : List ℕ) (x : Entry) (m : ℕ) (s : List ℕ) (es : List Entry) (ts : List IndirectEntry) → Written e x →
@@ -169,7 +169,7 @@ tag19 g = 19 ∷ 1 ∷ 0 ∷ role_number g ∷ []
 
 -- one that begins with tag 19
 read-indirect : (g : AnchorStageRole) (s : List ℕ) → read_entry (tag19 g ++ s) ≡ entry_at (Some g) 4 s
-unfolding read_entry
+unfolding read_entry_in
 read-indirect g s =
     pick_true (field_ok (field_row 19 1 1) (tag19 g ++ s) 0 && leb (role_number g) 1) _ None
     (and_both (field_ok (field_row 19 1 1) (tag19 g ++ s) 0) _ (field-there 19 1 [] (role_number g ∷ s) (omega arith)) (role-fits g))

@@ -5,7 +5,7 @@ use Rattle.parts.specs.Limits.{entries_start, longest_book}
 use Rattle.schedule.specs.Settings.{Settings, read_settings}
 use Rattle.rules.specs.Judge.{Number}
 use Rattle.books.specs.Kept.{Opened}
-use Rattle.books.specs.Offer.{Offer, Result, offer}
+use Rattle.books.specs.Offer.{Offer, Result, offer, offer_in}
 use Rattle.books.specs.Layout.{book_bytes, read_book}
 
 -- ---- opening: 1, then 5, else 0
@@ -46,7 +46,7 @@ offer_to s o None = record { answer = Number 10; peers = o.peers; after = s }
 offer_to s o (Some z) = in_bytes (offer z o)
 
 unfoldable pub offer_bytes : List ℕ → Offer → Result (List ℕ)
-unfolding read_book offer laid_out
+unfolding read_book offer_in laid_out
 offer_bytes s o = offer_to s o (read_book s)
 
 -- the numbers that an offer to a book can get: 2 to 6, 11 and 12

@@ -4,7 +4,7 @@ use Rattle.std.specs.Prelude.{ℕ, ◌≤◌, ◌≡◌, Bool, true, false, List
 use Rattle.base.specs.Base.{concat}
 use Rattle.parts.specs.Bytes.{big_bytes, little_bytes}
 use Rattle.parts.specs.Limits.{entries_start, peers_room, longest_book}
-use Rattle.map.specs.Rows.{Pair}
+use Rattle.map.specs.Rows.{Pair, peers, digests}
 use Rattle.point.specs.Point.{PointId, Includes, AnchorLink, Direct, Indirect, PointInfo}
 use Rattle.point.specs.declared.data.PointRole.{PointRole}
 use Rattle.point.specs.declared.data.PointRole.TheVariants.{Regular, AnchorProof, AnchorTrigger, Genesis}
@@ -48,9 +48,8 @@ schedule_bytes [] last = field_bytes 35 (little_bytes 4 last)
 schedule_bytes (x ∷ l) last = field_bytes 34 (little_bytes 4 x.first ++ peer_bytes x.peers) ++ schedule_bytes l last
 
 unfoldable pub pairs_bytes : List Pair → List ℕ
-unfolding big_bytes
-pairs_bytes [] = []
-pairs_bytes (q ∷ l) = big_bytes 32 q.peer ++ big_bytes 32 q.digest ++ pairs_bytes l
+unfolding peer_bytes peers digests
+pairs_bytes l = peer_bytes (peers l) ++ peer_bytes (digests l)
 
 abbrev pub link_bytes : AnchorLink → List ℕ
 link_bytes (Direct t) = 0 ∷ through_bytes t

@@ -6,7 +6,7 @@ use Rattle.parts.specs.Bytes.{big_bytes, little_bytes}
 use Rattle.parts.specs.Limits.{first_round, last_round, settings_length, entries_start, tag33_length, most_kept, longest_book}
 use Rattle.record.specs.Record.{field_row, field_ok, record_end}
 use Rattle.point.specs.Point.{PointId, Through, Includes, Witness, PointInfo, in_domain}
-use Rattle.point.specs.Reading.{point_id_at, through_at, read_point}
+use Rattle.point.specs.Reading.{point_id_at, through_at, read_point, read_point_in}
 use Rattle.schedule.specs.Settings.{read_settings}
 use Rattle.reasons.specs.Answer.{flag}
 use Rattle.reasons.specs.Invalid.{dag_round, InvalidDependency}
@@ -99,7 +99,7 @@ pub record KeptFront : Type 0 where
   pub size : ℕ
 
 unfoldable pub kept_front : List ℕ → Option KeptFront
-unfolding record_end read_point field_ok read_kept
+unfolding record_end read_point_in field_ok read_kept
 kept_front s =
     and_then (record_end s) (λ n. and_then (read_point (take n s)) (λ q. pick (field_ok (field_row 33 105 105) s n)
     (option_map (λ k. record { kept = k; size = n + tag33_length }) (read_kept (take n s) q (take 105 (drop (n + 3) s)))) None))

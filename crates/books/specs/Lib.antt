@@ -8,6 +8,7 @@ pub mod Layout
 pub mod Calls
 pub mod ListFor
 pub mod FoundBook
+pub mod Converted
 pub mod AnyMarks
 pub mod OffersTold
 pub mod AnyBytes

@@ -3,8 +3,10 @@
 use Rattle.std.specs.Prelude.{ℕ, ◌+◌, ◌-◌, Bool, true, false, ◌&&◌, ◌||◌, List, [], ◌∷◌, ◌++◌, length, leb, ltb, eqb, Some, is_some}
 use Rattle.base.specs.Base.{pick}
 use Rattle.parts.specs.Limits.{first_round, last_round, entries_start, tag33_length, most_kept}
+use Rattle.map.specs.declared.Arrangement.{Arrangement}
+use Rattle.map.specs.declared.Arrangement.TheVariants.{Columns}
 use Rattle.point.specs.Point.{PointInfo, prev_id}
-use Rattle.point.specs.Reading.{read_point}
+use Rattle.point.specs.Reading.{read_point_in}
 use Rattle.schedule.specs.Settings.{Settings}
 use Rattle.schedule.specs.Schedule.{read_schedule}
 use Rattle.reasons.specs.IllFormed.{ill_formed_number}
@@ -62,13 +64,13 @@ tested_room z bytes (admitted i) =
     (pick (is_full z bytes) (refused 12) (admitted i))
 
 -- the numbers 2 to 5, of an offer to a book with these settings
-abbrev pub input_tested : Settings → Offer → Tested
-input_tested c o = tested_with (Some c) (read_schedule o.schedule) (read_point o.bytes) (leb o.leader 1) (length o.peers)
+abbrev pub input_tested_in : Arrangement → Settings → Offer → Tested
+input_tested_in a c o = tested_with (Some c) (read_schedule o.schedule) (read_point_in a o.bytes) (leb o.leader 1) (length o.peers)
 
 -- "An offer tests 10, then 2 to 5, 11, 12, then judges": 10 is tested of the book's bytes
-unfoldable pub offer_tested : Opened → Offer → Tested
-unfolding read_schedule read_point find_kept is_full
-offer_tested z o = tested_room z o.bytes (input_tested z.settings o)
+unfoldable pub offer_tested_in : Arrangement → Opened → Offer → Tested
+unfolding read_schedule read_point_in find_kept is_full
+offer_tested_in a z o = tested_room z o.bytes (input_tested_in a z.settings o)
 
 -- ---- judging
 
@@ -151,9 +153,20 @@ unfolding answer_in marked_in
 offer_with z o (refused n) = numbered z o n
 offer_with z o (admitted i) = judged_as z o i (answer_in z i o.leader)
 
-unfoldable pub offer : Opened → Offer → Result Opened
-unfolding offer_with offer_tested
-offer z o = offer_with z o (offer_tested z o)
+unfoldable pub offer_in : Arrangement → Opened → Offer → Result Opened
+unfolding offer_with offer_tested_in
+offer_in a z o = offer_with z o (offer_tested_in a z o)
+
+-- ---- as the call reads an offer's record: columns
+
+abbrev pub input_tested : Settings → Offer → Tested
+input_tested c o = input_tested_in Columns c o
+
+abbrev pub offer_tested : Opened → Offer → Tested
+offer_tested z o = offer_tested_in Columns z o
+
+abbrev pub offer : Opened → Offer → Result Opened
+offer z o = offer_in Columns z o
 
 abbrev pub offer_of : List ℕ → ℕ → List ℕ → List ℕ → Offer
 offer_of schedule leader bytes peers = record { schedule = schedule; leader = leader; bytes = bytes; peers = peers }

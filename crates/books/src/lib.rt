@@ -3,6 +3,7 @@
 
 ghost use Rattle.std.specs.Prelude.{ℕ, List};
 ghost use Rattle.books.specs.FoundBook.{FoundBooks};
+ghost use Rattle.books.specs.Converted.{OffersConverted};
 ghost use Rattle.books.specs.OffersTold.{OffersTold};
 ghost use Rattle.books.specs.AnyBytes.{AnyBytes};
 ghost use Rattle.books.specs.Example.{Example};
@@ -13,6 +14,11 @@ ghost use Rattle.books.specs.SpreadFacts.{SpreadFacts};
 // that uses it.
 pub fn found_books()
     ensures { FoundBooks × Example }
+{}
+
+// Likewise that offers over converted records get what the originals got.
+pub fn offers_converted()
+    ensures { OffersConverted }
 {}
 
 // Likewise that what an offer hands out tells its answer.

@@ -22,7 +22,7 @@ use Rattle.reasons.specs.declared.ill_formed.VerifyError.{VerifyError}
 use Rattle.rules.specs.Verify.{scheduled, verify, buffer_with}
 use Rattle.rules.specs.DagPoint.{Entry, IndirectEntry}
 use Rattle.rules.specs.Validate.{over_lists, validate}
-use Rattle.rules.specs.Judge.{Input, Tested, refused, admitted, tested_with, verify_buffer, JudgeAnswer, Given, Before, answered, needed, before_with, before, judge_from, over_list, judge_with}
+use Rattle.rules.specs.Judge.{Input, Tested, refused, admitted, tested_with, verify_buffer, JudgeAnswer, Given, Before, answered, needed, before_with, before, judge_from, over_list, judge_with, judge_with_in}
 use Rattle.rules.specs.CheckIllFormed.{wave_checked}
 use Rattle.rules.specs.List.{Listed, directs, indirects}
 use Rattle.rules.specs.Mismatch.{mismatch, uncovered}
@@ -126,7 +126,7 @@ module _ (leader presence : ℕ) (list : List ℕ) where
   Answered t a old new = (judge_answer_of a ≡ judge_with leader presence list t) × (new ≡ verify_buffer t old)
 
   pub answer-number : (t : Tested) (r : Refusal) (old : List ℕ) → t ≡ refused (refusal_number r) → Answered t (Err r) old old
-  unfolding judge_with
+  unfolding judge_with_in
   answer-number t r old h = rw h (refl, refl)
 
   -- the input was admitted, and this is known before the list
@@ -134,7 +134,7 @@ module _ (leader presence : ℕ) (list : List ℕ) where
       b ≡ before i.settings i.schedule (eqb leader 1) i.point → judge_answer_of a ≡ judge_from i.settings presence i.point list b →
       new ≡ buffer_with (scheduled i.settings i.schedule i.point) i.point (verify i.settings i.schedule i.point) old →
       Answered t a old new
-  unfolding judge_with
+  unfolding judge_with_in
   answer-taken t i a b old new h e f g = rw h (f ∙ ap (judge_from i.settings presence i.point list) e, g)
 
 -- what the readers of a schedule and of a record say

@@ -77,7 +77,7 @@ fn judge_needed(
 }
 
 // Numbers 1 to 5 in number order, then the judgement. The parameters are document 01's, in its order.
-#[tactic(auto, unfolding(rules::specs::Judge::tested, rules::specs::Judge::judge_with), using(crate::proofs::Laws::parts_read))]
+#[tactic(auto, unfolding(rules::specs::Judge::tested_in, rules::specs::Judge::judge_with_in), using(crate::proofs::Laws::parts_read))]
 pub fn judge(
     settings: &[u8],
     schedule: &[u8],

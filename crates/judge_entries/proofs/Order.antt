@@ -10,7 +10,7 @@ use Rattle.base.specs.Base.{pick, and_then}
 use Rattle.base.proofs.Impossible.{impossible}
 use Rattle.base.proofs.Option.{none-some, picked, and_then_lem, map-eq-some_iff}
 use Rattle.point.specs.declared.data.AnchorStageRole.{AnchorStageRole}
-use Rattle.rules.specs.List.{Listed, read_entry, is_in_order, list_from, directs}
+use Rattle.rules.specs.List.{Listed, read_entry, is_in_order, list_from, list_from_in, directs}
 
 -- no direct entry stands after an indirect one
 unfoldable pub in_order : Bool → List Listed → Bool
@@ -58,7 +58,7 @@ order-end false indirect_seen o l f h = f h
 
 -- what was read is in order
 pub in_order_lem : (n : ℕ) (indirect_seen : Bool) (s : List ℕ) (l : List Listed) → list_from n indirect_seen s ≡ Some l → in_order indirect_seen l ≡ true
-unfolding list_from
+unfolding list_from_in
 in_order_lem zero indirect_seen s l h = order-end (eqb (length s) 0) indirect_seen None l (order-none indirect_seen l) h
 in_order_lem (suc n) indirect_seen s l h =
     order-end

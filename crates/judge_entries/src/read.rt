@@ -97,7 +97,7 @@ fn is_root(s: &[u8]) -> bool
     record::field_ok(s, 0, ROOT) && parts::is_round(parts::u32_at(s, 3)) && is_reason(s[71])
 }
 
-#[tactic(auto, unfolding(rules::specs::List::read_state), using(rules::proofs::Pieces::root_length))]
+#[tactic(auto, unfolding(rules::specs::List::read_state_in), using(rules::proofs::Fronts::root_length))]
 fn read_trans_invalid(s: &[u8]) -> Option<Stated<'_>>
     ensures same { option_map stated_of result ≡ read_state 1 0 s.now }
     ensures placed { IfSome result (λ x. EndsWith s.now x.size x.rec.now) }
@@ -117,7 +117,7 @@ fn read_trans_invalid(s: &[u8]) -> Option<Stated<'_>>
     })
 }
 
-#[tactic(auto, unfolding(rules::specs::List::read_state))]
+#[tactic(auto, unfolding(rules::specs::List::read_state_in))]
 fn read_valid(s: &[u8]) -> Option<Stated<'_>>
     ensures same { option_map stated_of result ≡ read_state 0 0 s.now }
     ensures placed { IfSome result (λ x. EndsWith s.now x.size x.rec.now) }
@@ -130,7 +130,7 @@ fn read_valid(s: &[u8]) -> Option<Stated<'_>>
     })
 }
 
-#[tactic(auto, unfolding(rules::specs::List::read_state))]
+#[tactic(auto, unfolding(rules::specs::List::read_state_in))]
 fn read_invalid(reason: u8, s: &[u8]) -> Option<Stated<'_>>
     ensures same { option_map stated_of result ≡ read_state 2 reason s.now }
     ensures placed { IfSome result (λ x. EndsWith s.now x.size x.rec.now) }
@@ -149,7 +149,7 @@ fn read_invalid(reason: u8, s: &[u8]) -> Option<Stated<'_>>
     })
 }
 
-#[tactic(auto, unfolding(rules::specs::List::read_state))]
+#[tactic(auto, unfolding(rules::specs::List::read_state_in))]
 fn read_ill_formed(reason: u8, s: &[u8]) -> Option<Stated<'_>>
     ensures same { option_map stated_of result ≡ read_state 3 reason s.now }
     ensures placed { IfSome result (λ x. EndsWith s.now x.size x.rec.now) }
@@ -167,7 +167,7 @@ fn read_ill_formed(reason: u8, s: &[u8]) -> Option<Stated<'_>>
     })
 }
 
-#[tactic(auto, unfolding(rules::specs::List::read_state))]
+#[tactic(auto, unfolding(rules::specs::List::read_state_in))]
 fn read_not_found(s: &[u8]) -> Option<Stated<'_>>
     ensures same { option_map stated_of result ≡ read_state 4 0 s.now }
     ensures placed { IfSome result (λ x. EndsWith s.now x.size x.rec.now) }
@@ -184,7 +184,7 @@ fn read_not_found(s: &[u8]) -> Option<Stated<'_>>
 
 // What stands after the flags of an entry, by its state and reason number. The states are numbers of the format, which become a DagPoint
 // here. State and reason are matched at once, since with a guard `_ if reason != 0` judging 13 peers takes 24 % more.
-#[tactic(auto, unfolding(rules::specs::List::read_state), using(std::proofs::lemmas::Bool::Decides::nat_tests))]
+#[tactic(auto, unfolding(rules::specs::List::read_state_in), using(std::proofs::lemmas::Bool::Decides::nat_tests))]
 fn read_state(state: u8, reason: u8, s: &[u8]) -> Option<Stated<'_>>
     ensures same { option_map stated_of result ≡ read_state state reason s.now }
     ensures placed { IfSome result (λ x. EndsWith s.now x.size x.rec.now) }
@@ -205,7 +205,7 @@ fn read_state(state: u8, reason: u8, s: &[u8]) -> Option<Stated<'_>>
 }
 
 // An entry from its flags on, before which `front` bytes stand.
-#[tactic(auto, unfolding(rules::specs::List::entry_at), using(crate::proofs::Laws::flags_long))]
+#[tactic(auto, unfolding(rules::specs::List::entry_at_in), using(crate::proofs::Laws::flags_long))]
 fn entry_at(aim: Option<AnchorStageRole>, front: usize, s: &[u8]) -> Option<Listed<'_>>
     requires { front ≤ 4 }
     ensures same { option_map listed_of result ≡ entry_at aim front s.now }
@@ -228,7 +228,7 @@ fn entry_at(aim: Option<AnchorStageRole>, front: usize, s: &[u8]) -> Option<List
 }
 
 // The entry at the front of a list. The roles of tag 19 are numbers of the format, which become an AnchorStageRole here.
-#[tactic(auto, unfolding(rules::specs::List::read_entry), using(std::proofs::lemmas::Bool::Decides::nat_tests, crate::proofs::Laws::front_read))]
+#[tactic(auto, unfolding(rules::specs::List::read_entry_in), using(crate::proofs::Laws::entry_facts))]
 pub fn read_entry(s: &[u8]) -> Option<Listed<'_>>
     ensures same { option_map listed_of result ≡ read_entry s.now }
     ensures sized { Sized s.now result }

@@ -18,7 +18,7 @@ use Rattle.point.proofs.Ids.{same_fields}
 use Rattle.rules.specs.DagPoint.{PointView, point_view, Entry, is_by}
 use Rattle.rules.specs.Mismatch.{is_id, uncovers}
 use Rattle.schedule.specs.Settings.{Settings}
-use Rattle.rules.specs.List.{Listed, read_entry, is_in_order, list_from}
+use Rattle.rules.specs.List.{Listed, read_entry, is_in_order, list_from, list_from_in}
 use Rattle.judge_step.specs.Code.{Judging, Gives, is_nothing, direct_step, DirectGives, IndirectGives}
 use Rattle.judge_step.proofs.Laws.{nothing-direct, nothing-indirect, Passed, passed-step}
 use Rattle.point.specs.Code.{point_id_of, link_in, point_of}
@@ -83,16 +83,16 @@ module _ (c : Settings) (required : Bool) (p : Viewed) where
   -- one turn
   turn : (w : Walk) (n : ℕ) (indirect_seen : Bool) (s : List ℕ) (o : Option Listed) → 0 < length s → read_entry s ≡ o →
       walk_with c required p w (list_from (suc n) indirect_seen s) ≡ walk_with c required p w (and_then o (list_then (list_from n) indirect_seen s))
-  unfolding list_from
+  unfolding list_from_in
   turn w n indirect_seen s o h e = rw (ne_eqb (length s) 0 (λ k. omega arith), e)
 
   -- no entry may follow, or none does
   pub too_many : (w : Walk) (indirect_seen : Bool) (s : List ℕ) → 0 < length s → walk_with c required p w (list_from 0 indirect_seen s) ≡ None
-  unfolding list_from
+  unfolding list_from_in
   too_many w indirect_seen s h = rw (ne_eqb (length s) 0 (λ e. omega arith))
 
   pub walk_end : (w : Walk) (n : ℕ) (indirect_seen : Bool) (s : List ℕ) → length s ≡ 0 → walk_with c required p w (list_from n indirect_seen s) ≡ Some w
-  unfolding list_from walk_fold
+  unfolding list_from_in walk_fold
   walk_end w zero indirect_seen s h = rw (eq-eqb (length s) 0 h)
   walk_end w (suc n) indirect_seen s h = rw (eq-eqb (length s) 0 h)
 

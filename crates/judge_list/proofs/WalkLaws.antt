@@ -13,7 +13,7 @@ use Rattle.point.specs.declared.data.AnchorStageRole.TheVariants.{Proof, Trigger
 use Rattle.schedule.specs.Settings.{Settings}
 use Rattle.rules.specs.DagPoint.{Entry, point_view}
 use Rattle.rules.specs.Validate.{over_lists}
-use Rattle.rules.specs.List.{Listed, read_list, directs, indirects}
+use Rattle.rules.specs.List.{Listed, read_list, read_list_in, directs, indirects}
 use Rattle.judge_step.specs.Code.{Judging, result_of}
 use Rattle.judge_step.proofs.Laws.{listed_step, listed_fold, listed-over-lists}
 use Rattle.rules.specs.Mismatch.{uncovers, any_uncovers, entries_in, uncovered}
@@ -80,7 +80,7 @@ module _ (c : Settings) (required : Bool) (p : PointInfo) where
   -- over a list that was read
   walked-result : (s : List ℕ) (l : List Listed) → read_list s ≡ Some l →
       result_of (walk_fold c required (viewed p) walk_start l).judging ≡ over_lists c required p (directs l) (indirects l)
-  unfolding read_list
+  unfolding read_list_in
   walked-result s l h =
       ap result_of (walk-judging l walk_start) ∙ listed-over-lists c required p 65535 false s l h
 

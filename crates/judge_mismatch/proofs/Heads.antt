@@ -22,7 +22,7 @@ use Rattle.point.specs.declared.data.AnchorStageRole.{AnchorStageRole}
 use Rattle.point.proofs.Ids.{id-front, id_shift}
 use Rattle.point.proofs.Laws.{parts-of}
 use Rattle.rules.specs.DagPoint.{DagPoint, Valid, TransInvalid, Invalid, IllFormed, NotFound, Dropped, entry_id, is_dropped}
-use Rattle.rules.specs.List.{RecordFront, Stated, Listed, record_front, record_at, id_at17, is_root, read_state, entry_at, role_of, read_entry, list_from, read_list, directs, indirects}
+use Rattle.rules.specs.List.{RecordFront, Stated, Listed, record_front, record_at, id_at17, is_root, read_state, read_state_in, entry_at, entry_at_in, role_of, read_entry, read_entry_in, list_from, list_from_in, read_list, read_list_in, directs, indirects}
 use Rattle.reasons.specs.Invalid.{dag_round}
 use Rattle.judge_entries.proofs.Order.{list_then, Parted, parted, in_order_lem, after-target}
 use Rattle.judge_entries.proofs.Laws.{listed_as, fronted}
@@ -144,7 +144,7 @@ id-state state of s k y told d one e h =
     }
 
 state-is : (state reason : ℕ) (s : List ℕ) (k : ℕ) (y : Stated) → k ≤ length s → read_state state reason (drop k s) ≡ Some y → StateIs s k state y
-unfolding read_state id_after entry_end
+unfolding read_state_in id_after entry_end
 state-is zero reason s k y g h = record_state 0 Valid s k y (λ q. refl) refl refl refl (picked (eqb reason 0) _ y h).1
 state-is (suc zero) reason s k y g h =
     root-state (λ q. TransInvalid q (point_id_at (drop k s) 3) (get_or (drop k s) 71 0)) s k y (λ q. refl) (picked (eqb reason 0 && is_root (drop k s)) _ y h).1
@@ -180,7 +180,7 @@ pub record EntryIs (aim : Option AnchorStageRole) (f : ℕ) (s : List ℕ) (x : 
   pub small : x.size ≤ length s
 
 entry-is : (aim : Option AnchorStageRole) (f : ℕ) (s : List ℕ) (x : Listed) → entry_at aim f (drop f s) ≡ Some x → EntryIs aim f s x
-unfolding entry_at
+unfolding entry_at_in
 entry-is aim f s x h =
     let t = drop f s in
     let p = picked (field_ok (field_row 16 4 4) t 0 && (leb (get_or t 4 0) 1 && leb (get_or t 5 0) 1)) _ x h in
@@ -209,7 +209,7 @@ entry-from false ok g s x h = h
 
 -- what an entry that was read shows of its bytes
 pub head-is : (s : List ℕ) (x : Listed) → read_entry s ≡ Some x → EntryIs (aim_at s) (flags_at s) s x
-unfolding read_entry
+unfolding read_entry_in
 head-is s x h =
     entry-is (aim_at s) (flags_at s) s x
     (entry-from (eqb (get_or s 0 0) 19) (field_ok (field_row 19 1 1) s 0 && leb (get_or s 3 0) 1) (role_of (get_or s 3 0)) s x h)
@@ -299,11 +299,11 @@ unfolding indirects
 indirects-after x l e = rw e
 
 list_zero : (c : Bool) (s : List ℕ) → list_from zero c s ≡ pick (eqb (length s) 0) (Some []) None
-unfolding list_from
+unfolding list_from_in
 list_zero c s = refl
 
 list_suc : (n : ℕ) (c : Bool) (s : List ℕ) → list_from (suc n) c s ≡ pick (eqb (length s) 0) (Some []) (and_then (read_entry s) (list_then (list_from n) c s))
-unfolding list_from
+unfolding list_from_in
 list_suc n c s = refl
 
 -- what a list reads as, if its front does
@@ -352,7 +352,7 @@ pub record Next (s : List ℕ) (x : Listed) : Type 0 where
   pub last : is_some x.aim ≡ true → directs (listed (drop x.size s)) ≡ []
 
 read-list : (s : List ℕ) → read_list s ≡ list_from 65535 false s
-unfolding read_list
+unfolding read_list_in
 read-list s = refl
 
 -- what is left the first entry of a list that reads

@@ -27,7 +27,7 @@ use Rattle.point.proofs.Maps.{pairs_many, pairs_peers}
 use Rattle.point.proofs.Ids.{same_sym, same_refl}
 use Rattle.rules.specs.DagPoint.{DagPoint, Entry, IndirectEntry, entry_id, is_dropped, is_by}
 use Rattle.rules.specs.List.{Listed, read_list, directs, indirects}
-use Rattle.judge_mismatch.specs.Code.{Head, listed, round_in, pairs_in, maps_in, no_pair, IsRow, own_ids, is_twice_in, is_version_twice, is_new_version, is_target_with, id_of, unmarked}
+use Rattle.judge_mismatch.specs.Code.{Head, listed, map_round, map_pairs, maps_in, no_pair, IsRow, own_ids, is_twice_in, is_version_twice, is_new_version, is_target_with, id_of, unmarked}
 use Rattle.judge_mismatch.specs.Maps.{Marked, MapsMarked, lacks, zeros, AllPlaced}
 use Rattle.judge_mismatch.specs.declared.maps.MarkedMap.{MarkedMap}
 use Rattle.judge_mismatch.proofs.Heads.{front_kept, front_dropped, next_of, listed-is, directs-here, indirects-here, reads_end, directs-next, indirects-same, indirects-next}
@@ -90,7 +90,7 @@ marked-none {round} {l} a b c = record {
     not_set (suc n) zero = refl
     not_set (suc n) (suc k) = not_set n k
 
-pub maps-two : (p : PointInfo) {a b : MarkedMap} → Marked (round_in p 0) (pairs_in p 0) [] a → Marked (round_in p 1) (pairs_in p 1) [] b →
+pub maps-two : (p : PointInfo) {a b : MarkedMap} → Marked (map_round p 0) (map_pairs p 0) [] a → Marked (map_round p 1) (map_pairs p 1) [] b →
     MapsMarked p [] (a ∷ (b ∷ []))
 maps-two p u v zero x h = u
 maps-two p u v (suc zero) x h = v
@@ -102,27 +102,27 @@ pub record Marking (p : PointInfo) (x : PointId) (before : List PointId) (m : �
   pub within : m ≤ length maps
   pub among : found ≡ among_to m p x
   pub new : found ≡ true → has_id before x ≡ false
-  pub done : (k : ℕ) (d : MarkedMap) → k < m → Marked (round_in p k) (pairs_in p k) (x ∷ before) (get_or maps k d)
-  pub left : (k : ℕ) (d : MarkedMap) → m ≤ k → k < length maps → Marked (round_in p k) (pairs_in p k) before (get_or maps k d)
+  pub done : (k : ℕ) (d : MarkedMap) → k < m → Marked (map_round p k) (map_pairs p k) (x ∷ before) (get_or maps k d)
+  pub left : (k : ℕ) (d : MarkedMap) → m ≤ k → k < length maps → Marked (map_round p k) (map_pairs p k) before (get_or maps k d)
 
-among_next : (m : ℕ) (p : PointInfo) (x : PointId) → among_to (m + 1) p x ≡ (is_among (round_in p m) (pairs_in p m) x || among_to m p x)
+among_next : (m : ℕ) (p : PointInfo) (x : PointId) → among_to (m + 1) p x ≡ (is_among (map_round p m) (map_pairs p m) x || among_to m p x)
 unfolding among_to
 among_next m p x = rw (add-one m)
 
 module _ {p : PointInfo} {x : PointId} {before : List PointId} {m : ℕ} {found : Bool} {maps : List MarkedMap}
     (w : Marking p x before m found maps) (lt : m < length maps) (d : MarkedMap) where
   -- the map that comes next
-  here : Marked (round_in p m) (pairs_in p m) before (get_or maps m d)
+  here : Marked (map_round p m) (map_pairs p m) before (get_or maps m d)
   here = w.left m d (omega arith) lt
 
-  few : length (pairs_in p m) ≤ 255
+  few : length (map_pairs p m) ≤ 255
   few = let y = get_or maps m d in rw (← here.rows) (omega (arith, pairs_many y.rows.now, y.few))
 
-  rise : rising (peers (pairs_in p m)) ≡ true
+  rise : rising (peers (map_pairs p m)) ≡ true
   rise = let y = get_or maps m d in rw (← here.rows) (ap rising (pairs_peers y.rows.now) ∙ y.rises)
 
   module _ (i : ℕ) (row : IsRow (get_or maps m d).round (pairs_of (get_or maps m d).rows.now) x (Some i)) where
-    there : (i < length (pairs_in p m)) × (same_id (pair_id (round_in p m) (get_or (pairs_in p m) i no_pair)) x ≡ true)
+    there : (i < length (map_pairs p m)) × (same_id (pair_id (map_round p m) (get_or (map_pairs p m) i no_pair)) x ≡ true)
     there = rw (here.at_round, here.rows) at row
 
     pub marked-stood : get_or (get_or maps m d).seen i false ≡ true → has_id before x ≡ true
@@ -132,7 +132,7 @@ module _ {p : PointInfo} {x : PointId} {before : List PointId} {m : ℕ} {found 
         Marking p x before (m + 1) true (set maps m z)
     marking_at e z a b c = record {
       within = omega (arith, length-set maps m z);
-      among = sym (among_next m p x ∙ rw (among-at (round_in p m) (pairs_in p m) i x there.0 there.1));
+      among = sym (among_next m p x ∙ rw (among-at (map_round p m) (map_pairs p m) i x there.0 there.1));
       new = λ _. sym (marked here x i there.0 there.1) ∙ e;
       done = λ k g u. elim (ℕ_discrete k m) [
         | yes r ↦ at_row k g r
@@ -141,15 +141,15 @@ module _ {p : PointInfo} {x : PointId} {before : List PointId} {m : ℕ} {found 
       left = λ k g u v. other k g (λ r. omega arith) (w.left k g (omega arith) (omega (arith, length-set maps m z)));
     }
       where
-        at_row : (k : ℕ) (g : MarkedMap) → k ≡ m → Marked (round_in p k) (pairs_in p k) (x ∷ before) (get_or (set maps m z) k g)
+        at_row : (k : ℕ) (g : MarkedMap) → k ≡ m → Marked (map_round p k) (map_pairs p k) (x ∷ before) (get_or (set maps m z) k g)
         at_row k g r = rw (r, get_or-set_same maps m z g lt) (mark_at here x i there.0 there.1 few rise z a b c)
 
-        other : {ids : List PointId} (k : ℕ) (g : MarkedMap) → (k ≡ m → ⊥) → Marked (round_in p k) (pairs_in p k) ids (get_or maps k g) → Marked (round_in p k) (pairs_in p k) ids (get_or (set maps m z) k g)
+        other : {ids : List PointId} (k : ℕ) (g : MarkedMap) → (k ≡ m → ⊥) → Marked (map_round p k) (map_pairs p k) ids (get_or maps k g) → Marked (map_round p k) (map_pairs p k) ids (get_or (set maps m z) k g)
         other k g n r = rw (get_or-set_other maps m k z g n) r
 
   pub marking_absent : IsRow (get_or maps m d).round (pairs_of (get_or maps m d).rows.now) x None → Marking p x before (m + 1) found (set maps m (get_or maps m d))
   marking_absent row =
-      let none : is_among (round_in p m) (pairs_in p m) x ≡ false = rw (here.at_round, here.rows) at row in
+      let none : is_among (map_round p m) (map_pairs p m) x ≡ false = rw (here.at_round, here.rows) at row in
       rw (set-get_or maps m d) (record {
         within = omega arith;
         among = w.among ∙ sym (among_next m p x ∙ rw none);
@@ -161,7 +161,7 @@ module _ {p : PointInfo} {x : PointId} {before : List PointId} {m : ℕ} {found 
         left = λ k g u. w.left k g (omega arith);
       })
     where
-      at_row : is_among (round_in p m) (pairs_in p m) x ≡ false → (k : ℕ) (g : MarkedMap) → k ≡ m → Marked (round_in p k) (pairs_in p k) (x ∷ before) (get_or maps k g)
+      at_row : is_among (map_round p m) (map_pairs p m) x ≡ false → (k : ℕ) (g : MarkedMap) → k ≡ m → Marked (map_round p k) (map_pairs p k) (x ∷ before) (get_or maps k g)
       at_row none k g r = rw r (mark_absent (w.left m g (omega arith) lt) x none)
 
 -- the maps are marked by an id too, which other ids marked before: whether a row has it, which none of them stood for
@@ -417,7 +417,7 @@ module _ {presence : ℕ} {p : PointInfo} {all : List Entry} {maps : List Marked
         rows = r.rows;
         room = r.room;
         seen = λ i g.
-            let q = pair_id (round_in p m) (get_or (pairs_in p m) i no_pair) in
+            let q = pair_id (map_round p m) (get_or (map_pairs p m) i no_pair) in
             r.seen i g ∙ (sym (or-false (has_id w.before q)) ∙ (ap (λ (b : Bool). has_id w.before q || b) (sym (no_id q)) ∙ w.ids q));
       }
 

@@ -18,7 +18,7 @@ use Rattle.point.specs.Point.{PointId, PointInfo, same_id}
 use Rattle.point.proofs.Laws.{Readable}
 use Rattle.point.proofs.Ids.{same_fields, fields_same}
 use Rattle.rules.specs.Mismatch.{has_id, pair_id, is_among}
-use Rattle.judge_mismatch.specs.Code.{round_in, pairs_in, maps_in, no_pair, IsRow}
+use Rattle.judge_mismatch.specs.Code.{map_round, map_pairs, maps_in, no_pair, IsRow}
 
 -- ---- tests
 
@@ -31,7 +31,7 @@ stood false b c h = refl
 -- whether an id is a dependency of the first maps
 unfoldable pub among_to : ℕ → PointInfo → PointId → Bool
 among_to zero p i = false
-among_to (suc m) p i = is_among (round_in p m) (pairs_in p m) i || among_to m p i
+among_to (suc m) p i = is_among (map_round p m) (map_pairs p m) i || among_to m p i
 
 -- the same id in another's place
 module _ (a b : PointId) (h : same_id a b ≡ true) where
@@ -52,7 +52,7 @@ module _ (a b : PointId) (h : same_id a b ≡ true) where
   pub among-to-same : (m : ℕ) (p : PointInfo) → among_to m p a ≡ among_to m p b
   unfolding among_to
   among-to-same zero p = refl
-  among-to-same (suc m) p = rw (among_same (round_in p m) (pairs_in p m), among-to-same m p)
+  among-to-same (suc m) p = rw (among_same (map_round p m) (map_pairs p m), among-to-same m p)
 
 -- ---- the rows of a map
 
@@ -129,17 +129,17 @@ row_once round l i j k r h g d t =
 -- ---- the maps of a point
 
 pub record Maps (p : PointInfo) : Type 0 where
-  pub few : (m : ℕ) → length (pairs_in p m) ≤ 255
-  pub rise : (m : ℕ) → rising (peers (pairs_in p m)) ≡ true
+  pub few : (m : ℕ) → length (map_pairs p m) ≤ 255
+  pub rise : (m : ℕ) → rising (peers (map_pairs p m)) ≡ true
 
 pub maps_of : (s : List ℕ) (p : PointInfo) → Readable s p → Maps p
 maps_of s p r = record { few = few; rise = rise }
   where
-    few : (m : ℕ) → length (pairs_in p m) ≤ 255
+    few : (m : ℕ) → length (map_pairs p m) ≤ 255
     few zero = r.includes.few
     few (suc m) = r.witness.few
 
-    rise : (m : ℕ) → rising (peers (pairs_in p m)) ≡ true
+    rise : (m : ℕ) → rising (peers (map_pairs p m)) ≡ true
     rise zero = r.includes.rise
     rise (suc m) = r.witness.rise
 

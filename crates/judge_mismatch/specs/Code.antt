@@ -80,13 +80,13 @@ listed s = list_or (read_list s)
 
 -- ---- the maps: 0 the includes, 1 the witness
 
-abbrev pub round_in : PointInfo → ℕ → ℕ
-round_in p zero = p.id.round - 1
-round_in p (suc m) = p.id.round - 2
+abbrev pub map_round : PointInfo → ℕ → ℕ
+map_round p zero = p.id.round - 1
+map_round p (suc m) = p.id.round - 2
 
-abbrev pub pairs_in : PointInfo → ℕ → List Pair
-pairs_in p zero = p.includes
-pairs_in p (suc m) = p.witness
+abbrev pub map_pairs : PointInfo → ℕ → List Pair
+map_pairs p zero = p.includes
+map_pairs p (suc m) = p.witness
 
 -- how many maps have their round in the DAG
 abbrev pub maps_in : ℕ → ℕ

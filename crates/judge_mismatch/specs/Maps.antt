@@ -5,7 +5,7 @@ use Rattle.map.specs.Rows.{Pair, peers_of, pairs_of}
 use Rattle.point.specs.Point.{PointId, PointInfo}
 use Rattle.rules.specs.List.{read_list, directs, indirects}
 use Rattle.rules.specs.Mismatch.{has_id, pair_id, all_placed, ids_of, dropped_in}
-use Rattle.judge_mismatch.specs.Code.{listed, round_in, pairs_in, maps_in, no_pair, unmarked}
+use Rattle.judge_mismatch.specs.Code.{listed, map_round, map_pairs, maps_in, no_pair, unmarked}
 use Rattle.judge_mismatch.specs.declared.maps.MarkedMap as code-map
 use Rattle.judge_mismatch.specs.declared.walk.Walked as code-walked
 
@@ -18,7 +18,7 @@ pub record Marked (round : ℕ) (l : List Pair) (ids : List PointId) (x : code-m
 
 -- the maps are the first of a point, marked by these ids
 abbrev pub MapsMarked : PointInfo → List PointId → List code-map.MarkedMap → Type 0
-MapsMarked p ids maps = (m : ℕ) (x : code-map.MarkedMap) → m < length maps → Marked (round_in p m) (pairs_in p m) ids (get_or maps m x)
+MapsMarked p ids maps = (m : ℕ) (x : code-map.MarkedMap) → m < length maps → Marked (map_round p m) (map_pairs p m) ids (get_or maps m x)
 
 -- how many rows of the maps are not marked
 abbrev pub lacks : code-map.MarkedMap → ℕ

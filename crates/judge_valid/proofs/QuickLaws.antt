@@ -16,8 +16,9 @@ use Rattle.parts.specs.Code.{number}
 use Rattle.parts.specs.declared.Id.{Id}
 use Rattle.parts.proofs.Laws.{Words, big_words, big-fits}
 use Rattle.record.specs.Record.{content_of, well_shaped}
+use Rattle.map.specs.declared.Arrangement.TheVariants.{Columns}
 use Rattle.point.specs.Point.{PointId, Through, Includes, Witness, AnchorLink, Direct, Indirect, PointInfo, same_id, is_anchor_proof, is_anchor_trigger, is_anchor_stage, through_round, through, target_of, target_round_of, anchor_link, source, target, top}
-use Rattle.point.specs.Reading.{point_id_at, through_at, read_through, read_link, read_role, maps_ok, read_point}
+use Rattle.point.specs.Reading.{point_id_at, through_at, read_through, read_link, read_role, maps_ok, read_point, read_point_in}
 use Rattle.point.specs.declared.data.PointRole.{PointRole}
 use Rattle.point.specs.declared.data.AnchorStageRole.{AnchorStageRole}
 use Rattle.point.specs.declared.data.AnchorStageRole.TheVariants.{Proof, Trigger}
@@ -163,7 +164,7 @@ pub record Asked (s : List ℕ) (q : PointInfo) : Type 0 where
   pub role : read_role (content_of s 7) ≡ Some q.role
   pub time : q.time ≡ little_at 8 (content_of s 8) 0
 
-asked_with : (s : List ℕ) (a b : Option AnchorLink) (r : Option PointRole) (q : PointInfo) → reads s a b r ≡ Some q →
+asked_with : (s : List ℕ) (a b : Option AnchorLink) (r : Option PointRole) (q : PointInfo) → reads Columns s a b r ≡ Some q →
     (q.id ≡ point_id_at (content_of s 0) 0) × (a ≡ Some q.anchor_proof) × (b ≡ Some q.anchor_trigger) × (r ≡ Some q.role) × (q.time ≡ little_at 8 (content_of s 8) 0)
 asked_with s None b r q e = none-some e
 asked_with s (Some x) None r q e = none-some e
@@ -171,9 +172,9 @@ asked_with s (Some x) (Some y) None q e = none-some e
 asked_with s (Some x) (Some y) (Some r) q e = (cc, cc, cc, cc, cc)
 
 pub asked : (s : List ℕ) (q : PointInfo) → read_point s ≡ Some q → Asked s q
-unfolding read_point
+unfolding read_point_in
 asked s q h =
-    let a = asked_with s (read_link (content_of s 5)) (read_link (content_of s 6)) (read_role (content_of s 7)) q (picked (well_shaped s && maps_ok s) _ q h).1 in
+    let a = asked_with s (read_link (content_of s 5)) (read_link (content_of s 6)) (read_role (content_of s 7)) q (picked (well_shaped s && maps_ok Columns s) _ q h).1 in
     record { id = a.0; proof = a.1; trigger = a.2; role = a.3; time = a.4 }
 
 -- ---- a dependency that passes

@@ -1,33 +1,38 @@
 -- Laws of rows: their number and places, what rising peers give, and the position of a peer by halving.
-use Rattle.std.proofs.Common.{Option, None, Some, option_map, is_some, ℕ, zero, suc, ◌+◌, ◌-◌, ◌*◌, ◌/◌, ◌%◌, ◌≤◌, ◌<◌, add-suc, add-zero, mul-le-mul_left, div-le_self, mul-suc, arith, ◌≡◌, refl, ap, sym, ◌∙◌, List, [], ◌∷◌, ◌⊎◌, inl, inr, ⊎_elim, Bool, true, false, ◌&&◌, length, get_or, drop, length-drop, drop-cons, ltb, eqb, ltb-true, eqb-true, eq-eqb, ne_eqb, add-one, is_lt}
+use Rattle.std.proofs.Common.{Option, None, Some, option_map, is_some, ℕ, zero, suc, ◌+◌, ◌-◌, ◌*◌, ◌/◌, ◌%◌, ◌≤◌, ◌<◌, add-suc, add-zero, mul-le-mul_left, mul_comm, div-le_self, arith, ◌≡◌, refl, ap, sym, ◌∙◌, List, [], ◌∷◌, ◌⊎◌, inl, inr, ⊎_elim, Bool, true, false, ◌&&◌, length, get_or, drop, length-drop, drop-cons, ltb, eqb, ltb-true, eqb-true, eq-eqb, ne_eqb, add-one, is_lt}
 use Rattle.std.proofs.Math.Nat.{mul-div-le, div-add-mod}
 use Rattle.std.proofs.Math.Bool.{and-eq-true_iff}
 use Rattle.std.proofs.lemmas.Bool.Decides.{nat_tests}
 use Rattle.std.specs.List.{list_all, range_with_len}
 use native.Mathlib.Decide.{dec_lt, ℕ_discrete}
+use Rattle.parts.specs.Bytes.{id_at}
 use Rattle.parts.specs.Parts.{order, order_then}
 use Rattle.base.specs.Base.{pick, tabulate}
 use Rattle.base.proofs.Lists.{tabulate-length, tabulate-at}
 use Rattle.base.proofs.Impossible.{impossible}
-use Rattle.map.specs.Rows.{Pair, peer_at, pair_at, peers_of, pairs_of, rising, well_rowed, find_from, find, peers, digests, get}
+use Rattle.map.specs.declared.Arrangement.{Arrangement}
+use Rattle.map.specs.declared.Arrangement.TheVariants.{Pairs, Columns}
+use Rattle.map.specs.Rows.{Pair, pair_at, pairs_in, pairs_of, peer_at, peers_of, rising, well_rowed, find_from, find, peers, digests, get, is_map}
 
 -- ---- rows of any width
 
 module _ (width : ℕ) (s : List ℕ) where
   pub peers_of-length : length (peers_of width s) ≡ length s / width
   unfolding peers_of
-  peers_of-length = tabulate-length (peer_at width s) (length s / width) 0
+  peers_of-length = tabulate-length (peer_at s) (length s / width) 0
 
   pub peers_of-fits : length (peers_of width s) ≤ length s
   peers_of-fits = omega (arith, peers_of-length, div-le_self (length s) width)
 
-  pub peers_of-at : (i : ℕ) → i < length (peers_of width s) → get_or (peers_of width s) i 0 ≡ peer_at width s i
+  pub peers_of-at : (i : ℕ) → i < length (peers_of width s) → get_or (peers_of width s) i 0 ≡ peer_at s i
   unfolding peers_of
-  peers_of-at i h = tabulate-at (peer_at width s) (length s / width) 0 i 0 (rw peers_of-length at h) ∙ ap (peer_at width s) (omega arith)
+  peers_of-at i h = tabulate-at (peer_at s) (length s / width) 0 i 0 (rw peers_of-length at h) ∙ ap (peer_at s) (omega arith)
 
-  -- a row is within the bytes
-  pub peers_of-room : (i : ℕ) → i < length (peers_of width s) → width * i + width ≤ length s
-  peers_of-room i h = omega (arith, mul-suc width i, mul-div-le (length s) width, mul-le-mul_left {m = suc i} {n = length s / width} width (rw peers_of-length at h))
+  -- the peers are within the bytes, whatever else a row has
+  pub peers_room : 32 ≤ width → 32 * length (peers_of width s) ≤ length s
+  peers_room w =
+      let narrow = mul-le-mul_left {m = 32} {n = width} (length s / width) w in
+      omega (arith, peers_of-length, mul-div-le (length s) width, mul_comm (length s / width) width, mul_comm (length s / width) 32)
 
 -- ---- pairs
 
@@ -36,22 +41,31 @@ unfolding peers tabulate
 peers-tabulate f zero i = refl
 peers-tabulate f (suc n) i = ap (λ (l : List ℕ). (f i).peer ∷ l) (peers-tabulate f n (suc i))
 
+module _ (a : Arrangement) (s : List ℕ) where
+  pub pairs_in-length : length (pairs_in a s) ≡ length s / 64
+  unfolding pairs_in
+  pairs_in-length = tabulate-length (pair_at a s) (length s / 64) 0
+
+  pub pairs_in-at : (i : ℕ) (d : Pair) → i < length (pairs_in a s) → get_or (pairs_in a s) i d ≡ pair_at a s i
+  unfolding pairs_in
+  pairs_in-at i d h = tabulate-at (pair_at a s) (length s / 64) 0 i d (rw pairs_in-length at h) ∙ ap (pair_at a s) (omega arith)
+
 module _ (s : List ℕ) where
   pub pairs_of-length : length (pairs_of s) ≡ length s / 64
-  unfolding pairs_of
-  pairs_of-length = tabulate-length (pair_at s) (length s / 64) 0
+  pairs_of-length = pairs_in-length Columns s
 
-  pub pairs_of-at : (i : ℕ) (d : Pair) → i < length (pairs_of s) → get_or (pairs_of s) i d ≡ pair_at s i
-  unfolding pairs_of
-  pairs_of-at i d h = tabulate-at (pair_at s) (length s / 64) 0 i d (rw pairs_of-length at h) ∙ ap (pair_at s) (omega arith)
-
-  pub pairs_of-room : (i : ℕ) → i < length (pairs_of s) → 64 * i + 64 ≤ length s
-  pairs_of-room i h = peers_of-room 64 s i (omega (arith, pairs_of-length, peers_of-length 64 s))
+  -- the digests come after the peers, within the bytes
+  pub digest-room : (i : ℕ) → i < length (pairs_of s) → 32 * (length s / 64 + i) + 32 ≤ length s
+  digest-room i h = omega (arith, pairs_of-length, mul-div-le (length s) 64)
 
   -- the peers of a map are those of its rows
   pub peers-pairs_of : peers (pairs_of s) ≡ peers_of 64 s
-  unfolding pairs_of peers_of
-  peers-pairs_of = peers-tabulate (pair_at s) (length s / 64) 0
+  unfolding pairs_in peers_of pair_at peer_at
+  peers-pairs_of = peers-tabulate (pair_at Columns s) (length s / 64) 0
+
+  pub is_map_rows : is_map Columns s ≡ well_rowed 64 s
+  unfolding is_map well_rowed
+  is_map_rows = ap (λ (l : List ℕ). eqb (length s % 64) 0 && rising l) peers-pairs_of
 
 pub peers-length : (l : List Pair) → length (peers l) ≡ length l
 unfolding peers
@@ -90,23 +104,44 @@ short (x ∷ y ∷ l) h = absurd (omega arith)
 pub rising-end : (l : List ℕ) (j : ℕ) → length l ≤ suc j → rising (drop j l) ≡ true
 rising-end l j h = short (drop j l) (omega (arith, length-drop j l))
 
--- whether the peer at a position stands below the one before it
-abbrev pub rises_at : List ℕ → ℕ → Bool
-rises_at l j = is_lt (order (get_or l (j - 1) 0) (get_or l j 0))
+-- whether the peer at a position stands below the one before it, where f says which peer that is
+abbrev pub rises_at : (ℕ → ℕ) → ℕ → Bool
+rises_at f j = is_lt (order (f (j - 1)) (f j))
 
 is_lt-order : (m n : ℕ) → is_lt (order m n) ≡ ltb m n
 unfolding order order_then
 is_lt-order m n = grind (arith, nat_tests)
 
-rises_from : (l : List ℕ) (j n : ℕ) → n ≡ length l - suc j → list_all (rises_at l) (range_with_len (suc j) n) ≡ rising (drop j l)
-rises_from l j zero e = sym (rising-end l j (omega arith))
-rises_from l j (suc n) e =
-    let before : suc j - 1 ≡ j = omega arith in
-    rw (rising_step l j (omega arith), ← rises_from l (suc j) n (omega arith), ← is_lt-order (get_or l j 0) (get_or l (suc j) 0), add-one, before)
+module _ (f : ℕ → ℕ) (l : List ℕ) (same : (i : ℕ) → i < length l → get_or l i 0 ≡ f i) where
+  rises_from : (j n : ℕ) → n ≡ length l - suc j → list_all (rises_at f) (range_with_len (suc j) n) ≡ rising (drop j l)
+  rises_from j zero e = sym (rising-end l j (omega arith))
+  rises_from j (suc n) e =
+      let before : suc j - 1 ≡ j = omega arith in
+      rw (
+        rising_step l j (omega arith),
+        same j (omega arith),
+        same (suc j) (omega arith),
+        ← rises_from (suc j) n (omega arith),
+        ← is_lt-order (f j) (f (suc j)),
+        add-one,
+        before,
+      )
 
--- peers rise if each stands below the one before it
-pub rises : (l : List ℕ) (n : ℕ) → n ≡ length l - 1 → list_all (rises_at l) (range_with_len 1 n) ≡ rising l
-rises l n e = rises_from l 0 n e
+  -- peers rise if each stands below the one before it
+  pub rises : (n : ℕ) → n ≡ length l - 1 → list_all (rises_at f) (range_with_len 1 n) ≡ rising l
+  rises n e = rises_from 0 n e
+
+-- the peers of a map in pairs
+module _ (s : List ℕ) where
+  pub pair_peers-length : length (peers (pairs_in Pairs s)) ≡ length s / 64
+  pair_peers-length = peers-length (pairs_in Pairs s) ∙ pairs_in-length Pairs s
+
+  pub pair_peers-at : (i : ℕ) → i < length (peers (pairs_in Pairs s)) → get_or (peers (pairs_in Pairs s)) i 0 ≡ id_at s (64 * i)
+  unfolding pair_at
+  pair_peers-at i h =
+      let inside : i < length (pairs_in Pairs s) = omega (arith, peers-length (pairs_in Pairs s)) in
+      let none = pair_at Pairs s 0 in
+      peers-at (pairs_in Pairs s) i none inside ∙ ap (λ (q : Pair). q.peer) (pairs_in-at Pairs s i none inside)
 
 -- neighbours rise
 next-rises : (l : List ℕ) (j : ℕ) → rising l ≡ true → suc j < length l → get_or l j 0 < get_or l (suc j) 0

@@ -9,10 +9,12 @@ use lib.Dec.{leb}
 use Rattle.base.specs.Base.{pick}
 use Rattle.base.proofs.Impossible.{impossible}
 use Rattle.parts.specs.Bytes.{little_at}
+use Rattle.map.specs.declared.Arrangement.{Arrangement}
+use Rattle.map.specs.declared.Arrangement.TheVariants.{Columns}
 use Rattle.record.specs.Record.{content_of, well_shaped}
 use Rattle.point.specs.Point.{AnchorLink, PointInfo, in_domain}
 use Rattle.point.specs.declared.data.PointRole.{PointRole}
-use Rattle.point.specs.Reading.{point_id_at, read_link, read_role, maps_ok, read_point}
+use Rattle.point.specs.Reading.{point_id_at, read_link, read_role, maps_ok, read_point, read_point_in}
 use Rattle.point.proofs.Laws.{shape_facts, reads, parts-of}
 
 -- a choice that gives something
@@ -21,21 +23,27 @@ module _ {A : Type 0} where
   picked-some true x h = refl
   picked-some false x h = impossible (cc)
 
-module _ (s : List ℕ) (w m : Bool) (a b : Option AnchorLink) (r : Option PointRole) where
+module _ (g : Arrangement) (s : List ℕ) (w m : Bool) (a b : Option AnchorLink) (r : Option PointRole) where
   abbrev choice : Option PointInfo
-  choice = pick (w && m) (reads s a b r) None
+  choice = pick (w && m) (reads g s a b r) None
 
   choice_some : is_some choice ≡ (w && (m && (is_some a && (is_some b && is_some r))))
   choice_some = grind arith
 
-  choice_read : is_some choice ≡ true → choice ≡ reads s a b r
+  choice_read : is_some choice ≡ true → choice ≡ reads g s a b r
   choice_read h = grind arith
+
+-- a record is a point in an arrangement exactly if it has the shape, and its maps, its links and its role can be read
+pub some_in : (g : Arrangement) (s : List ℕ) →
+    is_some (read_point_in g s)
+    ≡ (well_shaped s && (maps_ok g s && (is_some (read_link (content_of s 5)) && (is_some (read_link (content_of s 6)) && is_some (read_role (content_of s 7))))))
+unfolding read_point_in
+some_in g s = choice_some g s (well_shaped s) (maps_ok g s) (read_link (content_of s 5)) (read_link (content_of s 6)) (read_role (content_of s 7))
 
 module _ (s : List ℕ) where
   pub point_some : is_some (read_point s)
-      ≡ (well_shaped s && (maps_ok s && (is_some (read_link (content_of s 5)) && (is_some (read_link (content_of s 6)) && is_some (read_role (content_of s 7))))))
-  unfolding read_point
-  point_some = choice_some s (well_shaped s) (maps_ok s) (read_link (content_of s 5)) (read_link (content_of s 6)) (read_role (content_of s 7))
+      ≡ (well_shaped s && (maps_ok Columns s && (is_some (read_link (content_of s 5)) && (is_some (read_link (content_of s 6)) && is_some (read_role (content_of s 7))))))
+  point_some = some_in Columns s
 
   module _ (h : is_some (read_point s) ≡ true) where
     pub point_shaped : well_shaped s ≡ true
@@ -50,9 +58,9 @@ module _ (s : List ℕ) where
     pub point_role : is_some (read_role (content_of s 7)) ≡ true
     point_role = grind (arith, point_some)
 
-    pub point_read : read_point s ≡ reads s (read_link (content_of s 5)) (read_link (content_of s 6)) (read_role (content_of s 7))
-    unfolding read_point
-    point_read = choice_read s (well_shaped s) (maps_ok s) (read_link (content_of s 5)) (read_link (content_of s 6)) (read_role (content_of s 7)) h
+    pub point_read : read_point s ≡ reads Columns s (read_link (content_of s 5)) (read_link (content_of s 6)) (read_role (content_of s 7))
+    unfolding read_point_in
+    point_read = choice_read Columns s (well_shaped s) (maps_ok Columns s) (read_link (content_of s 5)) (read_link (content_of s 6)) (read_role (content_of s 7)) h
 
 pub ruleset point_facts = (shape_facts, point_shaped, point_proof, point_trigger, point_role, point_read)
 

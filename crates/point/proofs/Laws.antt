@@ -2,19 +2,21 @@
 use Rattle.std.specs.Prelude.{Option, None, Some, option_map}
 use Prim.Native.Nat.{ℕ, ◌*◌, ◌≤◌}
 use native.Mathlib.Omega.{arith}
-use mathlib.Core.Path.{◌≡◌, refl, sym}
+use mathlib.Core.Path.{◌≡◌, refl, sym, ◌∙◌}
 use mathlib.Core.Bool.{true, ◌&&◌, and-eq-true_iff}
 use mathlib.Core.List.{List}
 use lib.ListN.{length}
 use Rattle.base.specs.Base.{and_then}
 use Rattle.base.proofs.Option.{picked, none-some}
 use Rattle.parts.specs.Bytes.{little_at}
-use Rattle.map.specs.Rows.{Pair, peers_of, pairs_of, peers, rising, well_rowed}
-use Rattle.map.proofs.Laws.{peers_of-length, pairs_of-length, peers-pairs_of, well_rowed-rising, well_rowed-whole}
+use Rattle.map.specs.declared.Arrangement.{Arrangement}
+use Rattle.map.specs.declared.Arrangement.TheVariants.{Columns}
+use Rattle.map.specs.Rows.{Pair, peers_of, pairs_of, peers, rising, well_rowed, is_map}
+use Rattle.map.proofs.Laws.{peers_of-length, pairs_of-length, peers-pairs_of, is_map_rows, well_rowed-rising, well_rowed-whole}
 use Rattle.record.specs.Record.{rows, row_of, content_of, well_shaped}
 use Rattle.record.proofs.Laws.{start_first, start_last, content-least, content-greatest, third-start, start-most}
 use Rattle.point.specs.Point.{Through, Includes, Witness, AnchorLink, PointInfo, through_map, anchor_link}
-use Rattle.point.specs.Reading.{point_id_at, read_link, read_role, maps_ok, point_in, read_point}
+use Rattle.point.specs.Reading.{point_id_at, read_link, read_role, maps_ok, point_in, read_point, read_point_in}
 use Rattle.point.specs.Code.{point_of, link_in, Reads}
 use Rattle.point.specs.declared.data.PointRole.{PointRole}
 use Rattle.point.specs.declared.data.AnchorStageRole.{AnchorStageRole}
@@ -73,8 +75,9 @@ pub record Readable (s : List ℕ) (p : PointInfo) : Type 0 where
   pub witness : MapOf (content_of s 3) p.witness
   pub evidence : SetOf (content_of s 4) p.evidence
 
-map_of : (s : List ℕ) (l : List Pair) → l ≡ pairs_of s → well_rowed 64 s ≡ true → length s ≤ 16320 → MapOf s l
-map_of s l e w h =
+map_of : (s : List ℕ) (l : List Pair) → l ≡ pairs_of s → is_map Columns s ≡ true → length s ≤ 16320 → MapOf s l
+map_of s l e m h =
+    let w = sym (is_map_rows s) ∙ m in
     let n : length s ≡ 64 * length (pairs_of s) = omega (arith, well_rowed-whole 64 s w, pairs_of-length s, peers_of-length 64 s) in
     record { are = e; rise = rw (e, peers-pairs_of s) (well_rowed-rising 64 s w); few = rw e (omega arith); whole = rw e n }
 
@@ -95,26 +98,26 @@ pub record PartsOf (s : List ℕ) (a b : Option AnchorLink) (p : PointInfo) : Ty
   pub anchor_time : p.anchor_time ≡ little_at 8 (content_of s 8) 8
 
 -- what is read of a record past its tests: up to its links and its role
-abbrev pub reads : List ℕ → Option AnchorLink → Option AnchorLink → Option PointRole → Option PointInfo
-reads s a b r = and_then a (λ p. and_then b (λ t. option_map (point_in s p t) r))
+abbrev pub reads : Arrangement → List ℕ → Option AnchorLink → Option AnchorLink → Option PointRole → Option PointInfo
+reads a s x y r = and_then x (λ p. and_then y (λ t. option_map (point_in a s p t) r))
 
-parts_with : (s : List ℕ) (a b : Option AnchorLink) (r : Option PointRole) (p : PointInfo) → reads s a b r ≡ Some p → PartsOf s a b p
+parts_with : (s : List ℕ) (a b : Option AnchorLink) (r : Option PointRole) (p : PointInfo) → reads Columns s a b r ≡ Some p → PartsOf s a b p
 parts_with s None b r p e = none-some e
 parts_with s (Some x) None r p e = none-some e
 parts_with s (Some x) (Some y) None p e = none-some e
 parts_with s (Some x) (Some y) (Some r) p e = record { id = cc; includes = cc; witness = cc; evidence = cc; proof = cc; trigger = cc; time = cc; anchor_time = cc }
 
 pub parts-of : (s : List ℕ) (p : PointInfo) → read_point s ≡ Some p → PartsOf s (read_link (content_of s 5)) (read_link (content_of s 6)) p
-unfolding read_point
-parts-of s p h = parts_with s _ _ (read_role (content_of s 7)) p (picked (well_shaped s && maps_ok s) _ p h).1
+unfolding read_point_in
+parts-of s p h = parts_with s _ _ (read_role (content_of s 7)) p (picked (well_shaped s && maps_ok Columns s) _ p h).1
 
 pub readable : (s : List ℕ) (p : PointInfo) → read_point s ≡ Some p → Readable s p
-unfolding read_point maps_ok row_of rows
+unfolding read_point_in maps_ok row_of rows
 readable s p h =
-    let all = picked (well_shaped s && maps_ok s) _ p h in
+    let all = picked (well_shaped s && maps_ok Columns s) _ p h in
     let w = (and-eq-true_iff (well_shaped s) _).0 all.0 in
-    let i = (and-eq-true_iff (well_rowed 64 (content_of s 2)) _).0 w.1 in
-    let j = (and-eq-true_iff (well_rowed 64 (content_of s 3)) _).0 i.1 in
+    let i = (and-eq-true_iff (is_map Columns (content_of s 2)) _).0 w.1 in
+    let j = (and-eq-true_iff (is_map Columns (content_of s 3)) _).0 i.1 in
     let m = parts-of s p h in
     record {
       shaped = w.0;

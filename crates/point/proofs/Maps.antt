@@ -1,11 +1,12 @@
 -- The maps of a record that was read as a point: their peers rise, and none has over 255.
-use Prim.Native.Nat.{ℕ, ◌≤◌, ◌<◌}
+use Prim.Native.Nat.{ℕ, ◌+◌, ◌*◌, ◌≤◌, ◌<◌}
+use native.Mathlib.Omega.{arith}
 use mathlib.Core.Path.{◌≡◌, ap, sym, ◌∙◌}
 use mathlib.Core.Bool.{true}
 use mathlib.Core.List.{List}
 use lib.ListN.{length, get_or}
-use Rattle.map.specs.Rows.{Pair, peers_of, pairs_of, peers, digests, rising}
-use Rattle.map.proofs.Laws.{peers-pairs_of, peers-length, peers-at, digests-at}
+use Rattle.map.specs.Rows.{Pair, peer_at, peers_of, pairs_of, peers, digests, rising}
+use Rattle.map.proofs.Laws.{peers_of-at, peers_room, peers-pairs_of, peers-length, peers-at, digests-at}
 use Rattle.record.specs.Record.{content_of}
 use Rattle.point.specs.Code.{Reads}
 use Rattle.point.specs.declared.info.PointInfo as code-info
@@ -23,8 +24,14 @@ module _ (s : List ℕ) (i : ℕ) (q : Pair) (h : i < length (pairs_of s)) where
   pub row_digest : get_or (digests (pairs_of s)) i 0 ≡ (get_or (pairs_of s) i q).digest
   row_digest = digests-at (pairs_of s) i q h
 
-  pub row_peer : get_or (peers_of 64 s) i 0 ≡ (get_or (pairs_of s) i q).peer
-  row_peer = ap (λ (l : List ℕ). get_or l i 0) (sym (peers-pairs_of s)) ∙ peers-at (pairs_of s) i q h
+  pub row_peer : peer_at s i ≡ (get_or (pairs_of s) i q).peer
+  row_peer =
+      sym (peers_of-at 64 s i (rw (← pairs_many s) h))
+      ∙ (ap (λ (l : List ℕ). get_or l i 0) (sym (peers-pairs_of s)) ∙ peers-at (pairs_of s) i q h)
+
+-- and it stands within the bytes
+pub row-room : (s : List ℕ) (i : ℕ) → i < length (pairs_of s) → 32 * i + 32 ≤ length s
+row-room s i h = omega (arith, pairs_many s, peers_room 64 s (omega arith))
 
 pub ruleset row_facts = (pairs_many, row_digest, row_peer)
 

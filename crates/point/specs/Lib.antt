@@ -2,3 +2,4 @@ pub mod Point
 pub mod Reading
 pub mod Code
 pub mod Said
+pub mod Converted

@@ -2,7 +2,9 @@
 use Rattle.std.specs.Prelude.{ℕ, ◌+◌, Bool, ◌&&◌, List, length, get_or, leb, eqb, Option, None, Some, option_map}
 use Rattle.base.specs.Base.{pick, and_then}
 use Rattle.parts.specs.Bytes.{id_at, little_at}
-use Rattle.map.specs.Rows.{peers_of, pairs_of, well_rowed}
+use Rattle.map.specs.declared.Arrangement.{Arrangement}
+use Rattle.map.specs.declared.Arrangement.TheVariants.{Columns}
+use Rattle.map.specs.Rows.{peers_of, pairs_in, well_rowed, is_map}
 use Rattle.record.specs.Record.{content_of, well_shaped}
 use Rattle.point.specs.Point.{PointId, Through, Includes, Witness, AnchorLink, Direct, Indirect, PointInfo}
 use Rattle.point.specs.declared.data.PointRole.{PointRole}
@@ -42,19 +44,19 @@ read_role s =
     (Some (AnchorProof (get_or s 1 0) (eqb (get_or s 2 0) 1))) None)
 
 -- tags 3, 4 and 5: whole rows, rising
-unfoldable pub maps_ok : List ℕ → Bool
-unfolding well_rowed content_of
-maps_ok s = well_rowed 64 (content_of s 2) && (well_rowed 64 (content_of s 3) && well_rowed 32 (content_of s 4))
+unfoldable pub maps_ok : Arrangement → List ℕ → Bool
+unfolding is_map well_rowed content_of
+maps_ok a s = is_map a (content_of s 2) && (is_map a (content_of s 3) && well_rowed 32 (content_of s 4))
 
 -- the point, once its links and its role are read; tag 2: payload length and bytes; tag 9: time and anchor_time
-abbrev pub point_in : List ℕ → AnchorLink → AnchorLink → PointRole → PointInfo
-point_in s p t r =
+abbrev pub point_in : Arrangement → List ℕ → AnchorLink → AnchorLink → PointRole → PointInfo
+point_in a s p t r =
     record {
       id = point_id_at (content_of s 0) 0;
       payload_len = little_at 4 (content_of s 1) 0;
       payload_bytes = little_at 4 (content_of s 1) 4;
-      includes = pairs_of (content_of s 2);
-      witness = pairs_of (content_of s 3);
+      includes = pairs_in a (content_of s 2);
+      witness = pairs_in a (content_of s 3);
       evidence = peers_of 32 (content_of s 4);
       anchor_proof = p;
       anchor_trigger = t;
@@ -63,10 +65,15 @@ point_in s p t r =
       anchor_time = little_at 8 (content_of s 8) 8;
     }
 
--- a slice that holds one point record, or none
-unfoldable pub read_point : List ℕ → Option PointInfo
+-- a slice that holds one point record, its maps in this arrangement, or none
+unfoldable pub read_point_in : Arrangement → List ℕ → Option PointInfo
 unfolding well_shaped maps_ok content_of read_link read_role point_id_at
-read_point s =
-    pick (well_shaped s && maps_ok s)
-    (and_then (read_link (content_of s 5)) (λ p. and_then (read_link (content_of s 6)) (λ t. option_map (point_in s p t) (read_role (content_of s 7)))))
+read_point_in a s =
+    pick (well_shaped s && maps_ok a s)
+    (and_then (read_link (content_of s 5)) (λ p. and_then (read_link (content_of s 6)) (λ t.
+    option_map (point_in a s p t) (read_role (content_of s 7)))))
     None
+
+-- as the calls read it
+abbrev pub read_point : List ℕ → Option PointInfo
+read_point s = read_point_in Columns s

@@ -4,9 +4,10 @@ ghost use Rattle.std.specs.Prelude.{◌≡◌, ◌≤◌, length, Some, is_some}
 ghost use Rattle.record.specs.Record.{start_of, well_shaped};
 ghost use Rattle.record.specs.Code.{PlacesOf};
 ghost use Rattle.point.specs.Point as point;
-ghost use Rattle.point.specs.Reading.{read_link, read_role, maps_ok, read_point};
+ghost use Rattle.point.specs.Reading.{read_link, read_role, maps_ok, read_point, read_point_in};
 
 use crate::info;
+use map::Arrangement;
 use record::Fields;
 
 // Whether a link can be read.
@@ -26,22 +27,31 @@ fn is_role(s: &[u8]) -> bool
     matches!(s, [0 | 2 | 3] | [1, _, 0 | 1])
 }
 
-// Whether includes, witness and evidence are whole rows that rise.
+// Whether includes and witness, in an arrangement, and evidence are whole rows that rise.
+#[inline(always)]
 #[tactic(auto, unfolding(crate::specs::Reading::maps_ok))]
-fn are_maps_ok(fields: &Fields) -> bool
-    ensures { result ≡ maps_ok fields.now.rec.now }
+fn are_maps_ok(fields: &Fields, arrangement: Arrangement) -> bool
+    ensures { result ≡ maps_ok arrangement fields.now.rec.now }
 {
-    map::is_well_rowed(fields.includes(), 64)
-        && map::is_well_rowed(fields.witness(), 64)
+    map::is_map(fields.includes(), arrangement)
+        && map::is_map(fields.witness(), arrangement)
         && map::is_well_rowed(fields.evidence(), 32)
 }
 
 // Whether a record is a point.
-#[tactic(auto, using(crate::proofs::Laws::shape_facts, crate::proofs::Known::point_some))]
 pub fn is_point(fields: &Fields) -> bool
     ensures { result ≡ is_some (read_point fields.now.rec.now) }
 {
-    are_maps_ok(fields)
+    is_point_in(fields, Arrangement::Columns)
+}
+
+// Whether a record is a point, with its maps in an arrangement.
+#[inline(always)]
+#[tactic(auto, using(crate::proofs::Laws::shape_facts, crate::proofs::Known::some_in))]
+pub fn is_point_in(fields: &Fields, arrangement: Arrangement) -> bool
+    ensures { result ≡ is_some (read_point_in arrangement fields.now.rec.now) }
+{
+    are_maps_ok(fields, arrangement)
         && is_link(fields.anchor_proof())
         && is_link(fields.anchor_trigger())
         && is_role(fields.role())

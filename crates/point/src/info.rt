@@ -79,7 +79,7 @@ pub fn pair_id(map: &[u8], i: usize, round: u32) -> PointId
     PointId {
         round,
         digest: map::digest_at(map, i),
-        author: map::peer_at(map, 64, i),
+        author: map::peer_at(map, i),
     }
 }
 

@@ -124,7 +124,7 @@ pub fn read_shaped(rec: &[u8]) -> Option<Point<'_>>
 }
 
 // What a slice that holds one point record says.
-#[tactic(auto, unfolding(crate::specs::Reading::read_point))]
+#[tactic(auto, unfolding(crate::specs::Reading::read_point_in))]
 pub fn read_point(rec: &[u8]) -> Option<Point<'_>>
     ensures { PointRead rec.now result }
 {

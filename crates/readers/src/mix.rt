@@ -36,7 +36,7 @@ pub fn sum_of_set(rows: &[u8]) -> u64 {
     let n = map::count(rows, 32);
     let mut sum = mix(0, n as u64);
     for i in 0..n {
-        sum = mix_id(sum, map::peer_at(rows, 32, i));
+        sum = mix_id(sum, map::peer_at(rows, i));
     }
     sum
 }
@@ -47,7 +47,7 @@ pub fn sum_of_map(rows: &[u8]) -> u64 {
     let n = map::count(rows, 64);
     let mut sum = mix(0, n as u64);
     for i in 0..n {
-        let peer = mix_id(sum, map::peer_at(rows, 64, i));
+        let peer = mix_id(sum, map::peer_at(rows, i));
         sum = mix_id(peer, map::digest_at(rows, i));
     }
     sum

@@ -2,7 +2,7 @@
 ghost use Rattle.std.specs.Prelude.{◌≡◌};
 ghost use Rattle.reasons.specs.Refusal.{refusal_number};
 
-// Document 01's numbers 1 to 12, in their order and by its names.
+// Document 01's numbers 1 to 12, in their order and by its names, and those that tickets of document 02 add.
 #[derive(Clone, Copy, PartialEq, Eq)]
 pub enum Refusal {
     Settings = 1,
@@ -17,6 +17,7 @@ pub enum Refusal {
     Book = 10,
     Kept = 11,
     Full = 12,
+    Output = 14,
 }
 
 impl Refusal {

@@ -16,7 +16,7 @@ use Rattle.reasons.specs.Invalid.{InvalidDependency}
 use Rattle.reasons.specs.Verdict as verdict
 use Rattle.rules.specs.List.{Listed, read_list}
 use Rattle.rules.specs.Validate.{result_with, validate}
-use Rattle.rules.specs.Judge.{Tested, refused, admitted, tested, Given, Before, answered, needed, before, over_list, judge_from, flags_ok, judge_with}
+use Rattle.rules.specs.Judge.{Tested, refused, admitted, tested, Given, Before, answered, needed, before, over_list, judge_from, flags_ok, judge_with, judge_with_in}
 use Rattle.rules.specs.Told.{Call, judged}
 use Rattle.rules.specs.AnyOrder.{IsEntry, AllEntries, with_list, Alike, NoneBrings, Earliest, AnyOrder}
 use Rattle.rules.proofs.Joins.{rank_of, newer-higher, higher-newer}
@@ -50,7 +50,7 @@ before-alike c presence p s t (needed required) h = go (leb 2 presence)
     go false = alike_self (Given (validate c required presence p [] []))
 
 judge_alike : (leader presence : ℕ) (s t : List ℕ) (i : Tested) → Arranged (read_list s) (read_list t) → Alike (judge_with leader presence s i) (judge_with leader presence t i)
-unfolding judge_with
+unfolding judge_with_in
 judge_alike leader presence s t (refused n) h = refl
 judge_alike leader presence s t (admitted i) h =
     before-alike i.settings presence i.point s t (before i.settings i.schedule (eqb leader 1) i.point) h

@@ -19,7 +19,7 @@ use Rattle.point.specs.declared.data.AnchorStageRole.{AnchorStageRole}
 use Rattle.parts.specs.Bytes.{little_at}
 use Rattle.record.specs.Record.{field_row, field_ok}
 use Rattle.rules.specs.DagPoint.{Entry, IndirectEntry}
-use Rattle.rules.specs.List.{Listed, read_state, entry_at, read_entry, is_in_order, list_from, read_list, directs, indirects}
+use Rattle.rules.specs.List.{Listed, read_state_in, entry_at_in, read_entry, read_entry_in, is_in_order, list_from, list_from_in, read_list, read_list_in, directs, indirects}
 use Rattle.rules.specs.AnyOrder.{IsEntry}
 use Rattle.rules.proofs.All.{All}
 use Rattle.rules.proofs.Pieces.{entry-front, some_bytes, entry-append, entry_alone, Step, list_zero, list_suc, empty-is}
@@ -38,7 +38,7 @@ InKinds indirect_seen (e ∷ es) = (is_indirect : Bool) × IsEntry is_indirect e
 
 -- seven bytes that read as a dropped entry
 reads-dropped : read_entry (16 ∷ 4 ∷ 0 ∷ 5 ∷ 0 ∷ 0 ∷ 0 ∷ []) ≡ None → ⊥
-unfolding read_entry entry_at read_state field_ok little_at
+unfolding read_entry_in entry_at_in read_state_in field_ok little_at
 reads-dropped h = some-none h
 
 entry-bytes : (is_indirect : Bool) (e : List ℕ) → IsEntry is_indirect e → 1 ≤ length e
@@ -66,19 +66,19 @@ not_empty e s h = ne_eqb (length (e ++ s)) 0 (λ z. (let l = length-append e s i
 -- a list with an entry in front
 list_cons : (n : ℕ) (a : Bool) (e s : List ℕ) (x : Listed) → 1 ≤ length e → read_entry (e ++ s) ≡ Some x → x.size ≡ length e → is_in_order a x.aim ≡ true →
     list_from (suc n) a (e ++ s) ≡ option_map (λ l. x ∷ l) (list_from n (is_some x.aim) s)
-unfolding list_from
+unfolding list_from_in
 list_cons n a e s x l r z o = rw (not_empty e s l, r, o, drop_at e s x.size (sym z))
 
 list-bad : (n : ℕ) (a : Bool) (e s : List ℕ) → 1 ≤ length e → read_entry (e ++ s) ≡ None → list_from (suc n) a (e ++ s) ≡ None
-unfolding list_from
+unfolding list_from_in
 list-bad n a e s l r = rw (not_empty e s l, r)
 
 list-none : (a : Bool) (e s : List ℕ) → 1 ≤ length e → list_from zero a (e ++ s) ≡ None
-unfolding list_from
+unfolding list_from_in
 list-none a e s l = rw (not_empty e s l)
 
 list-empty : (n : ℕ) (a : Bool) → list_from n a [] ≡ Some []
-unfolding list_from
+unfolding list_from_in
 list-empty zero a = refl
 list-empty (suc n) a = refl
 
@@ -104,7 +104,7 @@ read_pieces (suc n) a (e ∷ es) (k, inr f, o, r) =
 
 -- an entry outside the domain: dropped, with a certified flag of 2
 pub flag-outside : (rest : List ℕ) → read_entry ((16 ∷ 4 ∷ 0 ∷ 5 ∷ 2 ∷ 0 ∷ 0 ∷ []) ++ rest) ≡ None
-unfolding read_entry entry_at
+unfolding read_entry_in entry_at_in
 flag-outside rest = pick-false (field_ok (field_row 16 4 4) ((16 ∷ 4 ∷ 0 ∷ 5 ∷ 2 ∷ 0 ∷ 0 ∷ []) ++ rest) 0 && (leb 2 1 && leb 0 1)) _ None (last-false (field_ok (field_row 16 4 4) ((16 ∷ 4 ∷ 0 ∷ 5 ∷ 2 ∷ 0 ∷ 0 ∷ []) ++ rest) 0) (leb 2 1 && leb 0 1) refl)
 
 -- ---- every list that can be read is made of such pieces
@@ -176,7 +176,7 @@ split_from (suc n) a s l h = go (list_suc n a s l h) (split_from n)
         (v.0, λ k. v.1 (ordered-indirect a u.first.aim k u.ordered))
 
 pub split_list : (s : List ℕ) (l : List Listed) → read_list s ≡ Some l → Split s
-unfolding read_list
+unfolding read_list_in
 split_list s l h = (split_from 65535 false s l h).0
 
 -- ---- in any order
@@ -240,7 +240,7 @@ in_kinds (e ∷ es) ts h g = (false, h.0, λ z. z, in_kinds es ts h.1 g)
 
 pieces_list : (es ts : List (List ℕ)) → All (IsEntry false) es → All (IsEntry true) ts →
     read_list (concat es ++ concat ts) ≡ pick (leb (length (es ++ ts)) 65535) (read_all (es ++ ts)) None
-unfolding read_list
+unfolding read_list_in
 pieces_list es ts h g = ap (list_from 65535 false) (sym (concat-append es ts)) ∙ read_pieces 65535 false (es ++ ts) (in_kinds es ts h g)
 
 arranged_by : (o p q r : Option (List Listed)) → o ≡ q → p ≡ r → Arranged q r → Arranged o p

@@ -21,7 +21,7 @@ use Rattle.point.specs.Reading.{point_id_at, read_point}
 use Rattle.point.specs.declared.data.AnchorStageRole.{AnchorStageRole}
 use Rattle.reasons.specs.Invalid.{dag_round}
 use Rattle.rules.specs.DagPoint.{DagPoint, Valid, TransInvalid, Invalid, IllFormed, NotFound}
-use Rattle.rules.specs.List.{is_listable, Stated, RecordFront, record_front, record_at, id_at17, is_root, read_state, Listed, entry_at, read_entry, is_in_order, list_from, read_list, directs, indirects}
+use Rattle.rules.specs.List.{is_listable, Stated, RecordFront, record_front, record_front_in, record_at, id_at17, is_root, read_state, read_state_in, Listed, entry_at, entry_at_in, read_entry, read_entry_in, is_in_order, list_from, list_from_in, read_list, read_list_in, directs, indirects}
 use Rattle.rules.proofs.Fits.{IdFits, PointFits, id-fits, point-fits}
 use Rattle.rules.proofs.All.{All}
 use Rattle.rules.proofs.Reasons.{StateFits, EntryFits, IndirectFits}
@@ -33,7 +33,7 @@ abbrev pub ListedFits : Listed → Type 0
 ListedFits x = EntryFits x.entry
 
 front_fits : (s : List ℕ) → Bytes s → IfSome (λ (x : RecordFront). PointFits x.point) (record_front s)
-unfolding record_front
+unfolding record_front_in
 front_fits s b =
     then_has (λ (x : RecordFront). PointFits x.point) (record_end s) _ (λ n e.
     then_has (λ (x : RecordFront). PointFits x.point) (read_point (take n s)) _ (λ q r.
@@ -58,7 +58,7 @@ root-fits s b h =
     id-fits s 3 b (omega (arith, w.least, w.end))
 
 state-fits : (state reason : ℕ) (s : List ℕ) → Bytes s → IfSome StatedFits (read_state state reason s)
-unfolding read_state
+unfolding read_state_in
 state-fits state reason s b =
     pick-has StatedFits (eqb state 0) _ _
     (λ x. pick-has StatedFits (eqb reason 0) _ _ (λ y. record_fits Valid (λ q f. f) 0 s b) tt)
@@ -75,7 +75,7 @@ state-fits state reason s b =
     (pick-has StatedFits (eqb state 5 && eqb reason 0) _ _ (λ x. tt) tt)))))
 
 at-fits : (aim : Option AnchorStageRole) (front : ℕ) (s : List ℕ) → Bytes s → IfSome ListedFits (entry_at aim front s)
-unfolding entry_at
+unfolding entry_at_in
 at-fits aim front s b =
     pick-has ListedFits (field_ok (field_row 16 4 4) s 0 && (leb (get_or s 4 0) 1 && leb (get_or s 5 0) 1)) _ _
     (λ h. map-has ListedFits _ (read_state (get_or s 3 0) (get_or s 6 0) (drop 7 s)) (λ x e.
@@ -83,14 +83,14 @@ at-fits aim front s b =
     tt
 
 entry-fits : (s : List ℕ) → Bytes s → IfSome ListedFits (read_entry s)
-unfolding read_entry
+unfolding read_entry_in
 entry-fits s b =
     pick-has ListedFits (eqb (get_or s 0 0) 19) _ _
     (λ h. pick-has ListedFits (field_ok (field_row 19 1 1) s 0 && leb (get_or s 3 0) 1) _ _ (λ y. at-fits _ 4 (drop 4 s) (rest-bytes 4 s b)) tt)
     (at-fits None 0 s b)
 
 from-fits : (n : ℕ) (seen : Bool) (s : List ℕ) → Bytes s → IfSome (All ListedFits) (list_from n seen s)
-unfolding list_from
+unfolding list_from_in
 from-fits zero seen s b = pick-has (All ListedFits) (eqb (length s) 0) (Some []) None (λ h. tt) tt
 from-fits (suc n) seen s b =
     pick-has (All ListedFits) (eqb (length s) 0) _ _ (λ h. tt)
@@ -103,7 +103,7 @@ from-fits (suc n) seen s b =
     tt))
 
 pub list-fits : (s : List ℕ) → Bytes s → IfSome (All ListedFits) (read_list s)
-unfolding read_list
+unfolding read_list_in
 list-fits s b = from-fits 65535 false s b
 
 pub directs_fit : (l : List Listed) → All ListedFits l → All EntryFits (directs l)

@@ -15,12 +15,13 @@ use Rattle.base.proofs.Bool.{and_left}
 use Rattle.base.proofs.Option.{none-some, picked, and_then_lem, IfSome, pick-has, has}
 use Rattle.parts.specs.Bytes.{little_at, id_at, Bytes}
 use Rattle.parts.proofs.Laws.{at-bytes, big-fits}
-use Rattle.map.specs.Rows.{Pair, peer_at, digest_at, pair_at, pairs_of}
+use Rattle.map.specs.declared.Arrangement.TheVariants.{Columns}
+use Rattle.map.specs.Rows.{Pair, pair_at, pairs_of, pairs_in}
 use Rattle.record.specs.Record.{rows, row_of, next_at, content_at, start_of, content_of, well_shaped}
 use Rattle.record.proofs.Laws.{content-least}
 use Rattle.write.proofs.Numbers.{little-fits}
 use Rattle.point.specs.Point.{PointId, Through, Includes, Witness, AnchorLink, Direct, Indirect, PointInfo, Sticky, through_peer, through, sticky_anchors}
-use Rattle.point.specs.Reading.{point_id_at, read_through, read_link, read_role, maps_ok, read_point}
+use Rattle.point.specs.Reading.{point_id_at, read_through, read_link, read_role, maps_ok, read_point, read_point_in}
 use Rattle.point.specs.declared.data.PointRole.{PointRole}
 use Rattle.point.proofs.Laws.{readable, reads, parts-of}
 
@@ -87,7 +88,7 @@ role-fits s b =
     (pick-has RoleFits (eqb (get_or s 0 0) 2) _ _ (λ x. tt) (pick-has RoleFits (eqb (get_or s 0 0) 3) _ _ (λ x. tt) tt)))
     (pick-has RoleFits (eqb (length s) 3 && (eqb (get_or s 0 0) 1 && leb (get_or s 2 0) 1)) _ _ (λ h. b 1) tt)
 
-rest_with : (s : List ℕ) (x y : Option AnchorLink) (r : Option PointRole) (p : PointInfo) → reads s x y r ≡ Some p →
+rest_with : (s : List ℕ) (x y : Option AnchorLink) (r : Option PointRole) (p : PointInfo) → reads Columns s x y r ≡ Some p →
     (p.payload_bytes ≡ little_at 4 (content_of s 1) 4) × (r ≡ Some p.role)
 rest_with s None y r p e = none-some e
 rest_with s (Some x) None r p e = none-some e
@@ -96,11 +97,11 @@ rest_with s (Some x) (Some y) (Some r) p e = (cc, cc)
 
 -- what a point has of its record besides `PartsOf`
 rest_of : (s : List ℕ) (p : PointInfo) → read_point s ≡ Some p → (p.payload_bytes ≡ little_at 4 (content_of s 1) 4) × (read_role (content_of s 7) ≡ Some p.role)
-unfolding read_point
-rest_of s p h = rest_with s (read_link (content_of s 5)) (read_link (content_of s 6)) (read_role (content_of s 7)) p (picked (well_shaped s && maps_ok s) _ p h).1
+unfolding read_point_in
+rest_of s p h = rest_with s (read_link (content_of s 5)) (read_link (content_of s 6)) (read_role (content_of s 7)) p (picked (well_shaped s && maps_ok Columns s) _ p h).1
 
 pub point-fits : (s : List ℕ) (p : PointInfo) → Bytes s → read_point s ≡ Some p → PointFits p
-unfolding read_point row_of rows
+unfolding read_point_in row_of rows
 point-fits s p b h =
     let w = (readable s p h).shaped in
     let m = parts-of s p h in
@@ -130,8 +131,8 @@ each_of P f (suc n) i h x m = go (Memᴰ.cases_cons m) (each_of P f n (suc i) (�
     go (inr r) rec = rec r
 
 pairs_fit : (s : List ℕ) → Bytes s → (q : Pair) → Memᴰ q (pairs_of s) → PairFits q
-unfolding pairs_of peer_at digest_at
-pairs_fit s b = each_of PairFits (pair_at s) (length s / 64) 0 (λ k h. (big-fits 32 s (64 * k) b (omega arith), big-fits 32 s (64 * k + 32) b (omega arith)))
+unfolding pairs_in pair_at
+pairs_fit s b = each_of PairFits (pair_at Columns s) (length s / 64) 0 (λ k h. (big-fits 32 s (32 * k) b (omega arith), big-fits 32 s (32 * (length s / 64 + k)) b (omega arith)))
 
 -- the target of an indirect link
 abbrev pub TargetFits : AnchorLink → Type 0

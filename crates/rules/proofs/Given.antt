@@ -26,12 +26,12 @@ use Rattle.reasons.specs.declared.ill_formed.VerifyError.TheVariants as case-err
 use Rattle.reasons.specs.declared.ill_formed.WaveChecked.{WaveChecked}
 use Rattle.reasons.specs.declared.ill_formed.WaveChecked.TheVariants as case-wave
 use Rattle.rules.specs.DagPoint.{Entry, IndirectEntry, point_view}
-use Rattle.rules.specs.List.{Listed, list_from, read_list, directs, indirects}
+use Rattle.rules.specs.List.{Listed, list_from, read_list, read_list_in, directs, indirects}
 use Rattle.rules.specs.Mismatch.{mismatch, uncovered}
 use Rattle.rules.specs.Verify.{verify}
 use Rattle.rules.specs.CheckIllFormed.{wave_checked}
 use Rattle.rules.specs.Validate.{join, result_with, validate}
-use Rattle.rules.specs.Judge.{Input, Tested, refused, admitted, tested_with, tested, Number, Given, Before, answered, needed, before_with, before, over_entries, over_list, judge_from, flags_ok, judge_with}
+use Rattle.rules.specs.Judge.{Input, Tested, refused, admitted, tested_with, tested, tested_in, Number, Given, Before, answered, needed, before_with, before, over_entries, over_list, judge_from, flags_ok, judge_with, judge_with_in}
 use Rattle.rules.specs.Passed.{has_reason}
 use Rattle.rules.specs.Told.{Call}
 use Rattle.rules.specs.AnyOrder.{GivenOrder}
@@ -133,7 +133,7 @@ moved presence list v a c q p e f (l, r, required, h) = (
 from-tested : (leader presence : ℕ) (list : List ℕ) (v : Verdict) (c : Settings) (p : PointInfo) (t : Tested) →
     ((i : Input) → t ≡ admitted i → (i.settings ≡ c) × (i.point ≡ p)) → c.genesis_round < p.id.round → has_reason v ≡ false →
     judge_with leader presence list t ≡ Given v → Over c presence p v list
-unfolding judge_with before
+unfolding judge_with_in before
 from-tested leader presence list v c p (refused n) f a k h = impossible (cc)
 from-tested leader presence list v c p (admitted i) f a k h =
     let w = f i refl in
@@ -143,7 +143,7 @@ from-tested leader presence list v c p (admitted i) f a k h =
     moved presence list v i.settings c i.point p w.0 w.1 (from-before i.settings presence i.point v list b d k h)
 
 pub judged-validate : (x : Call) (o : GivenOrder x) → Over o.settings x.presence o.point o.verdict x.list
-unfolding tested
+unfolding tested_in
 judged-validate x o =
     from-tested x.leader x.presence x.list o.verdict o.settings o.point
     (tested x.settings x.schedule x.point (flags_ok x.leader x.presence) x.size)
@@ -172,7 +172,7 @@ list-ordered (suc n) a s l h = go (list_suc n a s l h) (list-ordered n)
         )
 
 pub read-ordered : (s : List ℕ) (l : List Listed) → read_list s ≡ Some l → Ordered l
-unfolding read_list
+unfolding read_list_in
 read-ordered s l h = list-ordered 65535 false s l h
 
 module _ (c : Settings) (required : Bool) (p : PointInfo) where

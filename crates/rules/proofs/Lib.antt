@@ -2,6 +2,7 @@ pub mod Folds
 pub mod Passed
 pub mod Joins
 pub mod Halves
+pub mod Fronts
 pub mod Pieces
 pub mod Records
 pub mod Mismatch
@@ -24,3 +25,5 @@ pub mod Given
 pub mod AnyOrder
 pub mod Told
 pub mod Edges
+pub mod ConvertedPieces
+pub mod Converted

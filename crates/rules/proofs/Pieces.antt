@@ -1,211 +1,62 @@
 -- An entry at the front of bytes is read as far as it goes: what follows it makes no difference. So lists that follow one another.
 use Rattle.std.specs.Prelude.{option_map, unwrap_or, Option, None, Some, is_some}
-use Prim.Native.Nat.{ℕ, zero, suc, ◌+◌, ◌-◌, ◌≤◌}
+use Prim.Native.Nat.{ℕ, zero, suc, ◌+◌, ◌≤◌}
 use native.Mathlib.Omega.{arith}
 use mathlib.Core.Path.{◌≡◌, refl, sym, ap, ◌∙◌, subst}
 use mathlib.Core.Logic.{◌⊎◌, inl, inr}
-use mathlib.Core.Bool.{Bool, true, false, ◌&&◌}
+use mathlib.Core.Bool.{Bool, true, false}
 use mathlib.Core.List.{List, [], ◌∷◌, ◌++◌}
-use lib.ListN.{length, get_or, take, drop, length-drop}
+use lib.ListN.{length, take, drop, length-drop}
 use lib.Seq.{drop-append-le}
-use lib.Dec.{leb, eqb}
+use lib.Dec.{eqb}
 use borrow.Author.Tests.{eqb-true}
 use Rattle.base.specs.Base.{pick, and_then}
-use Rattle.base.proofs.Bool.{and_left, and_right, and_both, pick_true, pick-false}
 use Rattle.base.proofs.Lists.{append-none}
-use Rattle.base.proofs.Option.{none-some, picked, and_then_lem, some-injective, map-eq-some_iff}
-use Rattle.parts.specs.Bytes.{little_at, big_at}
-use Rattle.record.specs.Record.{field_row, field_ok, record_end}
-use Rattle.record.proofs.Laws.{Agree, part_same, byte_same, fitting, field-length, field-same, end_same, end-within, front_agrees, append_agrees}
-use Rattle.point.specs.Point.{PointId, PointInfo}
-use Rattle.point.specs.Reading.{point_id_at, read_point}
+use Rattle.base.proofs.Option.{picked, and_then_lem, some-injective, map-eq-some_iff}
+use Rattle.map.specs.declared.Arrangement.{Arrangement}
+use Rattle.map.specs.declared.Arrangement.TheVariants.{Columns}
+use Rattle.record.specs.Record.{record_end}
+use Rattle.record.proofs.Laws.{Agree, part_same, end_same, end-within, front_agrees, append_agrees}
+use Rattle.point.specs.Point.{PointInfo}
+use Rattle.point.specs.Reading.{read_point_in}
 use Rattle.point.specs.declared.data.AnchorStageRole.{AnchorStageRole}
-use Rattle.reasons.specs.Invalid.{dag_round}
-use Rattle.rules.specs.DagPoint.{DagPoint, Valid, TransInvalid, Invalid, IllFormed, NotFound, Dropped}
-use Rattle.rules.specs.List.{is_listable, Stated, RecordFront, record_front, record_at, id_at17, is_root, read_state, Listed, entry_at, role_of, read_entry, is_in_order, list_from, read_list, directs, indirects}
+use Rattle.rules.specs.List.{is_listable, RecordFront, record_front, record_front_in, Listed, read_entry, read_entry_in, is_in_order, list_from, list_from_in, read_list, read_list_in, directs, indirects}
 use Rattle.rules.proofs.Halves.{directs-append}
+use Rattle.rules.proofs.Fronts.{agree_self, shorter, agree_after, entry_of, EntryFront, before_record, without_record, split_entry}
 
--- ---- bytes at the front
+-- ---- a record, and an entry
 
-module _ (e : ℕ) (s t : List ℕ) (a : Agree e s t) where
-  shorter : (n : ℕ) → n ≤ e → Agree n s t
-  shorter n h = record { same = sym (part_same e s t a n 0 (omega arith)); in_left = omega (arith, a.in_left); in_right = omega (arith, a.in_right) }
+-- it takes no more bytes than there are, and bytes that begin with those have the same record in front
+pub record RecordAt (a : Arrangement) (s : List ℕ) (x : RecordFront) : Type 0 where
+  pub end : record_end s ≡ Some x.size
+  pub within : x.size ≤ length s
+  pub alike : (t : List ℕ) → Agree x.size s t → record_front_in a t ≡ Some x
 
-  -- the bytes after the first k
-  agree_after : (k n : ℕ) → k + n ≤ e → Agree n (drop k s) (drop k t)
-  agree_after k n h =
-      let l = length-drop k s in
-      let r = length-drop k t in
-      record { same = sym (part_same e s t a n k h); in_left = omega (arith, a.in_left); in_right = omega (arith, a.in_right) }
+front-is : (a : Arrangement) (s : List ℕ) (n : ℕ) (q : PointInfo) →
+    record_end s ≡ Some n → read_point_in a (take n s) ≡ Some q → is_listable q ≡ true →
+    record_front_in a s ≡ Some (record { point = q; size = n })
+unfolding record_front_in
+front-is a s n q e r l = rw (e, r, l)
 
-  id-alike : 71 ≤ e → point_id_at t 3 ≡ point_id_at s 3
-  unfolding point_id_at little_at big_at
-  id-alike h = rw (part_same e s t a 4 3 (omega arith), part_same e s t a 32 7 (omega arith), part_same e s t a 32 39 (omega arith))
-
-  field_alike : (tag n : ℕ) → field_ok (field_row tag n n) s 0 ≡ true → 3 + n ≤ e → field_ok (field_row tag n n) t 0 ≡ true
-  field_alike tag n h k = let f = fitting (field_row tag n n) s 0 h in field-same e s t a 0 (omega (arith, f.greatest)) (field_row tag n n) f
-
--- ---- what stands after tag 16
-
--- a reader takes no more bytes than there are, and gives the same of any bytes that begin with those
-abbrev Fronted : {A : Type 0} → (A → ℕ) → (List ℕ → Option A) → List ℕ → Type 0
-Fronted {A} size f s = (x : A) → f s ≡ Some x → (size x ≤ length s) × ((t : List ℕ) → Agree (size x) s t → f t ≡ Some x)
-
-front-is : (s : List ℕ) (n : ℕ) (q : PointInfo) → record_end s ≡ Some n → read_point (take n s) ≡ Some q → is_listable q ≡ true →
-    record_front s ≡ Some (record { point = q; size = n })
-unfolding record_front
-front-is s n q e r l = rw (e, r, l)
-
-record_front_lem : (s : List ℕ) → Fronted (λ x. x.size) record_front s
-unfolding record_front
-record_front_lem s x h =
+pub record_front_lem : (a : Arrangement) (s : List ℕ) (x : RecordFront) → record_front_in a s ≡ Some x → RecordAt a s x
+unfolding record_front_in
+record_front_lem a s x h =
     let n = and_then_lem (record_end s) _ x h in
-    let q = and_then_lem (read_point (take n.0 s)) _ x n.2 in
+    let q = and_then_lem (read_point_in a (take n.0 s)) _ x n.2 in
     let k = picked (is_listable q.0) _ x q.2 in
     let w = end-within s n.0 n.1 in
-    let e : n.0 ≡ x.size = ap (λ (y : RecordFront). y.size) (some-injective _ _ k.1) in (
-      omega arith,
-      λ t a.
-          front-is t n.0 q.0
-          (end_same x.size s t a n.0 n.1 (omega arith))
-          (ap read_point (part_same x.size s t a n.0 0 (omega arith)) ∙ q.1)
-          k.0
-          ∙ k.1,
-    )
-
-record_size_lem : (state : PointInfo → DagPoint) (front : ℕ) (s : List ℕ) (x : Stated) → record_at state front s ≡ Some x → front ≤ x.size
-record_size_lem state front s x h =
-    let y = (map-eq-some_iff _ (record_front (drop front s))).0 h in
-    let e : front + y.0.size ≡ x.size = ap (λ (z : Stated). z.size) y.2 in
-    omega arith
-
-record_at_lem : (state : PointInfo → DagPoint) (front : ℕ) (s : List ℕ) → front ≤ length s → Fronted (λ x. x.size) (record_at state front) s
-record_at_lem state front s g x h =
-    let y = (map-eq-some_iff _ (record_front (drop front s))).0 h in
-    let f = record_front_lem (drop front s) y.0 y.1 in
-    let e : front + y.0.size ≡ x.size = ap (λ (z : Stated). z.size) y.2 in
-    let l = length-drop front s in
-    let b = f.0 in
-    (omega arith, λ t a. rw (f.1 (drop front t) (agree_after x.size s t a front y.0.size (omega arith))) (ap Some y.2))
-
-id-at : (state : PointId → DagPoint) (s : List ℕ) → Fronted (λ x. x.size) (id_at17 state) s
-id-at state s x h =
-    let k = picked (field_ok (field_row 17 68 68) s 0) _ x h in
-    let l = field-length 17 68 s k.0 in
-    let e : 71 ≡ x.size = ap (λ (z : Stated). z.size) (some-injective _ _ k.1) in
-    (omega arith, λ t a. rw (field_alike x.size s t a 17 68 k.0 (omega arith), id-alike x.size s t a (omega arith)) k.1)
-
-pub root_length : (s : List ℕ) → is_root s ≡ true → 72 ≤ length s
-unfolding is_root
-root_length s h = field-length 18 69 s (and_left (field_ok (field_row 18 69 69) s 0) _ h)
-
-root_alike : (e : ℕ) (s t : List ℕ) → Agree e s t → 72 ≤ e → is_root s ≡ true → is_root t ≡ true
-unfolding is_root little_at
-root_alike e s t a l h =
-    let f = and_left (field_ok (field_row 18 69 69) s 0) _ h in
-    rw (field_alike e s t a 18 69 f l, part_same e s t a 4 3 (omega arith), byte_same e s t a 71 (omega arith)) (and_right (field_ok (field_row 18 69 69) s 0) _ h)
-
-abbrev OfState : (List ℕ → Option Stated) → List ℕ → Type 0
-OfState f s = Fronted (λ x. x.size) f s
-
-guarded : (b : Bool) (f : List ℕ → Option Stated) (s : List ℕ) → (b ≡ true → OfState f s) → OfState (λ t. pick b (f t) None) s
-guarded true f s g x h = g refl x h
-guarded false f s g x h = none-some h
-
-by_state : (a b d e g : Bool) (f0 f1 f2 f3 f4 f5 : List ℕ → Option Stated) (s : List ℕ) → OfState f0 s → OfState f1 s → OfState f2 s → OfState f3 s → OfState f4 s → OfState f5 s →
-    OfState (λ t. pick a (f0 t) (pick b (f1 t) (pick d (f2 t) (pick e (f3 t) (pick g (f4 t) (f5 t)))))) s
-by_state true b d e g f0 f1 f2 f3 f4 f5 s o0 o1 o2 o3 o4 o5 = o0
-by_state false true d e g f0 f1 f2 f3 f4 f5 s o0 o1 o2 o3 o4 o5 = o1
-by_state false false true e g f0 f1 f2 f3 f4 f5 s o0 o1 o2 o3 o4 o5 = o2
-by_state false false false true g f0 f1 f2 f3 f4 f5 s o0 o1 o2 o3 o4 o5 = o3
-by_state false false false false true f0 f1 f2 f3 f4 f5 s o0 o1 o2 o3 o4 o5 = o4
-by_state false false false false false f0 f1 f2 f3 f4 f5 s o0 o1 o2 o3 o4 o5 = o5
-
-rooted : (state : List ℕ → PointInfo → DagPoint) (reason : ℕ) (s : List ℕ) → ((e : ℕ) (t : List ℕ) → Agree e s t → 72 ≤ e → state t ≡ state s) →
-    OfState (λ t. pick (eqb reason 0 && is_root t) (record_at (state t) 72 t) None) s
-rooted state reason s f x h =
-    let k = picked (eqb reason 0 && is_root s) _ x h in
-    let r = and_right (eqb reason 0) _ k.0 in
-    let g = record_at_lem (state s) 72 s (root_length s r) x k.1 in
-    let l = record_size_lem (state s) 72 s x k.1 in
-    (g.0, λ t a. rw (and_left (eqb reason 0) _ k.0, root_alike x.size s t a l r, f x.size t a l) (g.1 t a))
-
-state-front : (state reason : ℕ) (s : List ℕ) → OfState (read_state state reason) s
-unfolding read_state
-state-front state reason s =
-    let root : List ℕ → PointInfo → DagPoint = λ t q. TransInvalid q (point_id_at t 3) (get_or t 71 0) in
-    by_state (eqb state 0) (eqb state 1) (eqb state 2) (eqb state 3) (eqb state 4)
-    (λ t. pick (eqb reason 0) (record_at Valid 0 t) None)
-    (λ t. pick (eqb reason 0 && is_root t) (record_at (root t) 72 t) None)
-    (λ t. pick (is_some (dag_round reason)) (record_at (λ q. Invalid q reason) 0 t) None)
-    (λ t. pick (leb 1 reason && leb reason 16) (id_at17 (λ i. IllFormed i reason) t) None)
-    (λ t. pick (eqb reason 0) (id_at17 NotFound t) None)
-    (λ t. pick (eqb state 5 && eqb reason 0) (Some (record { point = Dropped; size = 0 })) None)
-    s
-    (guarded (eqb reason 0) (record_at Valid 0) s (λ e. record_at_lem Valid 0 s (omega arith)))
-    (rooted root reason s (λ e t a l. rw (id-alike e s t a (omega arith), byte_same e s t a 71 (omega arith))))
-    (guarded (is_some (dag_round reason)) (record_at (λ q. Invalid q reason) 0) s (λ e. record_at_lem (λ q. Invalid q reason) 0 s (omega arith)))
-    (guarded (leb 1 reason && leb reason 16) (id_at17 (λ i. IllFormed i reason)) s (λ e. id-at (λ i. IllFormed i reason) s))
-    (guarded (eqb reason 0) (id_at17 NotFound) s (λ e. id-at NotFound s))
-    (guarded (eqb state 5 && eqb reason 0) (λ t. Some (record { point = Dropped; size = 0 })) s (λ e x h. (nothing x h, λ t a. h)))
-  where
-    nothing : (x : Stated) → Some (record { point = Dropped; size = 0 }) ≡ Some x → x.size ≤ length s
-    nothing x h = let e : ◌≡◌ {A = ℕ} 0 x.size = ap (λ (z : Stated). z.size) (some-injective _ _ h) in omega arith
-
--- ---- an entry
-
-at-is : (aim : Option AnchorStageRole) (front : ℕ) (s t : List ℕ) (state k f reason : ℕ) (x : Stated) → field_ok (field_row 16 4 4) s 0 ≡ true →
-    get_or s 3 0 ≡ state → get_or s 4 0 ≡ k → get_or s 5 0 ≡ f → get_or s 6 0 ≡ reason → (leb k 1 && leb f 1) ≡ true → drop 7 s ≡ t →
-    read_state state reason t ≡ Some x →
-    entry_at aim front s
-    ≡ Some (record { aim = aim; entry = record { state = x.point; certified = eqb k 1; first_valid = eqb f 1 }; size = front + 7 + x.size })
-unfolding entry_at
-at-is aim front s t state k f reason x o e3 e4 e5 e6 l d r = rw (o, e3, e4, e5, e6, l, d, r)
-
--- `front` bytes stand before it
-record AtFront (aim : Option AnchorStageRole) (front : ℕ) (s : List ℕ) (x : Listed) : Type 0 where
-  aimed : x.aim ≡ aim
-  least : front + 7 ≤ x.size
-  within : x.size ≤ front + length s
-  alike : (n : ℕ) (t : List ℕ) → Agree n s t → x.size ≤ front + n → entry_at aim front t ≡ Some x
-
-at_front : (aim : Option AnchorStageRole) (front : ℕ) (s : List ℕ) (x : Listed) → entry_at aim front s ≡ Some x → AtFront aim front s x
-unfolding entry_at
-at_front aim front s x h =
-    let k = picked (field_ok (field_row 16 4 4) s 0 && (leb (get_or s 4 0) 1 && leb (get_or s 5 0) 1)) _ x h in
-    let y = (map-eq-some_iff _ (read_state (get_or s 3 0) (get_or s 6 0) (drop 7 s))).0 k.1 in
-    let f = state-front (get_or s 3 0) (get_or s 6 0) (drop 7 s) y.0 y.1 in
-    let o = and_left (field_ok (field_row 16 4 4) s 0) _ k.0 in
-    let l = field-length 16 4 s o in
-    let e : front + 7 + y.0.size ≡ x.size = ap (λ (z : Listed). z.size) y.2 in
-    let b = f.0 in
-    let d = length-drop 7 s in
+    let e : n.0 ≡ x.size = ap (λ (y : RecordFront). y.size) (some-injective _ _ k.1) in
     record {
-      aimed = sym (ap (λ (z : Listed). z.aim) y.2);
-      least = omega arith;
+      end = n.1 ∙ ap Some e;
       within = omega arith;
       alike =
-          λ n t a m.
-          at-is aim front t (drop 7 t) (get_or s 3 0) (get_or s 4 0) (get_or s 5 0) (get_or s 6 0) y.0
-          (field_alike n s t a 16 4 o (omega arith))
-          (byte_same n s t a 3 (omega arith))
-          (byte_same n s t a 4 (omega arith))
-          (byte_same n s t a 5 (omega arith))
-          (byte_same n s t a 6 (omega arith))
-          (and_right (field_ok (field_row 16 4 4) s 0) _ k.0)
-          refl
-          (f.1 (drop 7 t) (agree_after n s t a 7 y.0.size (omega arith)))
-          ∙ ap Some y.2;
+          λ t g.
+          front-is a t n.0 q.0
+          (end_same x.size s t g n.0 n.1 (omega arith))
+          (ap (read_point_in a) (part_same x.size s t g n.0 0 (omega arith)) ∙ q.1)
+          k.0
+          ∙ k.1;
     }
-
-direct_is : (s : List ℕ) → eqb (get_or s 0 0) 19 ≡ false → read_entry s ≡ entry_at None 0 s
-unfolding read_entry
-direct_is s t = pick-false (eqb (get_or s 0 0) 19) _ _ t
-
-indirect-is : (s : List ℕ) → eqb (get_or s 0 0) 19 ≡ true → (field_ok (field_row 19 1 1) s 0 && leb (get_or s 3 0) 1) ≡ true →
-    read_entry s ≡ entry_at (Some (role_of (get_or s 3 0))) 4 (drop 4 s)
-unfolding read_entry
-indirect-is s t o = pick_true (eqb (get_or s 0 0) 19) _ _ t ∙ pick_true (field_ok (field_row 19 1 1) s 0 && leb (get_or s 3 0) 1) _ None o
 
 -- it takes a byte at least, and no more than there are
 pub record Front (s : List ℕ) (x : Listed) : Type 0 where
@@ -214,40 +65,28 @@ pub record Front (s : List ℕ) (x : Listed) : Type 0 where
   pub alike : (t : List ℕ) → Agree x.size s t → read_entry t ≡ Some x
 
 pub entry-front : (s : List ℕ) (x : Listed) → read_entry s ≡ Some x → Front s x
-unfolding read_entry
-entry-front s x h = go (eqb (get_or s 0 0) 19) refl h
+entry-front s x h = go (split_entry Columns s x h)
   where
-    go : (b : Bool) → eqb (get_or s 0 0) 19 ≡ b →
-        pick b (pick (field_ok (field_row 19 1 1) s 0 && leb (get_or s 3 0) 1) (entry_at (Some (role_of (get_or s 3 0))) 4 (drop 4 s)) None) (entry_at None 0 s) ≡ Some x →
-        Front s x
-    go true t k =
-        let w = picked (field_ok (field_row 19 1 1) s 0 && leb (get_or s 3 0) 1) _ x k in
-        let o = and_left (field_ok (field_row 19 1 1) s 0) _ w.0 in
-        let l = field-length 19 1 s o in
-        let f = at_front (Some (role_of (get_or s 3 0))) 4 (drop 4 s) x w.1 in
+    go : EntryFront read_entry_in 0 s → Front s x
+    go (before_record k aim made l w r) =
+        let y = (map-eq-some_iff _ (record_front (drop k s))).0 (sym (r Columns s (agree_self k s w)) ∙ h) in
+        let f = record_front_lem Columns (drop k s) y.0 y.1 in
+        let e : 0 + k + y.0.size ≡ x.size = ap (λ (z : Listed). z.size) y.2 in
+        let d = length-drop k s in
         let b = f.within in
-        let m = f.least in
-        let d = length-drop 4 s in
         record {
           least = omega arith;
           within = omega arith;
           alike =
-              λ u a.
-              (let g = byte_same x.size s u a 3 (omega arith) in
-              indirect-is u (ap (λ (y : ℕ). eqb y 19) (byte_same x.size s u a 0 (omega arith)) ∙ t)
-              (and_both _ _ (field_alike x.size s u a 19 1 o (omega arith)) (ap (λ (y : ℕ). leb y 1) g ∙ and_right (field_ok (field_row 19 1 1) s 0) _ w.0))
-              ∙ ap (λ (y : ℕ). entry_at (Some (role_of y)) 4 (drop 4 u)) g
-              ∙ f.alike (x.size - 4) (drop 4 u) (agree_after x.size s u a 4 (x.size - 4) (omega arith)) (omega arith));
+              λ t g.
+              r Columns t (shorter x.size s t g k (omega arith))
+              ∙ ap (option_map (entry_of aim made (0 + k))) (f.alike (drop k t) (agree_after x.size s t g k y.0.size (omega arith)))
+              ∙ ap Some y.2;
         }
-    go false t k =
-        let f = at_front None 0 s x k in
-        let b = f.within in
-        let m = f.least in
-        record {
-          least = omega arith;
-          within = omega arith;
-          alike = λ u a. direct_is u (ap (λ (y : ℕ). eqb y 19) (byte_same x.size s u a 0 (omega arith)) ∙ t) ∙ f.alike x.size u a (omega arith);
-        }
+    go (without_record k y l w z r) =
+        let e : Some y ≡ Some x = sym (r Columns s (agree_self k s w)) ∙ h in
+        let m : y.size ≡ x.size = ap (λ (v : Listed). v.size) (some-injective _ _ e) in
+        record { least = omega arith; within = omega arith; alike = λ t g. r Columns t (shorter x.size s t g k (omega arith)) ∙ e }
 
 module _ (s : List ℕ) (x : Listed) (h : read_entry s ≡ Some x) where
   pub some_bytes : 1 ≤ length s
@@ -264,32 +103,43 @@ module _ (s : List ℕ) (x : Listed) (h : read_entry s ≡ Some x) where
 -- ---- lists one after the other
 
 -- a list of an entry and what follows it
-pub record Step (n : ℕ) (indirect_seen : Bool) (s : List ℕ) (l : List Listed) : Type 0 where
+pub record StepIn (a : Arrangement) (n : ℕ) (indirect_seen : Bool) (s : List ℕ) (l : List Listed) : Type 0 where
   pub first : Listed
   pub rest : List Listed
-  pub reads : read_entry s ≡ Some first
+  pub reads : read_entry_in a s ≡ Some first
   pub ordered : is_in_order indirect_seen first.aim ≡ true
-  pub more : list_from n (is_some first.aim) (drop first.size s) ≡ Some rest
+  pub more : list_from_in a n (is_some first.aim) (drop first.size s) ≡ Some rest
   pub is : first ∷ rest ≡ l
 
+module _ (a : Arrangement) where
+  pub list_zero_in : (b : Bool) (s : List ℕ) (l : List Listed) → list_from_in a zero b s ≡ Some l → (length s ≡ 0) × ([] ≡ l)
+  unfolding list_from_in
+  list_zero_in b s l h = let k = picked (eqb (length s) 0) (Some []) l h in (eqb-true _ _ k.0, some-injective _ _ k.1)
+
+  pub list_suc_in : (n : ℕ) (b : Bool) (s : List ℕ) (l : List Listed) → list_from_in a (suc n) b s ≡ Some l →
+      ((length s ≡ 0) × ([] ≡ l)) ⊎ StepIn a n b s l
+  unfolding list_from_in
+  list_suc_in n b s l h = go (eqb (length s) 0) refl h
+    where
+      go : (c : Bool) → eqb (length s) 0 ≡ c →
+          pick c (Some []) (and_then (read_entry_in a s) (λ x.
+          pick (is_in_order b x.aim) (option_map (λ r. x ∷ r) (list_from_in a n (is_some x.aim) (drop x.size s))) None)) ≡ Some l →
+          ((length s ≡ 0) × ([] ≡ l)) ⊎ StepIn a n b s l
+      go true e k = inl (eqb-true _ _ e, some-injective _ _ k)
+      go false e k =
+          let x = and_then_lem (read_entry_in a s) _ l k in
+          let o = picked (is_in_order b x.0.aim) _ l x.2 in
+          let r = (map-eq-some_iff _ (list_from_in a n (is_some x.0.aim) (drop x.0.size s))).0 o.1 in
+          inr (record { first = x.0; rest = r.0; reads = x.1; ordered = o.0; more = r.1; is = r.2 })
+
+abbrev pub Step : ℕ → Bool → List ℕ → List Listed → Type 0
+Step n indirect_seen s l = StepIn Columns n indirect_seen s l
+
 pub list_zero : (a : Bool) (s : List ℕ) (l : List Listed) → list_from zero a s ≡ Some l → (length s ≡ 0) × ([] ≡ l)
-unfolding list_from
-list_zero a s l h = let k = picked (eqb (length s) 0) (Some []) l h in (eqb-true _ _ k.0, some-injective _ _ k.1)
+list_zero = list_zero_in Columns
 
 pub list_suc : (n : ℕ) (a : Bool) (s : List ℕ) (l : List Listed) → list_from (suc n) a s ≡ Some l → ((length s ≡ 0) × ([] ≡ l)) ⊎ Step n a s l
-unfolding list_from
-list_suc n a s l h = go (eqb (length s) 0) refl h
-  where
-    go : (b : Bool) → eqb (length s) 0 ≡ b →
-        pick b (Some []) (and_then (read_entry s) (λ x.
-        pick (is_in_order a x.aim) (option_map (λ r. x ∷ r) (list_from n (is_some x.aim) (drop x.size s))) None)) ≡ Some l →
-        ((length s ≡ 0) × ([] ≡ l)) ⊎ Step n a s l
-    go true e k = inl (eqb-true _ _ e, some-injective _ _ k)
-    go false e k =
-        let x = and_then_lem (read_entry s) _ l k in
-        let o = picked (is_in_order a x.0.aim) _ l x.2 in
-        let r = (map-eq-some_iff _ (list_from n (is_some x.0.aim) (drop x.0.size s))).0 o.1 in
-        inr (record { first = x.0; rest = r.0; reads = x.1; ordered = o.0; more = r.1; is = r.2 })
+list_suc = list_suc_in Columns
 
 -- an empty slice has no entry at its front
 no_entry : {A : Type 0} (s : List ℕ) (x : Listed) → length s ≡ 0 → read_entry s ≡ Some x → A
@@ -403,5 +253,5 @@ from-append (suc n) k j a b s t l m whole h g w = go (list_suc n a s l h) (from-
 
 pub list-append : (s t : List ℕ) (l m whole : List Listed) → read_list s ≡ Some l → read_list t ≡ Some m → read_list (s ++ t) ≡ Some whole →
     (whole ≡ l ++ m) × DirectFirst l m
-unfolding read_list
+unfolding read_list_in
 list-append s t l m whole h g w = from-append 65535 65535 65535 false false s t l m whole h g w

@@ -32,7 +32,7 @@ use Rattle.rules.specs.DagPoint.{Entry, IndirectEntry}
 use Rattle.rules.specs.List.{Listed, read_list, directs, indirects}
 use Rattle.rules.specs.Mismatch.{mismatch, uncovered}
 use Rattle.rules.specs.Validate.{validate}
-use Rattle.rules.specs.Judge.{VerifyAnswer, Input, Tested, refused, admitted, tested_with, tested, verified_from, verify_with, JudgeAnswer, Number, Given, Before, answered, needed, before_with, before, over_entries, over_list, judge_from, flags_ok, judge_with}
+use Rattle.rules.specs.Judge.{VerifyAnswer, Input, Tested, refused, admitted, tested_with, tested, tested_in, verified_from, verify_with, JudgeAnswer, Number, Given, Before, answered, needed, before_with, before, over_entries, over_list, judge_from, flags_ok, judge_with, judge_with_in}
 use Rattle.rules.specs.Answer.{verified_answer, verdict_answer, answer_bytes, verify_number, verify_answer, judge_number, judge_answer}
 use Rattle.rules.specs.Told.{Call, OfBytes, verified, judged, Told}
 use Rattle.rules.proofs.Fits.{point-fits}
@@ -53,7 +53,7 @@ record Read (s r : List ℕ) (i : Input) : Type 0 where
 module _ (P : Tested → Type 0) (settings schedule point : List ℕ) (refuse : (n : ℕ) → 1 ≤ n → n ≤ 5 → P (refused n))
     (admit : (i : Input) → Read schedule point i → P (admitted i)) where
   tested-cases : (others : Bool) (size : ℕ) → P (tested settings schedule point others size)
-  unfolding tested
+  unfolding tested_in
   tested-cases others size = go (read_settings settings) (read_schedule schedule) (read_point point) refl refl
     where
       past : (c : Settings) (s : Schedule) (p : PointInfo) → read_schedule schedule ≡ Some s → read_point point ≡ Some p → (x y : Bool) →
@@ -180,7 +180,7 @@ module _ (x : Call) where
       (λ i r. passed_ok i r (verify i.settings i.schedule i.point) (found-fits i r)) true x.size
 
   judged_ok : JudgeOk (judged x)
-  unfolding judge_with
+  unfolding judge_with_in
   judged_ok =
       tested-cases (λ t. JudgeOk (judge_with x.leader x.presence x.list t)) x.settings x.schedule x.point (λ n a b. (a, omega arith))
       (λ i r. from_ok i r x.presence (before i.settings i.schedule (eqb x.leader 1) i.point) (before_ok i r (eqb x.leader 1))) (flags_ok x.leader x.presence) x.size

@@ -14,7 +14,7 @@ use Rattle.rules.specs.List.{Listed, read_entry, read_list}
 use Rattle.rules.specs.Validate.{direct_through}
 use Rattle.rules.specs.Judge.{JudgeAnswer, Number, Given}
 use Rattle.rules.specs.Passed.{has_reason}
-use Rattle.rules.specs.Told.{Call, judged}
+use Rattle.rules.specs.Told.{Call, handing, judged}
 use Rattle.rules.specs.Joined.{Newer}
 
 -- ---- "the same direct and indirect entries, each kind in any order"
@@ -31,16 +31,7 @@ AllEntries is_indirect es = (e : List ℕ) → Memᴰ e es → IsEntry is_indire
 
 -- "one point, presence, settings, schedule and leader flag" and peer buffer, with a list of these direct and indirect entries
 abbrev pub with_list : Call → List (List ℕ) → List (List ℕ) → Call
-with_list x es ts =
-    record {
-      settings = x.settings;
-      schedule = x.schedule;
-      point = x.point;
-      leader = x.leader;
-      presence = x.presence;
-      list = concat es ++ concat ts;
-      size = x.size;
-    }
+with_list x es ts = handing x x.point (concat es ++ concat ts)
 
 -- "the kind of verdict, or the number, is the same. Where it is TransInvalid, the root's round is the same too, and so is whether its
 -- reason has a DAG round." Of Fail and IllFormed all is the same.

@@ -3,8 +3,10 @@
 use Rattle.std.specs.Prelude.{ℕ, Bool, not, ◌&&◌, true, false, List, [], ltb, leb, eqb, Option, None, Some, Err, Ok, Result}
 use Rattle.base.specs.Base.{pick}
 use Rattle.parts.specs.Limits.{peers_room}
+use Rattle.map.specs.declared.Arrangement.{Arrangement}
+use Rattle.map.specs.declared.Arrangement.TheVariants.{Columns}
 use Rattle.point.specs.Point.{PointInfo, in_domain, prev_id}
-use Rattle.point.specs.Reading.{read_point}
+use Rattle.point.specs.Reading.{read_point_in}
 use Rattle.schedule.specs.Settings.{Settings, read_settings}
 use Rattle.schedule.specs.Schedule.{Schedule, read_schedule}
 use Rattle.reasons.specs.declared.ill_formed.VerifyError.{VerifyError}
@@ -14,7 +16,7 @@ use Rattle.rules.specs.DagPoint.{Entry, IndirectEntry}
 use Rattle.rules.specs.Validate.{validate}
 use Rattle.rules.specs.CheckIllFormed.{wave_checked}
 use Rattle.reasons.specs.declared.ill_formed.WaveChecked.{WaveChecked}
-use Rattle.rules.specs.List.{Listed, read_list, directs, indirects}
+use Rattle.rules.specs.List.{Listed, read_list_in, directs, indirects}
 use Rattle.rules.specs.Mismatch.{mismatch, uncovered}
 use Rattle.reasons.specs.declared.ill_formed.WaveChecked.TheVariants as case-wave
 
@@ -42,9 +44,13 @@ tested_with (Some c) (Some s) (Some p) others size =
     (admitted (record { settings = c; schedule = s; point = p })))
 
 -- "Verifying and judging test them in number order"
-unfoldable pub tested : List ℕ → List ℕ → List ℕ → Bool → ℕ → Tested
-unfolding read_settings read_schedule read_point in_domain
-tested settings schedule rec others size = tested_with (read_settings settings) (read_schedule schedule) (read_point rec) others size
+unfoldable pub tested_in : Arrangement → List ℕ → List ℕ → List ℕ → Bool → ℕ → Tested
+unfolding read_settings read_schedule read_point_in in_domain
+tested_in a settings schedule rec others size = tested_with (read_settings settings) (read_schedule schedule) (read_point_in a rec) others size
+
+-- as the calls test it
+abbrev pub tested : List ℕ → List ℕ → List ℕ → Bool → ℕ → Tested
+tested settings schedule rec others size = tested_in Columns settings schedule rec others size
 
 -- ---- the call `verify`
 
@@ -105,18 +111,25 @@ over_list c required presence p None = Number 7
 over_list c required presence p (Some l) = over_entries c required presence p (directs l) (indirects l)
 
 -- "Presence 0 and 1 .., the list unread"
-abbrev pub judge_from : Settings → ℕ → PointInfo → List ℕ → Before → JudgeAnswer
-judge_from c presence p list (answered a) = a
-judge_from c presence p list (needed required) =
-    pick (leb 2 presence) (over_list c required presence p (read_list list))
+abbrev pub judge_from_in : Arrangement → Settings → ℕ → PointInfo → List ℕ → Before → JudgeAnswer
+judge_from_in a c presence p list (answered x) = x
+judge_from_in a c presence p list (needed required) =
+    pick (leb 2 presence) (over_list c required presence p (read_list_in a list))
     (Given (validate c required presence p [] []))
 
 -- what is tested of the call's own numbers for 4
 abbrev pub flags_ok : ℕ → ℕ → Bool
 flags_ok leader presence = leb leader 1 && leb presence 3
 
-unfoldable pub judge_with : ℕ → ℕ → List ℕ → Tested → JudgeAnswer
-unfolding before read_list mismatch uncovered validate
-judge_with leader presence list (refused n) = Number n
-judge_with leader presence list (admitted i) =
-    judge_from i.settings presence i.point list (before i.settings i.schedule (eqb leader 1) i.point)
+unfoldable pub judge_with_in : Arrangement → ℕ → ℕ → List ℕ → Tested → JudgeAnswer
+unfolding before read_list_in mismatch uncovered validate
+judge_with_in a leader presence list (refused n) = Number n
+judge_with_in a leader presence list (admitted i) =
+    judge_from_in a i.settings presence i.point list (before i.settings i.schedule (eqb leader 1) i.point)
+
+-- as the call judges
+abbrev pub judge_from : Settings → ℕ → PointInfo → List ℕ → Before → JudgeAnswer
+judge_from c presence p list x = judge_from_in Columns c presence p list x
+
+abbrev pub judge_with : ℕ → ℕ → List ℕ → Tested → JudgeAnswer
+judge_with leader presence list x = judge_with_in Columns leader presence list x

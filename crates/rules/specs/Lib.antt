@@ -12,3 +12,4 @@ pub mod Passed
 pub mod Edges
 pub mod Joined
 pub mod AnyOrder
+pub mod Converted

@@ -1,10 +1,11 @@
 -- What a caller of `verify` and `judge` is told by the number returned and the answer's 114 bytes: the whole answer.
 use Rattle.std.specs.Prelude.{ℕ, ◌≤◌, ◌≡◌, true, List, Result, Ok, Err}
 use Rattle.parts.specs.Bytes.{Bytes}
+use Rattle.map.specs.declared.Arrangement.{Arrangement}
+use Rattle.map.specs.declared.Arrangement.TheVariants.{Columns}
 use Rattle.reasons.specs.Verdict as verdict
 use Rattle.reasons.specs.declared.ill_formed.VerifyError.{VerifyError}
-use Rattle.reasons.specs.declared.ill_formed.VerifyError.{VerifyError}
-use Rattle.rules.specs.Judge.{VerifyAnswer, JudgeAnswer, Number, Given, tested, flags_ok, verify_with, judge_with}
+use Rattle.rules.specs.Judge.{VerifyAnswer, JudgeAnswer, Number, Given, tested_in, flags_ok, verify_with, judge_with_in}
 use Rattle.rules.specs.Answer.{verified_answer, verdict_answer, answer_bytes, verify_number, verify_answer, judge_number, judge_answer}
 
 -- what a call is handed, the peer buffer by its length; `verify` takes no flags and no list
@@ -21,13 +22,33 @@ pub record Call : Type 0 where
 abbrev pub OfBytes : Call → Type 0
 OfBytes x = Bytes x.point × Bytes x.list
 
+-- the same with another record and another list
+abbrev pub handing : Call → List ℕ → List ℕ → Call
+handing x point list =
+    record {
+      settings = x.settings;
+      schedule = x.schedule;
+      point = point;
+      leader = x.leader;
+      presence = x.presence;
+      list = list;
+      size = x.size;
+    }
+
+-- what is answered of records in an arrangement, and by the calls, which take columns
+abbrev pub verified_in : Arrangement → Call → VerifyAnswer
+verified_in a x = verify_with (tested_in a x.settings x.schedule x.point true x.size)
+
+abbrev pub judged_in : Arrangement → Call → JudgeAnswer
+judged_in a x =
+    judge_with_in a x.leader x.presence x.list
+    (tested_in a x.settings x.schedule x.point (flags_ok x.leader x.presence) x.size)
+
 abbrev pub verified : Call → VerifyAnswer
-verified x = verify_with (tested x.settings x.schedule x.point true x.size)
+verified x = verified_in Columns x
 
 abbrev pub judged : Call → JudgeAnswer
-judged x =
-    judge_with x.leader x.presence x.list
-    (tested x.settings x.schedule x.point (flags_ok x.leader x.presence) x.size)
+judged x = judged_in Columns x
 
 pub record Told : Type 0 where
   -- a number is one of 1 to 5

@@ -4,6 +4,7 @@
 ghost use Rattle.rules.specs.Told.{Told};
 ghost use Rattle.rules.specs.Joined.{Joined};
 ghost use Rattle.rules.specs.AnyOrder.{AnyOrder};
+ghost use Rattle.rules.specs.Converted.{RecordsConverted};
 
 // That an answer's number and bytes tell it, as a promise: without its proof this crate is not proved, nor any that uses it.
 pub fn answers_told()
@@ -18,4 +19,9 @@ pub fn records_joined()
 // Likewise ticket U9's statement on the order of a list's entries.
 pub fn any_order()
     ensures { AnyOrder }
+{}
+
+// Likewise ticket U5's statement on verifying and judging converted records.
+pub fn records_converted()
+    ensures { RecordsConverted }
 {}

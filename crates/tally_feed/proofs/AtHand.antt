@@ -15,11 +15,11 @@ use Rattle.parts.specs.Limits.{settings_length}
 use Rattle.record.specs.Record.{length_at, next_at, field_ok, end_from, record_end, well_shaped}
 use Rattle.record.proofs.Laws.{fitting, end_after, shaped-end, Agree, front_agrees, field-same, next-same, ends_same, end_same, end-within, record_most}
 use Rattle.point.specs.Point.{PointInfo}
-use Rattle.point.specs.Reading.{read_point}
+use Rattle.point.specs.Reading.{read_point, read_point_in}
 use Rattle.schedule.specs.Settings.{Settings, read_settings}
 use Rattle.schedule.specs.Schedule.{Schedule, read_schedule}
 use Rattle.books.specs.Kept.{Opened}
-use Rattle.books.specs.Offer.{Offer, Result, offer_tested, offer_with, offer}
+use Rattle.books.specs.Offer.{Offer, Result, offer_tested_in, offer_with, offer, offer_in}
 use Rattle.books.specs.Layout.{read_book}
 use Rattle.books.specs.Calls.{open_number, in_bytes, offer_to, offer_bytes}
 use Rattle.tally_feed.specs.Tally.{Front, last_known_end, schedule_end_from, schedule_end, schedule_to, front_with, front_of, opened_with, begin, record_size, offered_as, offered, step, Tally, step_then, points_from, points}
@@ -59,7 +59,7 @@ shapeless s e true h = let z : ◌≡◌ {A = ℕ} 0 1 = cc (shaped-end s h) in 
 shapeless s e false h = refl
 
 endless_unread : (s : List ℕ) → record_end s ≡ None → read_point s ≡ None
-unfolding read_point
+unfolding read_point_in
 endless_unread s e = rw (shapeless s e (well_shaped s) refl)
 
 -- all records that can't be read are answered alike
@@ -68,7 +68,7 @@ module _ (schedule book peers : List ℕ) (leader : ℕ) (s t : List ℕ) (p : r
   offering bytes = record { schedule = schedule; leader = leader; bytes = bytes; peers = peers }
 
   unread-offers : (z : Opened) (x : Option Schedule) → read_schedule schedule ≡ x → offer z (offering s) ≡ offer z (offering t)
-  unfolding offer offer_tested offer_with
+  unfolding offer_in offer_tested_in offer_with
   unread-offers z None e = rw e
   unread-offers z (Some d) e = rw (e, p, q)
 

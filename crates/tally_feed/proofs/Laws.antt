@@ -1,5 +1,5 @@
 -- Laws of feeds: how far their parts reach, and that a part of a feed that is long enough gives what the whole gives.
-use Rattle.std.specs.Prelude.{option_map, unwrap_or, Option, None, Some, Ok, Err}
+use Rattle.std.specs.Prelude.{unwrap_or, Option, None, Some, Ok, Err}
 use Prim.Native.Nat.{ℕ, zero, suc, ◌+◌, ◌≤◌, ◌<◌}
 use native.Mathlib.Omega.{arith}
 use native.Mathlib.Numerals.{add-one}
@@ -170,6 +170,7 @@ refused-some refusal.Uncovered e = omega (arith, e)
 refused-some refusal.Book e = omega (arith, e)
 refused-some refusal.Kept e = omega (arith, e)
 refused-some refusal.Full e = omega (arith, e)
+refused-some refusal.Output e = omega (arith, e)
 
 -- a book that is not opened is as it was
 pub unopened : (settings s : List ℕ) → (open_number settings (length s) ≡ 0 → ⊥) → open_bytes settings s ≡ s

@@ -6,7 +6,7 @@ use Rattle.parts.specs.Limits.{settings_length, peers_room}
 use Rattle.base.specs.Base.{pick}
 use Rattle.record.specs.Record.{field_row, field_ok, next_at, end_from, record_end}
 use Rattle.point.specs.Point.{PointInfo}
-use Rattle.point.specs.Reading.{read_point}
+use Rattle.point.specs.Reading.{read_point, read_point_in}
 use Rattle.schedule.specs.Settings.{Settings, read_settings}
 use Rattle.schedule.specs.Schedule.{read_schedule}
 use Rattle.reasons.specs.IllFormed.{ill_formed_number}
@@ -111,7 +111,7 @@ offered schedule book peers place leader size bytes =
 
 -- "leader byte and record per point"; the place is the one that the line is to have
 unfoldable pub step : List ℕ → List ℕ → List ℕ → ℕ → List ℕ → Step
-unfolding record_size read_point offer_bytes
+unfolding record_size read_point_in offer_bytes
 step schedule book peers place [] = over
 step schedule book peers place (leader ∷ s) = offered schedule book peers place leader (suc (record_size s)) (take (record_size s) s)
 

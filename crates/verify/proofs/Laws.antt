@@ -26,7 +26,7 @@ use Rattle.reasons.specs.IllFormed.{error_answer}
 use Rattle.reasons.specs.declared.ill_formed.StructureIssue.{StructureIssue}
 use Rattle.reasons.specs.declared.ill_formed.VerifyError.{VerifyError}
 use Rattle.rules.specs.Verify.{Scheduled, scheduled, verify, faults, vset_row, new_rows, structure, genesis_rows, sticky_fault, above_rows, well_formed_rows, peer_rows, buffer_with}
-use Rattle.rules.specs.Judge.{tested_with, tested, verified_from}
+use Rattle.rules.specs.Judge.{tested_with, tested, tested_in, verified_from}
 
 -- ---- faults that tell of no unknown peers
 
@@ -141,6 +141,6 @@ module _ (o : Option code-settings.Settings) (r : Option code-schedule.PeerSched
   pub read_all : (c : code-settings.Settings) (k : code-schedule.PeerSchedule) (p : code-point.Point) (settings schedule rec : List ℕ) (others : Bool) (size : ℕ) →
       option_map settings_of o ≡ read_settings settings → o ≡ Some c → ScheduleRead schedule r → r ≡ Some k → PointRead rec q → q ≡ Some p →
       tested settings schedule rec others size ≡ tested_with (Some (settings_of c)) (Some (peer_schedule_of k)) (Some (said p)) others size
-  unfolding tested
+  unfolding tested_in
   read_all c k p settings schedule rec others size t d u e v f =
       rw (sym t, schedule_read schedule r u, said_read rec q v, d, e, f) refl

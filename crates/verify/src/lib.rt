@@ -35,7 +35,7 @@ pub fn verify_point(
 
 // Numbers 1 to 5 in number order, then the verdict. The tests of 2 to 5 stand in judge and in book too: a function of them that hands out
 // schedule and point copies both, and verifying 4 peers takes 3,025 instructions with it in place of 2,500.
-#[tactic(auto, unfolding(rules::specs::Judge::tested))]
+#[tactic(auto, unfolding(rules::specs::Judge::tested_in))]
 pub fn verify(
     settings: &[u8],
     schedule: &[u8],

@@ -1,9 +1,9 @@
 // The peers of a map that are not scheduled, written into the peer buffer.
 #![tactic(auto)]
 
-ghost use Rattle.std.specs.Prelude.{◌≡◌, true, ◌*◌, ◌≤◌, ◌<◌, length, get_or};
+ghost use Rattle.std.specs.Prelude.{◌≡◌, true, ◌+◌, ◌*◌, ◌≤◌, length};
 ghost use Rattle.parts.specs.Bytes.{put_at};
-ghost use Rattle.map.specs.Rows.{peers_of, rising};
+ghost use Rattle.map.specs.Rows.{peer_at, peers_of, rising};
 ghost use Rattle.rules.specs.Unknown.{unknown_in, peer_bytes};
 ghost use Rattle.verify_unknown.specs.Code.{order_at};
 
@@ -11,12 +11,12 @@ use std::cmp::Ordering;
 
 // How the scheduled peer at a position stands to the peer of a row; past the last it counts as greater.
 #[tactic(auto, unfolding(crate::specs::Code::order_at))]
-fn order_at(scheduled: &[u8], j: usize, rows: &[u8], width: usize, i: usize) -> Ordering
-    requires { (32 ≤ width) × (i < length (peers_of width rows.now)) }
-    ensures { result ≡ order_at (peers_of 32 scheduled.now) j (get_or (peers_of width rows.now) i 0) }
+fn order_at(scheduled: &[u8], j: usize, rows: &[u8], i: usize) -> Ordering
+    requires { 32 * i + 32 ≤ length rows.now }
+    ensures { result ≡ order_at (peers_of 32 scheduled.now) j (peer_at rows.now i) }
 {
     if j < map::count(scheduled, 32) {
-        return map::compare_rows(scheduled, 32, j, rows, width, i);
+        return map::compare_rows(scheduled, j, rows, i);
     }
     Ordering::Greater
 }
@@ -39,14 +39,14 @@ pub fn unknown_peers(rows: &[u8], width: usize, scheduled: &[u8], out: &mut [u8]
     let mut j = 0;
     let mut found = 0;
     while i < n {
-        match order_at(scheduled, j, rows, width, i) {
+        match order_at(scheduled, j, rows, i) {
             Ordering::Less => j += 1,
             Ordering::Equal => {
                 i += 1;
                 j += 1;
             }
             Ordering::Greater => {
-                let peer = map::peer_at(rows, width, i);
+                let peer = map::peer_at(rows, i);
                 write::put_id(out, 32 * found, peer);
                 found += 1;
                 i += 1;

@@ -1,9 +1,11 @@
 -- Laws of bytes that are written into a list: the bytes of a number, and where they stand.
-use Rattle.std.proofs.Common.{ℕ, zero, suc, ◌+◌, ◌*◌, ◌/◌, ◌%◌, ◌^◌, ◌≤◌, ◌<◌, add-zero, zero-add, add-suc, suc-add, mul_assoc, mul_comm, mod-eq_of_lt, arith, ◌≡◌, refl, ap, sym, ◌∙◌, List, [], ◌∷◌, ◌++◌, append_assoc, append-nil, pow-add, length, take, drop, length-append, take-append-drop, take_at, drop_at, length-take-le}
+use Rattle.std.proofs.Common.{ℕ, zero, suc, ◌+◌, ◌*◌, ◌/◌, ◌%◌, ◌^◌, ◌≤◌, ◌<◌, add-zero, zero-add, add-suc, suc-add, mul_assoc, mul_comm, mod-eq_of_lt, arith, ◌≡◌, refl, ap, sym, ◌∙◌, List, [], ◌∷◌, ◌++◌, append_assoc, append-nil, pow-add, length, take, drop, length-append, take-append-drop, take_at, drop_at, length-take-le, drop-drop, set, ◌-◌, ◌⊎◌, inl, inr}
 use Rattle.std.proofs.Math.Nat.{pow-succ', one-le-pow, mul-add-div_right, mul-add-mod_self_right, div-div-eq-div-mul, mod-one}
 use Rattle.std.proofs.Math.Arith.{digits_div, mod-mul}
 use Rattle.std.proofs.Math.Seq.{sets, sets-eq, length-sets, drop-append-add}
+use lib.Seq.{set_comm, take-append-le, drop-append-le}
 use Rattle.parts.specs.Bytes.{big, bytes_at, big_bytes, put_at, Bytes}
+use Rattle.parts.proofs.Laws.{part_front, at_length}
 
 -- ---- the bytes of a number
 
@@ -91,6 +93,88 @@ unfolding put_at
 put_read l at vs n e h =
     rw (append_assoc (take at l) vs (drop (at + length vs) l), drop_at (take at l) (vs ++ drop (at + length vs) l) at (length-take-le at l h))
     (take_at vs (drop (at + length vs) l) n e)
+
+-- ---- what a run leaves
+
+put_unfolded : (l : List ℕ) (at : ℕ) (vs : List ℕ) → put_at l at vs ≡ take at l ++ vs ++ drop (at + length vs) l
+unfolding put_at
+put_unfolded l at vs = refl
+
+put_first : (out rec : List ℕ) → put_at out 0 rec ≡ rec ++ drop (length rec) out
+unfolding put_at
+put_first out rec = ap (λ n. rec ++ drop n out) (zero-add (length rec))
+
+module _ (s : List ℕ) (at : ℕ) (c : List ℕ) (room : at + length c ≤ length s) where
+  put-front : take at (put_at s at c) ≡ take at s
+  unfolding put_at
+  put-front = rw (append_assoc (take at s) c (drop (at + length c) s)) (take_at (take at s) (c ++ drop (at + length c) s) at (length-take-le at s (omega arith)))
+
+  put-rest : drop (at + length c) (put_at s at c) ≡ drop (at + length c) s
+  unfolding put_at
+  put-rest =
+      let front = length-take-le at s (omega arith) in
+      drop_at (take at s ++ c) (drop (at + length c) s) (at + length c) (length-append (take at s) c ∙ omega arith)
+
+  -- what stands before the place or after the bytes that are put there
+  pub put-apart : (n i : ℕ) → (i + n ≤ at) ⊎ (at + length c ≤ i) → bytes_at n (put_at s at c) i ≡ bytes_at n s i
+  put-apart n i (inl h) =
+      sym (part_front at n i (put_at s at c) h) ∙ (ap (λ l. bytes_at n l i) put-front ∙ part_front at n i s h)
+  put-apart n i (inr h) =
+      let e : at + length c + (i - (at + length c)) ≡ i = omega arith in
+      let later = λ (l : List ℕ). sym (ap (λ m. drop m l) (sym e) ∙ sym (drop-drop (i - (at + length c)) (at + length c) l)) in
+      ap (take n) (sym (later (put_at s at c)) ∙ (ap (drop (i - (at + length c))) put-rest ∙ later s))
+
+  -- another run as long, at the same place
+  pub put-over : (d : List ℕ) → length d ≡ length c → put_at (put_at s at c) at d ≡ put_at s at d
+  put-over d e =
+      let last = ap (λ n. at + n) e in
+      rw (put_unfolded (put_at s at c) at d, put_unfolded s at d, last, put-front, put-rest) refl
+
+-- what stands there already
+pub put-same : (s : List ℕ) (n at : ℕ) → at + n ≤ length s → put_at s at (bytes_at n s at) ≡ s
+unfolding put_at
+put-same s n at h =
+    rw (
+      at_length n s at h,
+      append_assoc (take at s) (bytes_at n s at) (drop (at + n) s),
+      ← drop-drop n at s,
+      take-append-drop n (drop at s),
+      take-append-drop at s,
+    ) refl
+
+-- runs that lie apart may be written in either order
+set_sets : (l : List ℕ) (i j a : ℕ) (ys : List ℕ) → i < j → sets (set l i a) j ys ≡ set (sets l j ys) i a
+set_sets l i j a [] h = refl
+set_sets l i j a (y ∷ ys) h = ap (λ m. sets m (suc j) ys) (set_comm l i j a y (λ e. omega arith)) ∙ set_sets (set l j y) i (suc j) a ys (omega arith)
+
+sets_comm : (l : List ℕ) (i j : ℕ) (xs ys : List ℕ) → i + length xs ≤ j → sets (sets l i xs) j ys ≡ sets (sets l j ys) i xs
+sets_comm l i j [] ys h = refl
+sets_comm l i j (x ∷ xs) ys h = sets_comm (set l i x) (suc i) j xs ys (omega arith) ∙ ap (λ m. sets m (suc i) xs) (set_sets l i j x ys (omega arith))
+
+pub put-either : (l : List ℕ) (i j : ℕ) (xs ys : List ℕ) → i + length xs ≤ j → j + length ys ≤ length l →
+    put_at (put_at l i xs) j ys ≡ put_at (put_at l j ys) i xs
+put-either l i j xs ys h g =
+    let first = put_is l i xs (omega arith) in
+    let second = put_is l j ys g in
+    rw (
+      ← put_is (put_at l i xs) j ys (omega (arith, put_length l i xs (omega arith))),
+      ← put_is (put_at l j ys) i xs (omega (arith, put_length l j ys g)),
+      ← first,
+      ← second,
+    ) (sets_comm l i j xs ys h)
+
+-- a run within a run
+pub put-inside : (out rec : List ℕ) (at : ℕ) (c : List ℕ) → length rec ≤ length out → at + length c ≤ length rec →
+    put_at (put_at out 0 rec) at c ≡ put_at out 0 (put_at rec at c)
+put-inside out rec at c h g =
+    let rest = drop (length rec) out in
+    let whole : put_at out 0 rec ≡ rec ++ rest = put_first out rec in
+    rw (whole, put_first out (put_at rec at c), put_length rec at c g, put_unfolded (rec ++ rest) at c, put_unfolded rec at c)
+    (rw (
+      take-append-le at rec rest (omega arith),
+      drop-append-le (at + length c) rec rest g,
+      append_assoc (take at rec ++ c) (drop (at + length c) rec) rest,
+    ) refl)
 
 -- ---- ids
 

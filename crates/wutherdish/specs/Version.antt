@@ -7,7 +7,7 @@ abi = 1
 
 -- the bytes that are lent and answered
 abbrev pub format : ℕ
-format = 1
+format = 2
 
 -- the library's own version
 abbrev pub major : ℕ

@@ -1,13 +1,18 @@
 // The calls for other languages, over the proved ones. Crate wutherdish_c exports them. The parameters are document
-// 01's, in its order.
+// 01's, in its order; those of calls that tickets add are in the header's.
 #![tactic(auto)]
 
 ghost use Rattle.std.specs.Prelude.{◌≡◌, true, length};
+ghost use Rattle.map.specs.declared.Arrangement.TheVariants.{Pairs, Columns};
+ghost use Rattle.point.specs.Converted.{conversion, output};
 ghost use Rattle.rules.specs.Judge.{tested, verify_with, verify_buffer, flags_ok, judge_with};
 ghost use Rattle.books.specs.Calls.{open_number, open_bytes, offer_bytes};
 ghost use Rattle.books.specs.Offer.{offer_of};
 ghost use Rattle.rules.specs.Answer.{verify_number, verify_answer, judge_number, judge_answer};
+ghost use Rattle.reasons.specs.Refusal.{numbered, filled_number, filled_count};
 ghost use Rattle.wutherdish.specs.Version.{version};
+
+use reasons::Refusal;
 
 // Verifies a point. Answers document 01's number, or 0 with the verdict in `answer` and the unknown peers in `peers`; with a
 // number no lent byte changes.
@@ -103,9 +108,42 @@ pub fn wutherdish_offer(
     }
 }
 
+// What the converters' calls answer: the number, or 0 with the count in `written`.
+fn tell(done: Result<u32, Refusal>, written: &mut u32) -> u8
+    ensures number { result ≡ filled_number (numbered done) }
+    ensures count { written.new ≡ filled_count (numbered done) written.old }
+{
+    match done {
+        Err(refusal) => refusal.number(),
+        Ok(count) => {
+            *written = count;
+            0
+        }
+    }
+}
+
+// Moves a point record from the arrangement before ticket U5, pairs, into columns. Answers 3, 14, or 0 with the record in the front of
+// `out` and its length in `written`; with a number no lent byte changes.
+pub fn wutherdish_pairs_to_columns(rec: &[u8], out: &mut [u8], written: &mut u32) -> u8
+    ensures number { result ≡ filled_number (conversion Pairs rec.now (length out.old)) }
+    ensures filled { out.new ≡ output Pairs rec.now out.old (conversion Pairs rec.now (length out.old)) }
+    ensures count { written.new ≡ filled_count (conversion Pairs rec.now (length out.old)) written.old }
+{
+    tell(convert::pairs_to_columns(rec, out), written)
+}
+
+// And back, from columns into pairs; answers likewise.
+pub fn wutherdish_columns_to_pairs(rec: &[u8], out: &mut [u8], written: &mut u32) -> u8
+    ensures number { result ≡ filled_number (conversion Columns rec.now (length out.old)) }
+    ensures filled { out.new ≡ output Columns rec.now out.old (conversion Columns rec.now (length out.old)) }
+    ensures count { written.new ≡ filled_count (conversion Columns rec.now (length out.old)) written.old }
+{
+    tell(convert::columns_to_pairs(rec, out), written)
+}
+
 // Answers which library this is: ABI, format, major and minor version, a byte each.
 pub fn wutherdish_version() -> u32
     ensures { result ≡ version }
 {
-    0x01010001
+    0x01020001
 }

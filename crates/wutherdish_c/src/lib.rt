@@ -1,8 +1,11 @@
 // The calls of crate wutherdish, exported to C under the same names: a static library. The parameters are document 01's, in its
-// order.
+// order; those of calls that tickets add are in the header's.
 #![tactic(auto)]
 
 ghost use Rattle.std.specs.Prelude.{◌≡◌, true, length};
+ghost use Rattle.map.specs.declared.Arrangement.TheVariants.{Pairs, Columns};
+ghost use Rattle.point.specs.Converted.{conversion, output};
+ghost use Rattle.reasons.specs.Refusal.{filled_number, filled_count};
 ghost use Rattle.rules.specs.Judge.{tested, verify_with, verify_buffer, flags_ok, judge_with};
 ghost use Rattle.books.specs.Calls.{open_number, open_bytes, offer_bytes};
 ghost use Rattle.books.specs.Offer.{offer_of};
@@ -86,6 +89,27 @@ pub extern "C" fn wutherdish_offer(
         (offer_of schedule.now leader rec.now peers.old)).after }
 {
     wutherdish::wutherdish_offer(book, schedule, leader, rec, peers, answer)
+}
+
+// Moves a point record from the arrangement before ticket U5, pairs, into columns. Answers 3, 14, or 0 with the record in the front of
+// `out` and its length in `written`; with a number no lent byte changes.
+#[unsafe(no_mangle)]
+pub extern "C" fn wutherdish_pairs_to_columns(rec: &[u8], out: &mut [u8], written: &mut u32) -> u8
+    ensures number { result ≡ filled_number (conversion Pairs rec.now (length out.old)) }
+    ensures filled { out.new ≡ output Pairs rec.now out.old (conversion Pairs rec.now (length out.old)) }
+    ensures count { written.new ≡ filled_count (conversion Pairs rec.now (length out.old)) written.old }
+{
+    wutherdish::wutherdish_pairs_to_columns(rec, out, written)
+}
+
+// And back, from columns into pairs; answers likewise.
+#[unsafe(no_mangle)]
+pub extern "C" fn wutherdish_columns_to_pairs(rec: &[u8], out: &mut [u8], written: &mut u32) -> u8
+    ensures number { result ≡ filled_number (conversion Columns rec.now (length out.old)) }
+    ensures filled { out.new ≡ output Columns rec.now out.old (conversion Columns rec.now (length out.old)) }
+    ensures count { written.new ≡ filled_count (conversion Columns rec.now (length out.old)) written.old }
+{
+    wutherdish::wutherdish_columns_to_pairs(rec, out, written)
 }
 
 // Answers which library this is: ABI, format, major and minor version, a byte each.

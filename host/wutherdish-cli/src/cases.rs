@@ -1,21 +1,37 @@
 //! A file of cases: each is its kind, its number of blobs, and each blob after its length.
 
 use wutherdish::lent::{self, ANSWER, PEER_BUFFER};
-use wutherdish::{Refusal, Unreadable, Verdict, Verified, VerifyError};
+use wutherdish::{Point, Refusal, Unreadable, Verdict, Verified, VerifyError};
 
-/// A call of verifying or judging, with what it is lent.
+use crate::arrangement::Arrangement;
+
+/// A call, with what it is lent.
 pub struct Case<'a> {
     /// Its place in the file, counted from 1.
     pub place: usize,
-    /// The bytes of its point record.
-    pub record: &'a [u8],
-    /// What judging is lent beside it; none for verifying.
-    pub judging: Option<Judging<'a>>,
+    /// Which call it is.
+    pub call: Call<'a>,
     /// Where the next one begins.
     pub end: usize,
+    record: &'a [u8],
+    /// How many bytes it is lent for unknown peers, or for the converted record.
+    room: usize,
+}
+
+/// A call, with what it is lent beside the record and what it writes to.
+pub enum Call<'a> {
+    /// Verifying.
+    Verify(Network<'a>),
+    /// Judging.
+    Judge(Network<'a>, Judging<'a>),
+    /// Converting to this arrangement.
+    Convert(Arrangement),
+}
+
+/// Settings and schedule.
+pub struct Network<'a> {
     settings: &'a [u8],
     schedule: &'a [u8],
-    buffer: usize,
 }
 
 /// What judging takes and verifying does not.
@@ -33,6 +49,8 @@ pub enum Answer {
     Passed,
     /// A verdict; verifying gives some of them.
     Verdict(Verdict),
+    /// The record was converted.
+    Converted,
 }
 
 impl From<Verified> for Answer {
@@ -72,25 +90,33 @@ impl<'a> Cases<'a> {
     }
 
     fn case(&mut self) -> Result<Case<'a>, Unreadable> {
-        let unreadable = Unreadable { at: self.at, wanted: "a case: 1 for verifying or 2 for judging, and its blobs" };
+        let wanted = "a case: 1 for verifying, 2 for judging or 17 for converting, and its blobs";
+        let unreadable = Unreadable { at: self.at, wanted };
         let head = self.take(2, unreadable.wanted)?;
         let (kind, count) = (head[0], head[1]);
         let blobs = (0..count).map(|_| self.blob()).collect::<Result<Vec<_>, _>>()?;
-        let (settings, schedule, record, buffer, judging) = match (kind, &blobs[..]) {
-            (1, &[settings, schedule, record, buffer] | &[settings, schedule, record, buffer, _]) => {
-                (settings, schedule, record, buffer, None)
-            }
-            (
-                2,
-                &[settings, schedule, record, &[leader, presence], list, buffer]
-                | &[settings, schedule, record, &[leader, presence], list, buffer, _],
-            ) => (settings, schedule, record, buffer, Some(Judging { leader, presence, list })),
-            _ => return Err(unreadable),
-        };
-        let buffer = if buffer.len() == 4 { number(buffer) } else { return Err(unreadable) };
+        let (call, record, room) = call(kind, &blobs).ok_or(unreadable)?;
+        let room = if room.len() == 4 { number(room) } else { return Err(unreadable) };
         self.place += 1;
-        Ok(Case { place: self.place, record, judging, end: self.at, settings, schedule, buffer })
+        Ok(Case { place: self.place, call, end: self.at, record, room })
     }
+}
+
+/// The call of a kind with these blobs, which may end in an answer; its record; the length of what it writes to.
+fn call<'a>(kind: u8, blobs: &[&'a [u8]]) -> Option<(Call<'a>, &'a [u8], &'a [u8])> {
+    Some(match (kind, blobs) {
+        (1, &[settings, schedule, record, room] | &[settings, schedule, record, room, _]) => {
+            (Call::Verify(Network { settings, schedule }), record, room)
+        }
+        (
+            2,
+            &[settings, schedule, record, &[leader, presence], list, room]
+            | &[settings, schedule, record, &[leader, presence], list, room, _],
+        ) => (Call::Judge(Network { settings, schedule }, Judging { leader, presence, list }), record, room),
+        (17, &[&[0], record, room] | &[&[0], record, room, _]) => (Call::Convert(Arrangement::Columns), record, room),
+        (17, &[&[1], record, room] | &[&[1], record, room, _]) => (Call::Convert(Arrangement::Pairs), record, room),
+        _ => return None,
+    })
 }
 
 impl<'a> Iterator for Cases<'a> {
@@ -109,29 +135,48 @@ impl<'a> Iterator for Cases<'a> {
 }
 
 impl<'a> Case<'a> {
-    /// The bytes of its list; none for verifying.
+    /// The bytes of its list; none where it doesn't judge.
     pub fn list(&self) -> &'a [u8] {
-        self.judging.as_ref().map_or(&[], |judging| judging.list)
+        match &self.call {
+            Call::Judge(_, judging) => judging.list,
+            Call::Verify(_) | Call::Convert(_) => &[],
+        }
+    }
+
+    /// What its record says, if that can be read.
+    pub fn point(&self) -> Option<Point> {
+        let arrangement = match self.call {
+            Call::Convert(to) => to.other(),
+            Call::Verify(_) | Call::Judge(..) => Arrangement::Columns,
+        };
+        arrangement.reader()(self.record).ok().filter(|(_, rest)| rest.is_empty()).map(|(point, _)| point)
     }
 
     /// Makes the call.
     pub fn answer(&self) -> Result<Answer, Refusal> {
-        let Self { settings, schedule, record, .. } = self;
         // a longer buffer makes no difference, and a case may name one of 4 GiB
-        let mut peers = vec![0; self.buffer.min(PEER_BUFFER)];
+        let mut room = vec![0; self.room.min(PEER_BUFFER.max(self.record.len()))];
         let mut answer = [0; ANSWER];
-        let number = match &self.judging {
-            None => lent::verify(settings, schedule, record, &mut peers, &mut answer),
-            Some(Judging { leader, presence, list }) => {
-                lent::judge(settings, schedule, record, *leader, *presence, list, &mut peers, &mut answer)
-            }
-        };
-        let read = match (number, &self.judging) {
-            (0, None) => Verified::read(&answer, &peers).map(Answer::from),
-            (0, Some(_)) => Verdict::read(&answer, &peers).map(Answer::Verdict),
+        let number = self.number(&mut room, &mut answer);
+        let read = match (number, &self.call) {
+            (0, Call::Verify(_)) => Verified::read(&answer, &room).map(Answer::from),
+            (0, Call::Judge(..)) => Verdict::read(&answer, &room).map(Answer::Verdict),
+            (0, Call::Convert(_)) => Some(Answer::Converted),
             (number, _) => return Err(Refusal::new(number)),
         };
         read.ok_or(Refusal::Foreign(0))
+    }
+
+    /// The number that the call gives, 0 for none.
+    fn number(&self, room: &mut [u8], answer: &mut [u8; ANSWER]) -> u8 {
+        match &self.call {
+            Call::Verify(Network { settings, schedule }) => lent::verify(settings, schedule, self.record, room, answer),
+            Call::Judge(Network { settings, schedule }, Judging { leader, presence, list }) => {
+                lent::judge(settings, schedule, self.record, *leader, *presence, list, room, answer)
+            }
+            Call::Convert(Arrangement::Columns) => lent::pairs_to_columns(self.record, room, &mut 0),
+            Call::Convert(Arrangement::Pairs) => lent::columns_to_pairs(self.record, room, &mut 0),
+        }
     }
 }
 

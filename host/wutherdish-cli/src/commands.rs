@@ -5,7 +5,9 @@ use std::io::{self, IsTerminal};
 
 use wutherdish::{Book, Point, Refusal, Unreadable};
 
+use crate::arrangement::Arrangement;
 use crate::cases::Cases;
+use crate::convert::{convert_feed, convert_records};
 use crate::explain::Explain;
 use crate::feed::Feed;
 use crate::files::{Identity, write_file};
@@ -173,6 +175,30 @@ pub fn tally(file: &OsStr, progress: bool) -> Result<(), Problem> {
     out.finish()
 }
 
+/// A feed or a file of records, converted. Where a record can't be read, nothing is written.
+pub fn convert(file: &OsStr, to: Arrangement, output: Option<&OsStr>) -> Result<(), Problem> {
+    not_for_terminal("converted records are", output)?;
+    let input = Input::read(file)?;
+    input.spare(output.map(|output| ("-o", output)))?;
+    let converted = match input.kind()? {
+        Kind::Record => convert_records(&input.bytes, to),
+        Kind::Feed => convert_feed(&feed(&input)?, to),
+        Kind::Book => return Err(Problem::file(&input.name, "a book, which is not converted but begun anew")),
+        Kind::Cases => return Err(Problem::file(&input.name, "a file of cases, which is not converted")),
+    };
+    write(output, &converted.map_err(|bad| Problem::file(&input.name, bad))?)
+}
+
+/// Refuses to write bytes to a terminal.
+fn not_for_terminal(what: &str, output: Option<&OsStr>) -> Result<(), Problem> {
+    match output.is_none() && io::stdout().is_terminal() {
+        true => Err(Problem::Usage(format!(
+            "{what} bytes, not for a terminal: name a file with -o, or send them elsewhere"
+        ))),
+        false => Ok(()),
+    }
+}
+
 /// The drills by name.
 pub fn drills() -> Result<(), Problem> {
     let drills = wutherdish_drills::all();
@@ -187,10 +213,7 @@ pub fn drill(name: &OsStr, output: Option<&OsStr>) -> Result<(), Problem> {
         let what = format!("no drill is called {}; `wutherdish drill` lists them", shown(name));
         return Err(Problem::Usage(what));
     };
-    if output.is_none() && io::stdout().is_terminal() {
-        let what = "a drill is bytes, not for a terminal: name a file with -o, or send them elsewhere";
-        return Err(Problem::Usage(what.into()));
-    }
+    not_for_terminal("a drill is", output)?;
     write(output, drill.input.bytes())
 }
 

@@ -4,7 +4,7 @@ use std::io::Write;
 
 use wutherdish::{Point, Refusal, Unreadable};
 
-use crate::cases::{Answer, Case, Cases};
+use crate::cases::{Answer, Call, Case, Cases};
 use crate::feed::Feed;
 use crate::problem::Problem;
 use crate::progress::Progress;
@@ -104,14 +104,14 @@ impl<W: Write> Explain<'_, W> {
     }
 
     fn case(&self, case: &Case<'_>) -> String {
-        let leader = case.judging.as_ref().map_or(0, |judging| judging.leader);
-        let point = match Point::read(case.record) {
-            Ok((point, [])) => self.words.point(&point, leader),
-            _ => "a record that can't be read".into(),
+        let point = |leader| {
+            let said = |point| self.words.point(&point, leader);
+            case.point().map_or_else(|| "a record that can't be read".into(), said)
         };
-        match &case.judging {
-            None => format!("verify: {point}"),
-            Some(judging) => format!("judge: {point}, presence {}", judging.presence),
+        match &case.call {
+            Call::Verify(_) => format!("verify: {}", point(0)),
+            Call::Judge(_, judging) => format!("judge: {}, presence {}", point(judging.leader), judging.presence),
+            Call::Convert(to) => format!("convert: {}, from {} to {}", point(0), to.other().name(), to.name()),
         }
     }
 

@@ -10,7 +10,8 @@ pub struct Feed<'a> {
     pub settings: &'a [u8],
     /// The bytes of its schedule.
     pub schedule: &'a [u8],
-    bytes: &'a [u8],
+    /// All its bytes.
+    pub bytes: &'a [u8],
 }
 
 /// A point of a feed.
@@ -43,9 +44,14 @@ impl<'a> Feed<'a> {
         Ok(Self { front: (network, spans), settings: &bytes[..SETTINGS], schedule, bytes })
     }
 
+    /// Where its points begin.
+    pub fn points_at(&self) -> usize {
+        SETTINGS + self.schedule.len()
+    }
+
     /// Its points.
     pub fn offers(&self) -> Offers<'a> {
-        Offers { bytes: self.bytes, at: SETTINGS + self.schedule.len(), place: 0 }
+        Offers { bytes: self.bytes, at: self.points_at(), place: 0 }
     }
 }
 
@@ -71,6 +77,6 @@ impl<'a> Iterator for Offers<'a> {
 }
 
 /// The same, counted from the front of bytes that have n more before it.
-fn further(unreadable: Unreadable, before: usize) -> Unreadable {
+pub fn further(unreadable: Unreadable, before: usize) -> Unreadable {
     Unreadable { at: unreadable.at + before, ..unreadable }
 }

@@ -49,9 +49,7 @@ impl Ids {
     pub fn of_cases(cases: Cases<'_>) -> Self {
         let mut ids = Self::default();
         for case in cases.flatten() {
-            if let Ok((point, _)) = Point::read(case.record) {
-                ids.add_point(&point);
-            }
+            case.point().iter().for_each(|point| ids.add_point(point));
             let mut list = case.list();
             while let Some((tag, content, rest)) = field(list) {
                 if let (1 | 17 | 18, Some(id)) = (tag, content.get(4..68)) {

@@ -1,8 +1,10 @@
 //! The command for node crews, trainers and reconcilers: verdicts in words, books as pictures.
 
 mod arguments;
+mod arrangement;
 mod cases;
 mod commands;
+mod convert;
 mod explain;
 mod feed;
 mod files;
@@ -25,6 +27,7 @@ use std::ffi::{OsStr, OsString};
 use std::process::ExitCode;
 
 use arguments::Arguments;
+use arrangement::Arrangement;
 use problem::Problem;
 
 fn main() -> ExitCode {
@@ -50,6 +53,7 @@ fn run(mut arguments: Arguments) -> Result<(), Problem> {
         Some("explain") => explain(arguments),
         Some("show") => show(arguments),
         Some("tally") => tally(arguments),
+        Some("convert") => convert(arguments),
         Some("drill") => drill(arguments),
         Some("demo") => demo(arguments),
         Some("help") => help(arguments),
@@ -85,6 +89,13 @@ fn tally(mut arguments: Arguments) -> Result<(), Problem> {
     commands::tally(file.as_deref().unwrap_or(OsStr::new("-")), progress)
 }
 
+fn convert(mut arguments: Arguments) -> Result<(), Problem> {
+    let (to, output) = (arrangement(&mut arguments)?, arguments.value(&usage::OUTPUT));
+    let file = file(&mut arguments)?;
+    arguments.done()?;
+    commands::convert(&file, to, output.as_deref())
+}
+
 fn drill(mut arguments: Arguments) -> Result<(), Problem> {
     let output = arguments.value(&usage::OUTPUT);
     let name = arguments.next();
@@ -110,6 +121,13 @@ fn help(mut arguments: Arguments) -> Result<(), Problem> {
 
 fn file(arguments: &mut Arguments) -> Result<OsString, Problem> {
     arguments.next().ok_or_else(|| Problem::Usage("a file is missing".into()))
+}
+
+/// The arrangement that records are brought to. There is no other way to tell which one they have.
+fn arrangement(arguments: &mut Arguments) -> Result<Arrangement, Problem> {
+    let value = arguments.value(&usage::TO);
+    let wanted = "--to columns or --to pairs says what records are converted to";
+    value.as_deref().and_then(Arrangement::named).ok_or_else(|| Problem::Usage(wanted.into()))
 }
 
 /// The book's size. The calls refuse another one.

@@ -7,10 +7,11 @@ use wutherdish::{Kept, Refusal};
 
 use crate::cases::Answer;
 
-/// The answers by `tally`'s letters, in the order of a summary. P is none of them: `tally` only judges.
-const KINDS: [(char, &str); 7] = [
+/// The answers by `tally`'s letters, in the order of a summary. P and C are none of them: `tally` only judges.
+const KINDS: [(char, &str); 8] = [
     ('V', "valid"),
     ('P', "passed"),
+    ('C', "converted"),
     ('T', "trans-invalid"),
     ('I', "invalid"),
     ('L', "ill-formed"),
@@ -34,6 +35,7 @@ impl Summary {
     pub fn add(&mut self, answer: &Result<Answer, Refusal>) {
         match answer {
             Ok(Answer::Passed) => self.count('P', None),
+            Ok(Answer::Converted) => self.count('C', None),
             Ok(Answer::Verdict(verdict)) => self.count(verdict.letter(), None),
             Err(refusal) => self.count('-', Some(refusal.number())),
         }

@@ -14,7 +14,7 @@ pub struct Opt {
 pub struct Command {
     /// Its name.
     pub name: &'static str,
-    /// What it takes besides options.
+    /// What it takes besides options that may lack.
     takes: &'static str,
     /// What it does.
     what: &'static str,
@@ -45,6 +45,13 @@ pub const PROGRESS: Opt = Opt {
     value: None,
     what: "says on standard error how far a file is read, also where that is no terminal",
 };
+/// The arrangement that records are brought to.
+pub const TO: Opt = Opt {
+    name: "--to",
+    value: Some("NAME"),
+    what: "what records are converted to: columns, which have the peers of a map first and which\n\
+           all other commands read, or pairs of peer and digest, as before format 2",
+};
 /// Where the output goes.
 pub const OUTPUT: Opt = Opt { name: "-o", value: Some("FILE"), what: "writes to FILE, not to standard output" };
 /// How it is used.
@@ -53,9 +60,9 @@ pub const HELP: Opt = Opt { name: "--help", value: None, what: "says how the com
 pub const VERSION: Opt =
     Opt { name: "--version", value: None, what: "says which version this is, and which library it uses" };
 
-static OPTIONS: [&Opt; 8] = [&LAST, &ROOM, &BOOK, &FULL_IDS, &PROGRESS, &OUTPUT, &HELP, &VERSION];
+static OPTIONS: [&Opt; 9] = [&LAST, &ROOM, &BOOK, &FULL_IDS, &PROGRESS, &TO, &OUTPUT, &HELP, &VERSION];
 
-static COMMANDS: [Command; 6] = [
+static COMMANDS: [Command; 7] = [
     Command {
         name: "explain",
         takes: "FILE",
@@ -73,6 +80,12 @@ static COMMANDS: [Command; 6] = [
         takes: "[FILE]",
         what: "document 01's tally: a line of numbers for each point of a feed",
         options: &[&PROGRESS],
+    },
+    Command {
+        name: "convert",
+        takes: "--to NAME FILE",
+        what: "the bytes of a feed, or of point records one after the other, with each record converted",
+        options: &[&TO, &OUTPUT],
     },
     Command {
         name: "drill",
@@ -125,7 +138,8 @@ pub fn of_all() -> String {
 /// A command's first lines.
 fn usage(command: &Command, indent: &str) -> String {
     let mut line = format!("{indent}wutherdish {}", command.name);
-    let options = command.options.iter().map(|option| format!("[{}]", spelled(option)));
+    let may_lack = command.options.iter().filter(|option| !command.takes.starts_with(option.name));
+    let options = may_lack.map(|option| format!("[{}]", spelled(option)));
     let words = Some(command.takes.to_owned()).filter(|takes| !takes.is_empty()).into_iter().chain(options);
     words.for_each(|word| line += &format!(" {word}"));
     format!("{line}\n{indent}    {}\n", command.what)

@@ -48,6 +48,7 @@ impl Words {
         let verdict = match answer {
             Ok(Answer::Verdict(verdict)) => verdict,
             Ok(Answer::Passed) => return vec![Verified::Passed.to_string()],
+            Ok(Answer::Converted) => return vec!["converted".into()],
             Err(refusal) => return vec![format!("refused with number {}: {refusal}", refusal.number())],
         };
         let mut lines = vec![self.names.say(verdict)];

@@ -59,6 +59,12 @@ pub fn judge(world: &World, point: &Point, presence: u8, list: &[u8]) -> Input {
     case(2, &[&world.settings.to_bytes(), &schedule, &record, &[0, presence], list, &peer_buffer])
 }
 
+/// A case of converting a point's record from pairs to columns with an output of this length.
+pub fn convert(point: &Point, output: impl Fn(u32) -> u32) -> Input {
+    let record = written(point.to_bytes());
+    case(17, &[&[0], &record, &output(record.len() as u32).to_le_bytes()])
+}
+
 fn case(kind: u8, blobs: &[&[u8]]) -> Input {
     let mut bytes = vec![kind, blobs.len() as u8];
     for blob in blobs {

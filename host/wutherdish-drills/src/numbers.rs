@@ -3,13 +3,13 @@
 use wutherdish::lent::PEER_BUFFER;
 use wutherdish::{Dependency, Digest, List, PeerId, Point, State};
 
-use crate::input::{Feed, judge, verify, written};
+use crate::input::{Feed, convert, judge, verify, written};
 use crate::world::{A, B, GENESIS_ROUND, World, id, second_version, trigger};
 use crate::{Answer, Drill};
 
 pub fn drills() -> Vec<Drill> {
     let mut drills = vec![settings(), schedule(), point_record(), domain(), short(), horizon()];
-    drills.extend([entries(), mismatch(), uncovered(), kept(), full()]);
+    drills.extend([entries(), mismatch(), uncovered(), kept(), full(), output()]);
     drills
 }
 
@@ -94,4 +94,11 @@ fn full() -> Drill {
     large.witness = everyone.collect();
     let what = "a second large point, for which the first has left no room";
     Feed::new(&world).offer(&large).offer(&second_version(large)).drill("number-12", what, Answer::Number(12))
+}
+
+/// With one include the record has the same bytes in both arrangements.
+fn output() -> Drill {
+    let input = convert(&World::of_one().genesis(), |length| length - 1);
+    let what = "a case for converting: the output is one byte shorter than the record";
+    Drill { name: "number-14", what, input, answer: Answer::Number(14) }
 }

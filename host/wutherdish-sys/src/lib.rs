@@ -10,8 +10,8 @@ pub const PEER_BUFFER: usize = 8_160;
 /// The version of the calls that are declared here: their names, parameters and results.
 pub const ABI: u8 = 1;
 
-/// The version of the bytes that they are lent and answer with.
-pub const FORMAT: u8 = 1;
+/// The version of the bytes that they are lent and answer with. 2 is for point records with the peers of a map first.
+pub const FORMAT: u8 = 2;
 
 #[link(name = "wutherdish", kind = "static")]
 unsafe extern "C" {
@@ -77,6 +77,32 @@ unsafe extern "C" {
         peers: *mut u8,
         peers_len: usize,
         answer: *mut [u8; ANSWER],
+    ) -> u8;
+
+    /// Converts a record from the arrangement `pairs` to `columns`.
+    ///
+    /// # Safety
+    ///
+    /// As of [`wutherdish_verify`]; what is written is the output and the count, whose pointer is aligned.
+    pub unsafe fn wutherdish_pairs_to_columns(
+        record: *const u8,
+        record_len: usize,
+        out: *mut u8,
+        out_len: usize,
+        written: *mut u32,
+    ) -> u8;
+
+    /// Converts a record from the arrangement `columns` to `pairs`.
+    ///
+    /// # Safety
+    ///
+    /// As of [`wutherdish_pairs_to_columns`].
+    pub unsafe fn wutherdish_columns_to_pairs(
+        record: *const u8,
+        record_len: usize,
+        out: *mut u8,
+        out_len: usize,
+        written: *mut u32,
     ) -> u8;
 
     /// The linked library's ABI, format, major and minor version, a byte each, the ABI in the highest.

@@ -10,6 +10,16 @@ use wutherdish_sys::{ABI, ANSWER, FORMAT, PEER_BUFFER, wutherdish_version};
 /// The repository's root, from the crate's folder, where cargo runs its tests.
 const ROOT: &str = "../..";
 
+/// The calls that give a number.
+const CALLS: [&str; 6] = [
+    "wutherdish_verify",
+    "wutherdish_judge",
+    "wutherdish_open",
+    "wutherdish_offer",
+    "wutherdish_pairs_to_columns",
+    "wutherdish_columns_to_pairs",
+];
+
 /// A file of the repository without comments, its words parted by single spaces.
 fn words(path: &str, comment: (&str, &str)) -> String {
     let text = fs::read_to_string(format!("{ROOT}/{path}")).expect("a file of the repository");
@@ -34,6 +44,7 @@ fn in_rust(parameter: &str) -> String {
         "const uint8_t" => "*const u8",
         "uint8_t" if parameter.contains('*') => "*mut u8",
         "uint8_t" => "u8",
+        "uint32_t" if parameter.contains('*') => "*mut u32",
         "size_t" => "usize",
         other => panic!("{other} is no kind of the header"),
     };
@@ -88,13 +99,13 @@ fn the_version_in_c() {
 fn the_calls() {
     let header = words("include/wutherdish.h", ("/*", "*/"));
     let rust = words("host/wutherdish-sys/src/lib.rs", ("//", "\n"));
-    for call in ["wutherdish_verify", "wutherdish_judge", "wutherdish_open", "wutherdish_offer"] {
+    for call in CALLS {
         assert!(header.contains(&format!("uint8_t {call}(")));
         assert!(rust.contains(&format!("pub unsafe fn {call}(")));
         let expected: Vec<String> = parameters(&header, call).iter().map(|parameter| in_rust(parameter)).collect();
         assert_eq!(parameters(&rust, call), expected);
     }
-    assert_eq!(header.matches("uint8_t wutherdish_").count(), 4);
+    assert_eq!(header.matches("uint8_t wutherdish_").count(), CALLS.len());
     assert!(header.contains("uint32_t wutherdish_version(void);"));
     assert!(rust.contains("pub safe fn wutherdish_version() -> u32;"));
 }

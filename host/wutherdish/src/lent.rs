@@ -1,5 +1,5 @@
-//! The calls on bytes that the host lends: an answer of [`ANSWER`] bytes and a peer buffer, which keep their bytes
-//! where a call gives a number. include/wutherdish.h has the layout of an answer;
+//! The calls on bytes that the host lends: an answer of [`ANSWER`] bytes and a peer buffer, or an output and its count, which
+//! keep what they held where a call gives a number. include/wutherdish.h has the layout of an answer;
 //! [`Verdict::read`](crate::Verdict::read) and [`Verified::read`](crate::Verified::read) make enums of it.
 //!
 //! ```
@@ -105,5 +105,22 @@ pub fn offer(
             peers.len(),
             answer,
         )
+    }
+}
+
+/// Converts a point record from the arrangement `pairs` to `columns`: gives document 01's number, or 0 where the converted record
+/// stands at the front of the output. `written` is its length then; the rest of the output keeps its bytes.
+pub fn pairs_to_columns(record: &[u8], out: &mut [u8], written: &mut u32) -> u8 {
+    // SAFETY: as in `verify`.
+    unsafe {
+        wutherdish_sys::wutherdish_pairs_to_columns(record.as_ptr(), record.len(), out.as_mut_ptr(), out.len(), written)
+    }
+}
+
+/// Converts a point record from the arrangement `columns` to `pairs`, likewise.
+pub fn columns_to_pairs(record: &[u8], out: &mut [u8], written: &mut u32) -> u8 {
+    // SAFETY: as in `verify`.
+    unsafe {
+        wutherdish_sys::wutherdish_columns_to_pairs(record.as_ptr(), record.len(), out.as_mut_ptr(), out.len(), written)
     }
 }

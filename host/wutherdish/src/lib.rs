@@ -9,6 +9,7 @@
 //! | [`verify`] | tests a point by itself |
 //! | [`judge`] | gives the verdict on a point by a list of what the host keeps: its dependencies, its author's points, its links' targets |
 //! | [`Book`] | keeps the points with their verdicts, and judges each new one by them |
+//! | [`pairs_to_columns`], [`columns_to_pairs`] | convert point records that were stored before format 2, and back |
 //! | [`lent`] | the same calls on buffers of the host, for answers as bytes |
 //! | [`check_version`] | tells whether the linked library is one that this crate is made for |
 //!
@@ -98,6 +99,7 @@ mod answer;
 mod book;
 mod build_error;
 mod calls;
+mod convert;
 mod field;
 mod id;
 mod invalid;
@@ -118,6 +120,7 @@ mod words;
 pub use book::Book;
 pub use build_error::BuildError;
 pub use calls::{judge, verify};
+pub use convert::{columns_to_pairs, pairs_to_columns};
 pub use field::Unreadable;
 pub use id::{Digest, PeerId, PointId};
 pub use invalid::{InvalidDependency, InvalidReason};

@@ -19,8 +19,8 @@ impl Point {
         let fields = [
             field(1, self.id.to_bytes()),
             field(2, payload),
-            field_of_map(3, PointMap::Includes, &pairs(&self.includes))?,
-            field_of_map(4, PointMap::Witness, &pairs(&self.witness))?,
+            field_of_pairs(3, PointMap::Includes, &self.includes)?,
+            field_of_pairs(4, PointMap::Witness, &self.witness)?,
             field_of_map(5, PointMap::Evidence, &evidence)?,
             field_of_link(6, self.anchor_proof),
             field_of_link(7, self.anchor_trigger),
@@ -32,12 +32,22 @@ impl Point {
 
     /// The point record at the front of some bytes, and the rest.
     pub fn read(bytes: &[u8]) -> Result<(Self, &[u8]), Unreadable> {
+        Self::read_in(&COLUMNS, bytes)
+    }
+
+    /// The point record at the front of some bytes, and the rest, where includes and witness are pairs of peer and digest, as
+    /// before format 2. No other call takes such a record: [`pairs_to_columns`](crate::pairs_to_columns) converts it.
+    pub fn read_pairs(bytes: &[u8]) -> Result<(Self, &[u8]), Unreadable> {
+        Self::read_in(&PAIRS, bytes)
+    }
+
+    fn read_in<'a>(arrangement: &Arrangement, bytes: &'a [u8]) -> Result<(Self, &'a [u8]), Unreadable> {
         let mut fields = Fields::new(bytes);
         let id = fields.read(1, "a point's id, tag 1 with 68 bytes", PointId::read)?;
         let (payload_len, payload_bytes) = fields
             .read(2, "a point's payload, tag 2 with 8 bytes", |content| Some((content.u32()?, content.u32()?)))?;
-        let includes = fields.read(3, "a point's includes, tag 3, at most 255 pairs by rising peers", read_pairs)?;
-        let witness = fields.read(4, "a point's witness, tag 4, at most 255 pairs by rising peers", read_pairs)?;
+        let includes = fields.read(3, arrangement.includes, arrangement.read_map)?;
+        let witness = fields.read(4, arrangement.witness, arrangement.read_map)?;
         let evidence = fields.read(5, "a point's evidence, tag 5, at most 255 peers, rising", rising_peers)?;
         let anchor_proof = fields.read(6, "a point's anchor proof link, tag 6 with 34 or 102 bytes", read_link)?;
         let anchor_trigger = fields.read(7, "a point's anchor trigger link, tag 7 with 34 or 102 bytes", read_link)?;
@@ -70,8 +80,35 @@ impl TryFrom<&[u8]> for Point {
     }
 }
 
-fn pairs(map: &BTreeMap<PeerId, Digest>) -> Vec<[u8; 64]> {
-    map.iter().map(|(peer, digest)| join(peer.0, digest.0)).collect()
+/// How the pairs of includes and witness lie in a record.
+struct Arrangement {
+    /// What should stand in tag 3.
+    includes: &'static str,
+    /// What should stand in tag 4.
+    witness: &'static str,
+    read_map: fn(&mut Content<'_>) -> Option<BTreeMap<PeerId, Digest>>,
+}
+
+/// All peers, and then all digests in the same order.
+const COLUMNS: Arrangement = Arrangement {
+    includes: "a point's includes, tag 3, at most 255 peers, rising, and then as many digests",
+    witness: "a point's witness, tag 4, at most 255 peers, rising, and then as many digests",
+    read_map: read_columns,
+};
+
+/// Each peer with its digest, as before format 2.
+const PAIRS: Arrangement = Arrangement {
+    includes: "a point's includes, tag 3, at most 255 pairs of peer and digest by rising peers",
+    witness: "a point's witness, tag 4, at most 255 pairs of peer and digest by rising peers",
+    read_map: read_pairs,
+};
+
+/// All peers, and then all digests: as many bytes as rows of both would have.
+fn field_of_pairs(tag: u8, map: PointMap, pairs: &BTreeMap<PeerId, Digest>) -> Result<Vec<u8>, BuildError> {
+    let peers = pairs.keys().map(|peer| peer.0);
+    let columns: Vec<[u8; 32]> = peers.chain(pairs.values().map(|digest| digest.0)).collect();
+    let (rows, _) = columns.as_flattened().as_chunks::<64>();
+    field_of_map(tag, map, rows)
 }
 
 fn field_of_map<const N: usize>(tag: u8, map: PointMap, rows: &[[u8; N]]) -> Result<Vec<u8>, BuildError> {
@@ -96,6 +133,14 @@ fn field_of_role(role: PointRole) -> Vec<u8> {
         PointRole::AnchorTrigger => field(8, [2]),
         PointRole::Genesis => field(8, [3]),
     }
+}
+
+fn read_columns(content: &mut Content<'_>) -> Option<BTreeMap<PeerId, Digest>> {
+    let rows = content.rows::<64>()?;
+    let (peers, digests) = rows.as_flattened().as_chunks::<32>().0.split_at(rows.len());
+    let pairs = peers.iter().zip(digests);
+    let rises = peers.is_sorted_by(|x, y| x < y);
+    rises.then(|| pairs.map(|(peer, digest)| (PeerId(*peer), Digest(*digest))).collect())
 }
 
 fn read_pairs(content: &mut Content<'_>) -> Option<BTreeMap<PeerId, Digest>> {

@@ -32,12 +32,14 @@ pub enum Refusal {
     Kept,
     /// 12: the book has no room for the point.
     Full,
+    /// 14: the output is shorter than what is to be written.
+    Output,
     /// The library answered what this version of the crate doesn't know, with this number: it is another version's.
     Foreign(u8),
 }
 
 /// The refusals with a number of document 01.
-const NUMBERED: [Refusal; 12] = [
+const NUMBERED: [Refusal; 13] = [
     Refusal::Settings,
     Refusal::Schedule,
     Refusal::Record,
@@ -50,6 +52,7 @@ const NUMBERED: [Refusal; 12] = [
     Refusal::Book,
     Refusal::Kept,
     Refusal::Full,
+    Refusal::Output,
 ];
 
 impl Refusal {
@@ -73,6 +76,7 @@ impl Refusal {
             Self::Book => 10,
             Self::Kept => 11,
             Self::Full => 12,
+            Self::Output => 14,
             Self::Foreign(number) => number,
         }
     }
@@ -98,6 +102,7 @@ impl Display for Refusal {
             Self::Book => "the bytes are no book",
             Self::Kept => "the book keeps the point already",
             Self::Full => "the book keeps 4096 points already, or has no room for the record of this one",
+            Self::Output => "the lent output is too short for the record",
             Self::Foreign(number) => {
                 return write!(f, "the linked library is another version: its number {number} and answer are unknown");
             }

@@ -72,8 +72,8 @@ mod tests {
         for other in [Version { abi: ABI + 1, ..version }, Version { format: FORMAT - 1, ..version }] {
             assert_eq!(other.check(), Err(OtherVersion(other)));
         }
-        let other = OtherVersion(Version { abi: 3, format: 2, ..version });
-        let said = "the linked library is another version: 7.9, format 2, ABI 3; expected format 1, ABI 1";
+        let other = OtherVersion(Version { abi: 3, format: 1, ..version });
+        let said = "the linked library is another version: 7.9, format 1, ABI 3; expected format 2, ABI 1";
         assert_eq!(other.to_string(), said);
     }
 

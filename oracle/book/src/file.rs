@@ -1,6 +1,7 @@
 //! The cases of a file that have a book: kinds 3 to 7 of docs/FORMAT.md, "Files of cases".
 
-use oracle::file::{self, Blobs};
+use oracle::arrangement::{Arrangement, move_feed, move_maps};
+use oracle::file::{self, Blobs, JUDGE, VERIFY};
 
 use crate::Offer;
 
@@ -79,6 +80,27 @@ fn write_offer(kind: u8, book: Option<&Vec<u8>>, offer: &Offer, after: &After, o
     let inputs = [schedule, &[*leader][..], record, &peer_buffer.to_le_bytes(), &after.sha256, &after.answer];
     let book = book.map(Vec::as_slice);
     file::write(kind, &book.into_iter().chain(inputs).collect::<Vec<_>>(), out);
+}
+
+/// A file of pairs, with the maps of all that its cases of kinds 1 to 7 are lent moved. Answers stay, and so does a book's sha256,
+/// which is that of the book before it is moved. `None` if it isn't whole.
+pub fn moved(bytes: &[u8]) -> Option<Vec<u8>> {
+    let mut out = Vec::with_capacity(bytes.len());
+    for (kind, blobs) in file::blobs(bytes)? {
+        let moved: Vec<Vec<u8>> = blobs.iter().enumerate().map(|(place, blob)| moved_blob(kind, place, blob)).collect();
+        file::write(kind, &moved.iter().map(Vec::as_slice).collect::<Vec<_>>(), &mut out);
+    }
+    Some(out)
+}
+
+fn moved_blob(kind: u8, place: usize, blob: &[u8]) -> Vec<u8> {
+    let mut blob = blob.to_vec();
+    match (kind, place) {
+        (VERIFY | JUDGE | OFFER, 2) | (JUDGE, 4) | (OFFER_TO, 0 | 3) => move_maps(&mut blob, Arrangement::Columns),
+        (TALLY, 0) => move_feed(&mut blob, Arrangement::Columns),
+        _ => {}
+    }
+    blob
 }
 
 /// The cases of these kinds. Others are passed over, and so are offers to a book after a batch. `None` if one of them isn't

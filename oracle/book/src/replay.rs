@@ -1,5 +1,6 @@
 //! The cases of a file, answered by a plain book.
 
+use oracle::arrangement::{Arrangement, move_maps};
 use oracle::file::answer_bytes;
 use oracle::sha256::sha256;
 
@@ -12,12 +13,19 @@ pub const FILL: u8 = 0xA5;
 /// The book that the offers of a file go to, whose marks go this far.
 pub struct Replay {
     marks: Marks,
+    /// Of the maps in the book when its sha256 is taken.
+    arrangement: Arrangement,
     slice: Vec<u8>,
 }
 
 impl Replay {
     pub fn new(marks: Marks) -> Self {
-        Self { marks, slice: Vec::new() }
+        Self { marks, arrangement: Arrangement::Columns, slice: Vec::new() }
+    }
+
+    /// For a file of pairs that was moved: a sha256 in it is that of the book with pairs.
+    pub fn of_pairs(marks: Marks) -> Self {
+        Self { arrangement: Arrangement::Pairs, ..Self::new(marks) }
     }
 
     /// The case with what the plain book answers and leaves; no answer where the Rust panics as isn't known.
@@ -33,11 +41,11 @@ impl Replay {
                 Case::Begin { settings, length, number }
             }
             Case::Offer { offer, .. } => {
-                let after = offered(self.marks, &mut self.slice, &offer);
+                let after = offered(self.marks, self.arrangement, &mut self.slice, &offer);
                 Case::Offer { offer, after }
             }
             Case::OfferTo { book, offer, .. } => {
-                let after = offered(self.marks, &mut book.clone(), &offer);
+                let after = offered(self.marks, self.arrangement, &mut book.clone(), &offer);
                 Case::OfferTo { book, offer, after }
             }
             Case::Tally { input, .. } => {
@@ -58,34 +66,43 @@ fn opened(settings: &[u8], length: usize) -> (u8, Vec<u8>) {
     (number, slice)
 }
 
-fn offered(marks: Marks, slice: &mut [u8], given: &Offer) -> After {
+fn offered(marks: Marks, arrangement: Arrangement, slice: &mut [u8], given: &Offer) -> After {
     let mut peers = vec![FILL; given.peer_buffer as usize];
     let answer = offer_by(marks, slice, given, &mut peers);
-    After { sha256: sha256(slice).to_vec(), answer: answer_bytes(&answer).unwrap_or_default() }
+    let sha256 = match arrangement {
+        Arrangement::Columns => sha256(slice),
+        Arrangement::Pairs => {
+            let mut moved = slice.to_vec();
+            move_maps(&mut moved, arrangement);
+            sha256(&moved)
+        }
+    };
+    After { sha256: sha256.to_vec(), answer: answer_bytes(&answer).unwrap_or_default() }
 }
 
-/// The cases of a file in which marks cover the previous point alone, as they are where marks spread.
-pub struct Respread {
+/// The cases of an older file, as they are now.
+pub struct Renewed {
     pub cases: Vec<Case>,
-    /// How many are other cases now: another answer or output, or other bytes in the book.
+    /// How many are others by the rule for marks: another answer or output, or other bytes in the book.
     pub others: usize,
     /// How many of them have another answer or output.
     pub answers: usize,
 }
 
-/// Fails where the plain book, whose marks cover the previous point alone, answers otherwise than the file says: so what
-/// differs after all differs by the rule for marks.
-pub fn respread(file: Vec<Case>) -> Result<Respread, String> {
-    let (mut before, mut now) = (Replay::new(Marks::Prev), Replay::new(MARKS));
-    let mut respread = Respread { cases: Vec::with_capacity(file.len()), others: 0, answers: 0 };
+/// Of a file of pairs that was moved, in which marks go this far. Fails where the plain book, whose marks go as far, answers
+/// otherwise than the file says, or leaves a book that is another one when it is moved back: so what differs after all differs
+/// by the rule for marks.
+pub fn renewed(file: Vec<Case>, marks: Marks) -> Result<Renewed, String> {
+    let (mut before, mut spread, mut now) = (Replay::of_pairs(marks), Replay::of_pairs(MARKS), Replay::new(MARKS));
+    let mut renewed = Renewed { cases: Vec::with_capacity(file.len()), others: 0, answers: 0 };
     for (place, case) in file.into_iter().enumerate() {
         if before.answer(&case) != case {
             return Err(format!("case {place} of those with a book: the plain book answers otherwise"));
         }
-        let spread = now.answer(&case);
-        respread.others += usize::from(spread != case);
-        respread.answers += usize::from(spread.answer() != case.answer());
-        respread.cases.push(spread);
+        let spread = spread.answer(&case);
+        renewed.others += usize::from(spread != case);
+        renewed.answers += usize::from(spread.answer() != case.answer());
+        renewed.cases.push(now.answer(&case));
     }
-    Ok(respread)
+    Ok(renewed)
 }

@@ -68,8 +68,8 @@ fn random_content(fields: &[(usize, usize)]) -> (usize, usize) {
     fields.iter().copied().max_by_key(|(_, length)| *length).unwrap_or((0, 0))
 }
 
-/// Copies 32 bytes of a content over the 32 after them, so that a map no longer rises; a short content gets
-/// a byte of high value.
+/// Copies 32 bytes of a content over the 32 after them: a map no longer rises, or a digest stands twice; a short content
+/// gets a byte of high value.
 fn repeat_content(random: &mut Random, bytes: &mut [u8], (place, length): (usize, usize)) {
     let content = place + 3..place + length;
     if content.len() >= 128 {

@@ -2,19 +2,22 @@
 
 use std::time::Instant;
 
-use book::MARKS;
 use book::file::{self, Case};
-use book::replay::{Replay, Respread, respread};
+use book::replay::{Renewed, Replay, renewed};
+use book::{MARKS, Marks};
+use oracle::arrangement::Arrangement;
 use oracle::file::blobs;
 
-fn load(path: &str) -> Result<Vec<Case>, String> {
-    let bytes = std::fs::read(path).map_err(|e| format!("{path}: {e}"))?;
+use crate::vectors::bytes;
+
+fn load(path: &str, arrangement: Arrangement) -> Result<Vec<Case>, String> {
+    let bytes = bytes(path, arrangement)?;
     blobs(&bytes).and_then(file::read).ok_or_else(|| format!("{path}: not a whole file of cases"))
 }
 
 /// Says every difference: of numbers, answers, unknown peers, and the book's bytes by their sha256.
 pub fn compare(path: &str) -> Result<(), String> {
-    let cases = load(path)?;
+    let cases = load(path, Arrangement::Columns)?;
     let start = Instant::now();
     let (mut replay, mut same) = (Replay::new(MARKS), 0);
     for (place, case) in cases.iter().enumerate() {
@@ -42,12 +45,14 @@ fn difference(expected: &Case, answered: &Case) -> String {
     format!("the answer begins with {gives:?}, expected {expected:?}, or is another after that")
 }
 
-/// The same of a file in which marks cover the previous point alone; says how many cases are others where marks spread.
-pub fn compare_prev(path: &str) -> Result<(), String> {
+/// The same of a file of pairs in which marks go this far: its books by the sha256 of the book with pairs. Says how many cases are
+/// others where marks spread.
+pub fn compare_old(path: &str, marks: Marks) -> Result<(), String> {
+    let cases = load(path, Arrangement::Pairs)?;
     let start = Instant::now();
-    let Respread { cases, others, answers } = respread(load(path)?).map_err(|fault| format!("{path}: {fault}"))?;
+    let Renewed { cases, others, answers } = renewed(cases, marks).map_err(|fault| format!("{path}: {fault}"))?;
     let (seconds, all) = (start.elapsed().as_secs_f64(), cases.len());
-    println!("{all} cases with a book in {seconds:.2} s: all the same where marks cover the previous point alone;");
-    println!("where they spread {} the same, {others} others, {answers} of them in the answer", all - others);
+    println!("{all} cases with a book in {seconds:.2} s: all the same by the file's rule for marks;");
+    println!("where marks spread {} the same, {others} others, {answers} of them in the answer", all - others);
     Ok(())
 }

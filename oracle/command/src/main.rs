@@ -14,6 +14,9 @@ mod wrong;
 
 use std::process::ExitCode;
 
+use book::{MARKS, Marks};
+use oracle::arrangement::Arrangement::{Columns, Pairs};
+
 const USAGE: &str = "oracle COMMAND
   edges                  document 01's P1 to P10
   histogram SEED COUNT   run generated cases and print how often each answer appears
@@ -25,7 +28,8 @@ const USAGE: &str = "oracle COMMAND
   book-sharpness SEED COUNT  run feeds and damaged books with each mistake in the plain book
   mark-sharpness SEED COUNT  run feeds for certificates with each mistake in the plain book's rule for marks
   vectors FILE           run the cases of a file and compare with its answers
-  vectors-prev FILE      run the cases with a book of a file in which marks cover the previous point alone
+  vectors-pairs FILE     the same of a file of pairs, which are moved
+  vectors-prev FILE      the same of a file of pairs in which marks cover the previous point alone
   lines FILE             run its verify and judge cases and print one line each
   store FILE             write the stored list
   stored FILE            replay it
@@ -37,8 +41,9 @@ fn main() -> ExitCode {
     let words: Vec<&str> = arguments.iter().map(String::as_str).collect();
     let result = match words[..] {
         ["edges"] => edges::run(),
-        ["vectors", file] => vectors::compare(file).and_then(|()| books::compare(file)),
-        ["vectors-prev", file] => books::compare_prev(file),
+        ["vectors", file] => vectors::compare(file, Columns).and_then(|()| books::compare(file)),
+        ["vectors-pairs", file] => vectors::compare(file, Pairs).and_then(|()| books::compare_old(file, MARKS)),
+        ["vectors-prev", file] => vectors::compare(file, Pairs).and_then(|()| books::compare_old(file, Marks::Prev)),
         ["lines", file] => vectors::lines(file),
         ["histogram", seed, count] => {
             two_numbers(seed, count).and_then(|(seed, count)| run_cases::histogram(seed, count))

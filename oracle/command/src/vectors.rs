@@ -3,25 +3,35 @@
 use std::io::{self, Write};
 use std::time::Instant;
 
+use book::file::moved;
+use oracle::arrangement::Arrangement;
 use oracle::file::{self, Case, answer_bytes};
 
-fn load(path: &str) -> Result<Vec<(Case, Vec<u8>)>, String> {
+fn load(path: &str, arrangement: Arrangement) -> Result<Vec<(Case, Vec<u8>)>, String> {
+    file::read(&bytes(path, arrangement)?).ok_or_else(|| format!("{path}: not a whole file of cases"))
+}
+
+/// A file of cases; one of pairs is moved.
+pub fn bytes(path: &str, arrangement: Arrangement) -> Result<Vec<u8>, String> {
     let bytes = std::fs::read(path).map_err(|e| format!("{path}: {e}"))?;
-    file::read(&bytes).ok_or_else(|| format!("{path}: not a whole file of cases"))
+    match arrangement {
+        Arrangement::Columns => Ok(bytes),
+        Arrangement::Pairs => moved(&bytes).ok_or_else(|| format!("{path}: not a whole file of cases")),
+    }
 }
 
 /// One line per case.
 pub fn lines(path: &str) -> Result<(), String> {
     let mut out = io::stdout().lock();
-    for (case, _) in load(path)? {
+    for (case, _) in load(path, Arrangement::Columns)? {
         writeln!(out, "{}", case.answer()).map_err(|e| e.to_string())?;
     }
     Ok(())
 }
 
 /// Says every difference. A panic of the Rust is told apart: document 01 has an answer where the Rust has none.
-pub fn compare(path: &str) -> Result<(), String> {
-    let cases = load(path)?;
+pub fn compare(path: &str, arrangement: Arrangement) -> Result<(), String> {
+    let cases = load(path, arrangement)?;
     let start = Instant::now();
     let (mut same, mut panics, mut other) = (0, 0, 0);
     for (place, (case, expected)) in cases.iter().enumerate() {

@@ -41,9 +41,9 @@ pub fn records(list: &[u8]) -> Option<Vec<PointInfo>> {
 fn point_info(rest: &mut Bytes<'_>) -> Option<PointInfo> {
     let [id, mut payload, includes, witness, evidence, proof, trigger, role, mut times] = read::fields(rest)?;
     let data = PointData {
-        includes: map(rising(includes.0)?, digest),
-        witness: map(rising(witness.0)?, digest),
-        evidence: map(rising(evidence.0)?, |_: &[u8; 32]| Signature::none()),
+        includes: map(includes.0)?,
+        witness: map(witness.0)?,
+        evidence: rising(ids(evidence.0)?)?.map(|peer| (PeerId(*peer), Signature::none())).collect(),
         anchor_proof: link(proof.0)?,
         anchor_trigger: link(trigger.0)?,
         role: convert::role(&read::point_role(role)?),
@@ -75,11 +75,21 @@ fn link(field: &[u8]) -> Option<AnchorLink> {
     }
 }
 
-/// A field's rows, each of which begins with a greater peer than the one before it.
-fn rising<const WIDTH: usize>(field: &[u8]) -> Option<&[[u8; WIDTH]]> {
-    let (rows, rest) = field.as_chunks();
-    let is_rising = rows.windows(2).all(|pair| is_less(peer(&pair[0]), peer(&pair[1])));
-    (rest.is_empty() && is_rising).then_some(rows)
+fn map(field: &[u8]) -> Option<FastHashMap<PeerId, Digest>> {
+    let ids = ids(field)?;
+    let (peers, digests) = ids.split_at(ids.len() / 2);
+    let digests = (peers.len() == digests.len()).then_some(digests)?.iter();
+    Some(rising(peers)?.zip(digests).map(|(peer, digest)| (PeerId(*peer), *Digest::wrap(digest))).collect())
+}
+
+fn ids(field: &[u8]) -> Option<&[[u8; 32]]> {
+    let (ids, rest) = field.as_chunks();
+    rest.is_empty().then_some(ids)
+}
+
+/// Peers, each of which is greater than the one before it.
+fn rising(peers: &[[u8; 32]]) -> Option<std::slice::Iter<'_, [u8; 32]>> {
+    peers.windows(2).all(|pair| is_less(&pair[0], &pair[1])).then(|| peers.iter())
 }
 
 /// Most peers part in their first eight bytes.
@@ -87,16 +97,4 @@ fn is_less(lower: &[u8; 32], upper: &[u8; 32]) -> bool {
     let first = |peer: &[u8; 32]| u64::from_be_bytes(*peer.first_chunk().expect("8 of 32 bytes"));
     let (low, high) = (first(lower), first(upper));
     low < high || (low == high && lower < upper)
-}
-
-fn peer<const WIDTH: usize>(row: &[u8; WIDTH]) -> &[u8; 32] {
-    row.first_chunk().expect("32 of a row's bytes")
-}
-
-fn digest(row: &[u8; 64]) -> Digest {
-    *Digest::wrap(row.last_chunk().expect("32 of a row's bytes"))
-}
-
-fn map<const WIDTH: usize, V>(rows: &[[u8; WIDTH]], value: impl Fn(&[u8; WIDTH]) -> V) -> FastHashMap<PeerId, V> {
-    rows.iter().map(|row| (PeerId(*peer(row)), value(row))).collect()
 }

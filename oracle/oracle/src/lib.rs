@@ -4,6 +4,7 @@
 //! else run `BasicVerifier::verify` and `Verifier::validate` of the unchanged source on it.
 
 pub mod answer;
+pub mod arrangement;
 pub mod direct;
 pub mod feed;
 pub mod file;

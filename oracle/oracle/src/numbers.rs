@@ -18,6 +18,8 @@ pub const UNCOVERED: u8 = 9;
 pub const BOOK: u8 = 10;
 pub const KEPT: u8 = 11;
 pub const FULL: u8 = 12;
+/// Of the converters alone.
+pub const OUTPUT: u8 = 14;
 
 pub const WORDS: [&str; 12] = [
     "settings",

@@ -1,5 +1,6 @@
 //! Reads document 01's bytes. `None` is unreadable. The domain is not tested here.
 
+use crate::arrangement::Arrangement;
 use crate::value::{
     AnchorLink, AnchorStageRole, Digest, Entry, Id, Peer, Point, PointRole, Schedule, Settings, Span, State, Through,
 };
@@ -143,6 +144,14 @@ pub fn record(bytes: &[u8]) -> Option<Point> {
     record_front(bytes).and_then(alone)
 }
 
+/// A record whose maps lie so.
+pub fn record_in(arrangement: Arrangement, bytes: &[u8]) -> Option<Point> {
+    let mut rest = Bytes(bytes);
+    let point = point_in(arrangement, &mut rest)?;
+    rest.end()?;
+    Some(point)
+}
+
 /// A record at the front of the bytes, and what stands after it.
 pub fn record_front(bytes: &[u8]) -> Option<(Point, &[u8])> {
     let mut rest = Bytes(bytes);
@@ -160,13 +169,17 @@ pub fn fields<'a>(rest: &mut Bytes<'a>) -> Option<[Bytes<'a>; 9]> {
 }
 
 fn point(rest: &mut Bytes<'_>) -> Option<Point> {
+    point_in(Arrangement::Columns, rest)
+}
+
+fn point_in(arrangement: Arrangement, rest: &mut Bytes<'_>) -> Option<Point> {
     let [mut id, mut payload, includes, witness, evidence, proof, trigger, role, mut times] = fields(rest)?;
     Some(Point {
         id: id.id()?,
         payload_len: payload.u32()?,
         payload_bytes: payload.u32()?,
-        includes: pairs(includes)?,
-        witness: pairs(witness)?,
+        includes: map(includes, arrangement)?,
+        witness: map(witness, arrangement)?,
         evidence: peers(evidence)?,
         anchor_proof: link(proof)?,
         anchor_trigger: link(trigger)?,
@@ -188,16 +201,18 @@ fn peers(mut field: Bytes<'_>) -> Option<Vec<Peer>> {
     Some(peers)
 }
 
-fn pairs(mut field: Bytes<'_>) -> Option<Vec<(Peer, Digest)>> {
-    let mut pairs: Vec<(Peer, Digest)> = Vec::with_capacity(field.0.len() / 64);
-    while field.end().is_none() {
-        let pair: (Peer, Digest) = (field.array()?, field.array()?);
-        if pairs.last().is_some_and(|before| before.0 >= pair.0) {
-            return None;
+/// Peers that rise strictly, each with its digest.
+fn map(field: Bytes<'_>, arrangement: Arrangement) -> Option<Vec<(Peer, Digest)>> {
+    let (rows, []) = field.0.as_chunks::<64>() else { return None };
+    let (ids, _) = rows.as_flattened().as_chunks::<32>();
+    let map: Vec<(Peer, Digest)> = match arrangement {
+        Arrangement::Pairs => ids.as_chunks().0.iter().map(|[peer, digest]| (*peer, *digest)).collect(),
+        Arrangement::Columns => {
+            let (peers, digests) = ids.split_at(rows.len());
+            peers.iter().copied().zip(digests.iter().copied()).collect()
         }
-        pairs.push(pair);
-    }
-    Some(pairs)
+    };
+    map.is_sorted_by(|one, next| one.0 < next.0).then_some(map)
 }
 
 pub fn link(mut field: Bytes<'_>) -> Option<AnchorLink> {

@@ -1,5 +1,6 @@
 //! Writes values as document 01's bytes, so that the reader gives them back.
 
+use crate::arrangement::Arrangement;
 use crate::value::{
     AnchorLink, AnchorStageRole, Digest, Entry, Id, Peer, Point, PointRole, Schedule, Settings, State, Through,
 };
@@ -41,16 +42,21 @@ pub fn schedule(schedule: &Schedule) -> Vec<u8> {
 }
 
 pub fn record(point: &Point) -> Vec<u8> {
+    record_in(Arrangement::Columns, point)
+}
+
+/// A record whose maps lie so.
+pub fn record_in(arrangement: Arrangement, point: &Point) -> Vec<u8> {
     let mut out = Vec::new();
-    add_record(&mut out, point);
+    add_record(&mut out, arrangement, point);
     out
 }
 
-fn add_record(out: &mut Vec<u8>, point: &Point) {
+fn add_record(out: &mut Vec<u8>, arrangement: Arrangement, point: &Point) {
     field(out, 1, &id(&point.id));
     field(out, 2, &[point.payload_len.to_le_bytes(), point.payload_bytes.to_le_bytes()].concat());
-    field(out, 3, &pairs(&point.includes));
-    field(out, 4, &pairs(&point.witness));
+    field(out, 3, &map(&point.includes, arrangement));
+    field(out, 4, &map(&point.witness, arrangement));
     field(out, 5, point.evidence.as_flattened());
     field(out, 6, &link(&point.anchor_proof));
     field(out, 7, &link(&point.anchor_trigger));
@@ -58,8 +64,14 @@ fn add_record(out: &mut Vec<u8>, point: &Point) {
     field(out, 9, &[point.time.to_le_bytes(), point.anchor_time.to_le_bytes()].concat());
 }
 
-fn pairs(map: &[(Peer, Digest)]) -> Vec<u8> {
-    map.iter().flat_map(|(peer, digest)| [peer, digest]).flatten().copied().collect()
+fn map(map: &[(Peer, Digest)], arrangement: Arrangement) -> Vec<u8> {
+    let (peers, digests): (Vec<Peer>, Vec<Digest>) = map.iter().copied().unzip();
+    match arrangement {
+        Arrangement::Pairs => {
+            peers.iter().zip(&digests).flat_map(|(peer, digest)| [peer, digest]).flatten().copied().collect()
+        }
+        Arrangement::Columns => [peers, digests].concat().into_flattened(),
+    }
 }
 
 fn link(link: &AnchorLink) -> Vec<u8> {
@@ -107,6 +119,6 @@ fn add_entry(out: &mut Vec<u8>, entry: &Entry) {
         _ => {}
     }
     if let Some(point) = entry.state.point() {
-        add_record(out, point);
+        add_record(out, Arrangement::Columns, point);
     }
 }

@@ -1,5 +1,7 @@
 //! The static library's time beside the Rust's and a plain pass, from the same bytes.
 
+mod cold;
+mod convert;
 mod heap;
 mod judge;
 mod offer;
@@ -21,12 +23,13 @@ Its hash maps are the standard ones under the oracle's hasher, and its metrics c
 processor's. A ratio is the Rust's time divided by the library's in the same round: over 1 the library is faster.
 ";
 
-const USAGE: &str = "bench [verify | judge | offer]     the tables, or one of them
+const USAGE: &str = "bench [verify | judge | offer | convert]   the tables, or one of them
+bench cold                         records and books that together are longer than the caches
 bench worst [full]                 the dearest inputs that were found; full: as long as they get
 bench tally PROGRAM                the program tally on feeds
 bench once worst ROW               the call of a row of `bench worst`, for callgrind to count; the first row is 1
-bench once WAY PEERS [ENTRIES]     one call, for callgrind to count: verify, judge, offer, offer-far (a history of 255) or
-                                   refused by the library;
+bench once WAY PEERS [ENTRIES]     one call, for callgrind to count: verify, judge, offer, offer-far (a history of 255),
+                                   refused, to-columns or to-pairs by the library; copy of a record's bytes;
                                    verify-direct, verify-alone, judge-direct or judge-alone by the Rust";
 
 fn main() -> ExitCode {
@@ -39,6 +42,8 @@ fn main() -> ExitCode {
         ["verify"] => verify::table(&PEERS),
         ["judge"] => judge::table(&PEERS),
         ["offer"] => offer::table(),
+        ["convert"] => convert::table(&PEERS),
+        ["cold"] => cold::table(&PEERS).and_then(|()| convert::cold_table(&PEERS)),
         ["worst"] => worst::table(false),
         ["worst", "full"] => worst::table(true),
         ["tally", program] => tally::table(program),
@@ -62,5 +67,6 @@ fn tables() -> Result<(), String> {
     println!("{WORDS}");
     verify::table(&PEERS)?;
     judge::table(&PEERS)?;
-    offer::table()
+    offer::table()?;
+    convert::table(&PEERS)
 }

@@ -76,6 +76,7 @@ fn print_times(rounds: &[[f64; 3]]) {
 }
 
 /// A book of the first points of a DAG, to which the next one is offered.
+#[derive(Clone)]
 pub struct Offering<'a> {
     dag: &'a Dag,
     entries: usize,
@@ -125,6 +126,10 @@ impl<'a> Offering<'a> {
         let record = self.dag.record(place);
         let number = lent::offer(book, &self.dag.schedule, LEADER, record, &mut self.peers, &mut answer);
         (number, answer[0])
+    }
+
+    pub fn slice(&self) -> &[u8] {
+        &self.slice
     }
 
     /// Removes the last entry, and the mark that came with it.

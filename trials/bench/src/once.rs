@@ -4,7 +4,7 @@ use inputs::dag::Dag;
 use oracle::numbers::KEPT;
 
 use crate::offer::Offering;
-use crate::{judge, verify};
+use crate::{convert, judge, verify};
 
 /// Makes the call of a way, by the library, or by the Rust.
 pub fn run(way: &str, peers: usize, entries: usize) -> Result<(), String> {
@@ -18,6 +18,9 @@ pub fn run(way: &str, peers: usize, entries: usize) -> Result<(), String> {
         "offer" => offer(&Dag::new(peers, entries + 1), entries, entries)? == 0,
         "offer-far" => offer(&Dag::new(peers, entries + 1).with_history(u8::MAX), entries, entries)? == 0,
         "refused" => offer(&Dag::new(peers, entries + 1), entries, entries - 1)? == KEPT,
+        "to-columns" => convert::once(convert::Way::Columns, peers),
+        "to-pairs" => convert::once(convert::Way::Pairs, peers),
+        "copy" => convert::once(convert::Way::Copy, peers),
         _ => return Err(format!("there is no way {way}")),
     };
     if right { Ok(()) } else { Err("the call gave something else than it had to".to_string()) }

@@ -6,6 +6,7 @@ use cases::random::Random;
 use inputs::call::Call;
 use inputs::clock::timed;
 use inputs::dear::{Made, Shape};
+use oracle::arrangement::Arrangement;
 use oracle::file::Case;
 use wutherdish::lent::{self, ANSWER};
 
@@ -97,6 +98,8 @@ struct Lent {
     book: Vec<u8>,
     peers: Vec<u8>,
     answer: [u8; ANSWER],
+    output: Vec<u8>,
+    count: u32,
 }
 
 impl Lent {
@@ -104,13 +107,14 @@ impl Lent {
         let book = match call {
             Call::Open { length, .. } => vec![1; *length],
             Call::Offer { book, .. } => book.clone().unwrap_or_default(),
-            Call::Case(_) => Vec::new(),
+            Call::Case(_) | Call::Convert { .. } => Vec::new(),
         };
-        Self { book, peers: vec![0; call.peer_buffer().unwrap_or(0)], answer: [0; ANSWER] }
+        let [peers, output] = [call.peer_buffer(), call.output()].map(|length| vec![0; length.unwrap_or(0)]);
+        Self { book, peers, answer: [0; ANSWER], output, count: 0 }
     }
 
     fn call(&mut self, call: &Call) -> u8 {
-        let Self { book, peers, answer } = self;
+        let Self { book, peers, answer, output, count } = self;
         match call {
             Call::Case(Case::Verify { settings, schedule, record, .. }) => {
                 lent::verify(settings, schedule, record, peers, answer)
@@ -120,6 +124,8 @@ impl Lent {
             }
             Call::Open { settings, .. } => lent::open(book, settings),
             Call::Offer { offer, .. } => lent::offer(book, &offer.schedule, offer.leader, &offer.record, peers, answer),
+            Call::Convert { from: Arrangement::Pairs, record, .. } => lent::pairs_to_columns(record, output, count),
+            Call::Convert { from: Arrangement::Columns, record, .. } => lent::columns_to_pairs(record, output, count),
         }
     }
 }

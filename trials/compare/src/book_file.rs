@@ -1,8 +1,8 @@
 //! The cases of a file that have a book, against the answers in it; `program` has those of `tally`.
 
-use book::Offer;
-use book::file::{After, Case, read};
-use book::replay::{Respread, respread};
+use book::file::{After, Case, moved, read};
+use book::replay::{Renewed, renewed};
+use book::{MARKS, Marks, Offer};
 use oracle::file::blobs;
 use oracle::sha256::sha256;
 use wutherdish::lent::open as open_book;
@@ -10,38 +10,57 @@ use wutherdish::lent::open as open_book;
 use crate::file::expected;
 use crate::lent::{FILL, Lent};
 
-/// The rule for marks by which a file was answered.
+/// The rules by which a file was made and answered.
 #[derive(Clone, Copy, PartialEq, Eq)]
-pub enum Rule {
-    /// Marks spread, as the library's.
-    Spread,
-    /// A mark covers the previous point alone.
+pub enum Age {
+    /// As now: the peers of a map stand first, and marks spread.
+    Now,
+    /// Maps are pairs of peer and digest.
+    Pairs,
+    /// They are, and a mark covers the previous point alone.
     Prev,
+}
+
+impl Age {
+    /// The bytes of a file, in which maps are moved if they are pairs.
+    pub fn bytes(self, path: &str) -> Result<Vec<u8>, String> {
+        let bytes = std::fs::read(path).map_err(|e| format!("{path}: {e}"))?;
+        match self {
+            Self::Now => Ok(bytes),
+            Self::Pairs | Self::Prev => moved(&bytes).ok_or_else(|| not_whole(path)),
+        }
+    }
+
+    /// The cases with a book as they are now. Of an older file the plain book has to answer as the file says by the file's rules,
+    /// and then answers by the library's; how many cases the rule for marks changes is said.
+    pub fn renew(self, path: &str, cases: Vec<Case>) -> Result<Vec<Case>, String> {
+        let marks = match self {
+            Self::Now => return Ok(cases),
+            Self::Pairs => MARKS,
+            Self::Prev => Marks::Prev,
+        };
+        let Renewed { cases, others, answers } = renewed(cases, marks).map_err(|fault| format!("{path}: {fault}"))?;
+        println!(
+            "{path}: {} cases with a book, {} the same where marks spread; {others} others, {answers} of them in the \
+             answer, are answered by the plain book",
+            cases.len(),
+            cases.len() - others
+        );
+        Ok(cases)
+    }
+}
+
+pub fn not_whole(path: &str) -> String {
+    format!("{path}: not a whole file of cases")
 }
 
 /// The cases of a file that have a book.
 pub fn load(path: &str, bytes: &[u8]) -> Result<Vec<Case>, String> {
-    blobs(bytes).and_then(read).ok_or_else(|| format!("{path}: not a whole file of cases"))
+    blobs(bytes).and_then(read).ok_or_else(|| not_whole(path))
 }
 
-/// The same with the answers where marks spread. Where they don't in the file, the plain book has to answer as the file says by
-/// the file's rule, and then answers by the library's; how many cases that changes is said.
-pub fn spread(path: &str, cases: Vec<Case>, rule: Rule) -> Result<Vec<Case>, String> {
-    if rule == Rule::Spread {
-        return Ok(cases);
-    }
-    let Respread { cases, others, answers } = respread(cases).map_err(|fault| format!("{path}: {fault}"))?;
-    println!(
-        "{path}: {} cases with a book, {} the same where marks spread; {others} others, {answers} of them in the \
-         answer, are answered by the plain book",
-        cases.len(),
-        cases.len() - others
-    );
-    Ok(cases)
-}
-
-pub fn run(path: &str, bytes: &[u8], rule: Rule) -> Result<(), String> {
-    let cases = spread(path, load(path, bytes)?, rule)?;
+pub fn run(path: &str, bytes: &[u8], age: Age) -> Result<(), String> {
+    let cases = age.renew(path, load(path, bytes)?)?;
     let (mut slice, mut lent, mut openings, mut offers) = (Vec::new(), Lent::default(), 0, 0);
     for (place, case) in cases.into_iter().enumerate() {
         let result = match case {

@@ -1,6 +1,7 @@
 //! Cases with damaged bytes.
 
 use cases::random::Random;
+use oracle::arrangement::{Arrangement, move_maps};
 use oracle::file::Case;
 
 use crate::kind::as_judge;
@@ -66,6 +67,12 @@ pub fn buffer_length(random: &mut Random) -> u32 {
     random.pick(&[near, 8_158, 8_159, 8_160, 8_161, 0, 1, 32, 16_320, 65_536])
 }
 
+/// Around the length of the record that is to be converted, or any.
+pub fn output_length(random: &mut Random, record: usize) -> usize {
+    let any = random.below(2 * record + 1);
+    random.pick(&[record, record, record + 1, record + 100, record.saturating_sub(1), 0, any])
+}
+
 /// A list's entries are damaged too, and the heads of its fields more often than the rest.
 pub fn damage_list(random: &mut Random, list: &mut Vec<u8>) {
     match random.below(8) {
@@ -79,7 +86,7 @@ pub fn damage_list(random: &mut Random, list: &mut Vec<u8>) {
 
 /// One damage to bytes that are laid out in fields.
 pub fn damage(random: &mut Random, bytes: &mut Vec<u8>) {
-    match random.below(17) {
+    match random.below(18) {
         0..5 => change_byte(random, bytes),
         5..8 => change_number(random, bytes),
         8 => cut_end(random, bytes),
@@ -89,6 +96,7 @@ pub fn damage(random: &mut Random, bytes: &mut Vec<u8>) {
         12..14 => change_length(random, bytes),
         14 => change_rows(random, bytes),
         15 => repeat_row(random, bytes),
+        16 => rearrange(random, bytes),
         _ => repeat_field(random, bytes),
     }
 }
@@ -184,7 +192,7 @@ fn change_length(random: &mut Random, bytes: &mut Vec<u8>) {
     }
 }
 
-/// A field's content becomes rising rows, as many as a map may hold or one to spare.
+/// A field's content becomes rising peers, as many as a map may hold or one to spare; in a map each with a digest.
 fn change_rows(random: &mut Random, bytes: &mut Vec<u8>) {
     let fields = fields(bytes);
     if fields.is_empty() {
@@ -192,20 +200,32 @@ fn change_rows(random: &mut Random, bytes: &mut Vec<u8>) {
     }
     let field = random.pick(&fields);
     let head = if bytes[field.start] == 34 { 4 } else { 0 };
-    let width = if matches!(bytes[field.start], 3 | 4) { 64 } else { 32 };
     let count = random.pick(&[0, 1, 2, 3, 253, 254, 255, 256, 257]);
     let start = bytes[field.content()..field.end()].iter().copied().take(head);
     let mut content: Vec<u8> = start.collect();
     let mut rows: Vec<[u8; 32]> = (0..count).map(|_| random.bytes()).collect();
     rows.sort_unstable();
-    for row in rows {
-        content.extend_from_slice(&row);
-        content.resize(content.len() + width - 32, 7);
+    content.extend_from_slice(rows.as_flattened());
+    if is_map(field) {
+        content.resize(content.len() + 32 * count, 7);
     }
     replace(bytes, field, &content);
 }
 
-/// A row, or a row and its digest, stands once more in place of what is after it.
+fn is_map(field: Field) -> bool {
+    matches!(field.tag, 3 | 4)
+}
+
+/// The peers and digests of a map lie as in records before: each peer with its digest.
+fn rearrange(random: &mut Random, bytes: &mut [u8]) {
+    let maps: Vec<Field> = fields(bytes).into_iter().filter(|field| is_map(*field) && field.length > 64).collect();
+    if !maps.is_empty() {
+        let map = random.pick(&maps);
+        move_maps(&mut bytes[map.start..map.end()], Arrangement::Pairs);
+    }
+}
+
+/// A peer or a digest, or two of them, stand once more in place of what is after them.
 fn repeat_row(random: &mut Random, bytes: &mut [u8]) {
     let width = random.pick(&[32, 64]);
     let long: Vec<Field> = fields(bytes).into_iter().filter(|field| field.length >= 2 * width).collect();

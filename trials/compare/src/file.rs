@@ -3,14 +3,13 @@
 use oracle::file::{self, Case};
 use wutherdish::lent::ANSWER;
 
-use crate::book_file::{self, Rule};
+use crate::book_file::{self, Age, not_whole};
 use crate::lent::{Expected, FILL, Lent};
 use crate::report::report;
 
-/// By which rule for marks its cases with a book were answered is said.
-pub fn run(path: &str, rule: Rule) -> Result<(), String> {
-    let bytes = std::fs::read(path).map_err(|e| format!("{path}: {e}"))?;
-    let cases = file::read(&bytes).ok_or_else(|| format!("{path}: not a whole file of cases"))?;
+pub fn run(path: &str, age: Age) -> Result<(), String> {
+    let bytes = age.bytes(path)?;
+    let cases = file::read(&bytes).ok_or_else(|| not_whole(path))?;
     let mut lent = Lent::default();
     for (place, (case, answer)) in cases.iter().enumerate() {
         let expected = expected(answer).ok_or_else(|| format!("{path}: case {place} has no whole answer"))?;
@@ -25,7 +24,7 @@ pub fn run(path: &str, rule: Rule) -> Result<(), String> {
     println!(
         "{path}: {verified} verify and {judged} judge cases answered as the file says, peer buffers byte for byte"
     );
-    book_file::run(path, &bytes, rule)
+    book_file::run(path, &bytes, age)
 }
 
 /// Number, 113 bytes of the answer, 40 zeros, the count of unknown peers and the peers.

@@ -3,11 +3,13 @@
 use oracle::file::blobs;
 use wutherdish::{Digest, IndirectLink, InvalidDependency, PeerId, PointId, Through};
 
+use crate::book_file::not_whole;
+
 const JOIN: u8 = 21;
 
 pub fn run(path: &str) -> Result<(), String> {
     let bytes = std::fs::read(path).map_err(|e| format!("{path}: {e}"))?;
-    let cases = blobs(&bytes).ok_or_else(|| format!("{path}: not a whole file of cases"))?;
+    let cases = blobs(&bytes).ok_or_else(|| not_whole(path))?;
     let (mut joins, mut kept, mut replaced) = (0, 0, 0);
     for (place, (_, blobs)) in cases.iter().enumerate().filter(|(_, (kind, _))| *kind == JOIN) {
         let records: Option<Vec<_>> = blobs.iter().map(|blob| record(blob)).collect();

@@ -2,6 +2,7 @@
 
 mod book_file;
 mod certificates;
+mod converts;
 mod difference;
 mod feeds;
 mod file;
@@ -15,7 +16,7 @@ mod tally;
 
 use std::process::ExitCode;
 
-use book_file::Rule;
+use book_file::Age;
 use cases::case;
 use certificates::certificates;
 use compare::damage::{damaged, judge_damaged};
@@ -32,13 +33,17 @@ const USAGE: &str = "compare COMMAND
   feeds SEED COUNT [THREADS]           feeds of offers, through the plain book and the library
   books-damaged SEED COUNT [THREADS]   the same offers to damaged copies of their books
   certificates SEED COUNT [THREADS]    feeds for certificates, through the source's own, the plain book and the library
+  converts SEED COUNT [THREADS]        their records, damaged too, through both converters and those that read and write
   file FILE                            the cases of a file, against the answers in it
-  file-prev FILE                       the same of a file in which marks cover the previous point alone: those with a book
-                                       against the plain book, which has to answer as the file says where its marks do so
+  file-pairs FILE                      the same of a file in which maps are pairs, which are moved: those with a book against
+                                       the plain book, which has to answer as the file says, and leave its books moved
+  file-prev FILE                       the same of such a file in which marks cover the previous point alone
+  converts-file FILE                   the converted records of a file, against the records in it
   joins FILE                           the joins of a file, by the host's crate, against the records in it
   tally PROGRAM SEED COUNT             feeds to the program tally, through the plain book and the program
   tally-file PROGRAM FILE              the standard inputs of a file, against the outputs in it, likewise
-  tally-file-prev PROGRAM FILE         the same of a file in which marks cover the previous point alone
+  tally-file-pairs PROGRAM FILE        the same of a file in which maps are pairs
+  tally-file-prev PROGRAM FILE         the same of such a file in which marks cover the previous point alone
 THREADS is 1 or 2, by default 2";
 
 /// What a command compares: a name, and the cases of a seed at a place.
@@ -61,14 +66,18 @@ fn main() -> ExitCode {
         ["feeds", ref words @ ..] => range(words).and_then(|range| feeds::feeds(&range)),
         ["books-damaged", ref words @ ..] => range(words).and_then(|range| feeds::books_damaged(&range)),
         ["certificates", ref words @ ..] => range(words).and_then(|range| certificates(&range)),
-        ["file", path] => file::run(path, Rule::Spread),
-        ["file-prev", path] => file::run(path, Rule::Prev),
+        ["converts", ref words @ ..] => range(words).and_then(|range| converts::generated(&range)),
+        ["file", path] => file::run(path, Age::Now),
+        ["file-pairs", path] => file::run(path, Age::Pairs),
+        ["file-prev", path] => file::run(path, Age::Prev),
+        ["converts-file", path] => converts::file(path),
         ["joins", path] => joins::run(path),
         ["tally", program, ref words @ ..] => {
             range(words).and_then(|range| program::feeds(program, range.seed, range.count))
         }
-        ["tally-file", program, path] => program::file(program, path, Rule::Spread),
-        ["tally-file-prev", program, path] => program::file(program, path, Rule::Prev),
+        ["tally-file", program, path] => program::file(program, path, Age::Now),
+        ["tally-file-pairs", program, path] => program::file(program, path, Age::Pairs),
+        ["tally-file-prev", program, path] => program::file(program, path, Age::Prev),
         _ => Err(USAGE.to_string()),
     };
     match result {

@@ -11,7 +11,7 @@ use cases::random::Random;
 use feeds::Feed;
 use oracle::read;
 
-use crate::book_file::{Rule, load, spread};
+use crate::book_file::{Age, load};
 
 /// More than the program's buffer holds.
 const LONG: usize = 150_000;
@@ -35,11 +35,10 @@ pub fn feeds(program: &str, seed: u64, count: u64) -> Result<(), String> {
 }
 
 /// Compares what a program prints of the standard inputs in a file of cases.
-pub fn file(program: &str, path: &str, rule: Rule) -> Result<(), String> {
-    let bytes = std::fs::read(path).map_err(|e| format!("{path}: {e}"))?;
-    let cases = load(path, &bytes)?.into_iter().filter(|case| matches!(case, Case::Tally { .. })).collect();
+pub fn file(program: &str, path: &str, age: Age) -> Result<(), String> {
+    let cases = load(path, &age.bytes(path)?)?.into_iter().filter(|case| matches!(case, Case::Tally { .. })).collect();
     let mut count = 0;
-    for case in spread(path, cases, rule)? {
+    for case in age.renew(path, cases)? {
         let Case::Tally { input, output } = case else { continue };
         compare(program, &input, &output, &mut Random::new(0, count))
             .map_err(|difference| format!("{path}: tally case {count}: {difference}"))?;

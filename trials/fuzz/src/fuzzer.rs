@@ -5,7 +5,7 @@ use std::path::{Path, PathBuf};
 use std::time::Instant;
 
 use cases::random::Random;
-use hard_use::desk::Desk;
+use hard_use::desk::{Desk, fill};
 use hard_use::fault::Fault;
 use hard_use::file::write;
 use hard_use::model::Model;
@@ -147,7 +147,7 @@ impl Fuzzer {
 
 /// What the call left against what it had to.
 pub fn compare(desk: &Desk, model: &Model, call: &Call, number: u8, layout: u64) -> Result<(), String> {
-    let expected = model.expected(call, (layout >> 7) as u8)?;
+    let expected = model.expected(call, fill(layout))?;
     let name = Call::NAMES[call.kind()];
     desk.check(call, number, &expected).map_err(|why| format!("{name} differs: {why}"))
 }

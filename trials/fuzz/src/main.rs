@@ -16,9 +16,10 @@ use coverage::Coverage;
 use fuzzer::{Fuzzer, Plan};
 use hard_use::model::Model;
 use hard_use::watch;
+use oracle::arrangement::Arrangement;
 
 const USAGE: &str = "fuzz COMMAND
-  led SEED RUNS SEEDS FOLDER [FILE]   RUNS changed calls, made of SEEDS generated cases and the cases of a file; what
+  led SEED RUNS SEEDS FOLDER [FILE]   RUNS changed calls, made of SEEDS generated cases and the cases of a file of pairs; what
                                       leads somewhere new is kept, changed further, and saved in the folder at the end,
                                       with a list of the ways that were not gone
   blind SEED RUNS SEEDS FOLDER [FILE] the same, but only the seeds are changed
@@ -56,7 +57,7 @@ fn run(how: &str, seed: &str, runs: &str, count: &str, folder: &str, file: Optio
     let (seed, runs, folder) = (number(seed)?, number(runs)?, PathBuf::from(folder));
     let mut seeds = seeds::generated(seed, number(count)?);
     if let Some(file) = file {
-        seeds.extend(seeds::of_file(Path::new(file))?);
+        seeds.extend(seeds::of_file(Path::new(file), Arrangement::Pairs)?);
     }
     let plan = Plan { seed, runs, is_led: how == "led", folder, model: Model::default(), fault: None };
     fuzz(plan, seeds)

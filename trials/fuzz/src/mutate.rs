@@ -2,11 +2,12 @@
 
 use book::Offer;
 use cases::random::Random;
-use compare::damage::{buffer_length, damage, damage_list, flag};
+use compare::damage::{buffer_length, damage, damage_list, flag, output_length};
 use compare::kind::{as_judge, as_verify};
 use hard_use::fronts::{parts, share_fronts};
 use hard_use::wild::{any, joined};
 use inputs::call::Call;
+use oracle::arrangement::Arrangement;
 use oracle::file::Case;
 
 /// No part grows longer, so that a call stays one of microseconds.
@@ -79,6 +80,7 @@ fn change_numbers(random: &mut Random, call: &mut Call) {
             _ => *presence = flag(random),
         },
         Call::Open { length, .. } => *length = random.below(200),
+        Call::Convert { record, length, .. } => *length = output_length(random, record.len()),
         Call::Offer { offer, .. } => match random.below(3) {
             0 => offer.peer_buffer = buffer_length(random),
             1 => offer.leader = flag(random),
@@ -87,9 +89,14 @@ fn change_numbers(random: &mut Random, call: &mut Call) {
     }
 }
 
-/// The same bytes to another of the calls. An offer's book is then the case's settings, with some zeros after.
+/// The same bytes to another of the calls. An offer's book is then the case's settings, with some zeros after. A record that is
+/// converted goes to the other converter.
 fn another_kind(random: &mut Random, call: Call) -> Call {
     match call {
+        Call::Case(Case::Verify { record, .. }) if random.chance(1, 4) => {
+            let length = output_length(random, record.len());
+            Call::Convert { from: random.pick(&Arrangement::ALL), record, length }
+        }
         Call::Case(case @ Case::Verify { .. }) => Call::Case(as_judge(case)),
         Call::Case(case) if random.chance(1, 2) => Call::Case(as_verify(case)),
         Call::Case(Case::Judge { settings, schedule, record, leader, peer_buffer, .. }) => {
@@ -98,6 +105,7 @@ fn another_kind(random: &mut Random, call: Call) -> Call {
             Call::Offer { book: Some(book), offer: Offer { schedule, leader, record, peer_buffer } }
         }
         Call::Open { settings, length } => Call::Open { settings, length },
+        Call::Convert { from, record, length } => Call::Convert { from: from.other(), record, length },
         Call::Offer { book, offer: Offer { schedule, leader, record, peer_buffer } } => {
             let settings = book.unwrap_or_default().into_iter().take(book::SETTINGS).collect();
             Call::Case(Case::Judge { settings, schedule, record, leader, presence: 3, list: Vec::new(), peer_buffer })

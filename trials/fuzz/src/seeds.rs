@@ -3,11 +3,13 @@
 use std::path::Path;
 use std::process::Command;
 
+use book::file::moved;
 use cases::random::Random;
 use feeds::{Feed, Step};
 use hard_use::file::read;
 use hard_use::sources::{Source, calls};
 use inputs::call::Call;
+use oracle::arrangement::Arrangement;
 use oracle::file::{Blobs, blobs};
 
 /// Books of the feeds that are longer are left out: a call should take microseconds.
@@ -22,6 +24,7 @@ pub fn generated(seed: u64, count: u64) -> Vec<Call> {
     all.extend((0..count / 2).filter_map(|place| calls(Source::SmallBook, seed, place).into_iter().next()));
     all.extend((0..count / 50).flat_map(|place| offers(seed, place)));
     all.extend((0..count / 50).flat_map(|place| calls(Source::Opening, seed, place)));
+    all.extend((0..count / 10).flat_map(|place| calls(Source::Converted, seed, place)));
     all
 }
 
@@ -39,16 +42,21 @@ fn offers(seed: u64, place: u64) -> Vec<Call> {
     }
 }
 
-/// The calls of a file of cases, packed by xz or not. An offer of a row is given its book as the model leaves it.
-pub fn of_file(path: &Path) -> Result<Vec<Call>, String> {
+/// The calls of a file of cases, packed by xz or not, whose maps lie so; pairs are moved. An offer of a row is given its book as
+/// the model leaves it.
+pub fn of_file(path: &Path, arrangement: Arrangement) -> Result<Vec<Call>, String> {
     let bytes = if path.extension().is_some_and(|ending| ending == "xz") {
         let output = Command::new("xz").arg("-dc").arg(path).output().map_err(|e| format!("xz: {e}"))?;
         output.stdout
     } else {
         std::fs::read(path).map_err(|e| format!("{}: {e}", path.display()))?
     };
-    let whole = blobs(&bytes).filter(|blobs| !blobs.is_empty());
-    let whole = whole.ok_or_else(|| format!("{}: not a whole file of cases", path.display()))?;
+    let is_not_whole = || format!("{}: not a whole file of cases", path.display());
+    let bytes = match arrangement {
+        Arrangement::Pairs => moved(&bytes).ok_or_else(is_not_whole)?,
+        Arrangement::Columns => bytes,
+    };
+    let whole = blobs(&bytes).filter(|blobs| !blobs.is_empty()).ok_or_else(is_not_whole)?;
     let mut book = Vec::new();
     Ok(whole.iter().filter_map(|blobs| call(blobs, &mut book)).collect())
 }

@@ -8,6 +8,7 @@ use hard_use::fault::Fault;
 use hard_use::model::Model;
 use hard_use::watch::FAULTED;
 use inputs::call::Lent;
+use oracle::arrangement::Arrangement;
 
 use crate::fuzzer::{DIFFERENCE, LAST, Plan};
 use crate::{fuzz, seeds};
@@ -30,7 +31,7 @@ pub fn all(folder: &Path) -> Result<(), String> {
         if output.status.code() != Some(status) || input == 0 || !text.contains(&format!("seed {SEED}, place ")) {
             return Err(format!("{what}: not noticed, or not saved: {:?}, {input} bytes, {text}", output.status));
         }
-        seeds::of_file(&folder.join(saved)).map_err(|why| format!("{what}: {why}"))?;
+        seeds::of_file(&folder.join(saved), Arrangement::Columns).map_err(|why| format!("{what}: {why}"))?;
         println!("{what}: noticed, the input of {input} bytes is saved");
     }
     Ok(())

@@ -26,11 +26,11 @@ struct Longest {
     kind: usize,
 }
 
-/// A number, or a verdict's kind and reason.
+/// A number, none without a verdict, or a verdict's kind and reason.
 #[derive(Clone, Copy, PartialEq, Eq, PartialOrd, Ord)]
 enum Answered {
     Number(u8),
-    Opened,
+    Done,
     Verdict(u8, u8),
 }
 
@@ -38,7 +38,7 @@ impl Counts {
     pub fn add(&mut self, source: &'static str, place: u64, call: &Call, expected: &Expected, took: Duration) {
         let answered = match expected.verdict {
             Some((kind, reason)) => Answered::Verdict(kind, reason),
-            None if expected.number == 0 => Answered::Opened,
+            None if expected.number == 0 => Answered::Done,
             None => Answered::Number(expected.number),
         };
         *self.rows.entry((source, call.kind(), answered)).or_default() += 1;
@@ -94,7 +94,7 @@ impl Answered {
     fn name(self) -> String {
         match self {
             Self::Number(number) => format!("number {number:02}"),
-            Self::Opened => "opened".to_string(),
+            Self::Done => "done".to_string(),
             Self::Verdict(VALID, _) => "valid".to_string(),
             Self::Verdict(TRANS_INVALID, _) => "trans-invalid".to_string(),
             Self::Verdict(INVALID, reason) => format!("invalid {reason:02}"),

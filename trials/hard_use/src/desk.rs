@@ -11,13 +11,15 @@ use crate::memory::{Access, Buffer, Side};
 use crate::model::Expected;
 use crate::{raw, watch};
 
+/// Bytes of a count.
+const COUNT: usize = size_of::<u32>();
 /// Room for what is lent: over the longest book and the longest list that the sources make.
 const ROOM: usize = 32 << 20;
 
 /// One worker's memory to lend from.
 pub struct Desk {
     /// By the place of `Lent`.
-    buffers: [Buffer; 7],
+    buffers: [Buffer; 9],
     /// Made beside every call.
     pub fault: Option<Fault>,
 }
@@ -33,11 +35,15 @@ impl Desk {
     pub fn new(fault: Option<Fault>) -> io::Result<Self> {
         watch::enlist();
         let buffer = |lent: Lent| {
-            let room = if lent == Lent::Answer { ANSWER } else { ROOM };
+            let room = match lent {
+                Lent::Answer => ANSWER,
+                Lent::Count => COUNT,
+                _ => ROOM,
+            };
             Buffer::new(room, if lent.is_written() { Access::ReadAndWrite } else { Access::Read })
         };
         let buffers: io::Result<Vec<Buffer>> = Lent::ALL.into_iter().map(buffer).collect();
-        let buffers = buffers?.try_into().unwrap_or_else(|_| unreachable!("there are seven"));
+        let buffers = buffers?.try_into().unwrap_or_else(|_| unreachable!("there are nine"));
         Ok(Self { buffers, fault })
     }
 
@@ -45,17 +51,21 @@ impl Desk {
         &self.buffers[lent as usize]
     }
 
-    /// Lays out what the call is lent. The lowest bits of `layout` choose each buffer's side, the next eight what the buffers
+    /// Lays out what the call is lent. The lowest bits of `layout` choose each buffer's side, `fill` of it is what the buffers
     /// hold that are to be written.
     pub fn lay_out(&mut self, call: &Call, layout: u64) {
         let side = |lent: Lent| if layout >> lent as u8 & 1 == 1 { Side::Upper } else { Side::Lower };
-        let fill = (layout >> 7) as u8;
+        let fill = fill(layout);
         for (lent, bytes) in call.inputs() {
             self.buffers[lent as usize].lend(bytes, side(lent), fill);
         }
         if let Some(length) = call.peer_buffer() {
             self.buffers[Lent::Peers as usize].lend_filled(length, side(Lent::Peers), fill);
             self.buffers[Lent::Answer as usize].lend_filled(ANSWER, side(Lent::Answer), fill);
+        }
+        if let Some(length) = call.output() {
+            self.buffers[Lent::Output as usize].lend_filled(length, side(Lent::Output), fill);
+            self.buffers[Lent::Count as usize].lend_filled(COUNT, side(Lent::Count), fill);
         }
         let book = &mut self.buffers[Lent::Book as usize];
         match call {
@@ -89,6 +99,12 @@ impl Desk {
             same("answer", answer, expected.answer.as_ref().map_or(&[], |answer| &answer[..]))?;
             same("peer buffer", peers, unknown)?;
         }
+        if call.output().is_some() {
+            let converted = expected.converted.as_deref().unwrap_or_default();
+            let count = expected.converted.as_ref().map(|record| (record.len() as u32).to_ne_bytes());
+            same("output", self.buffer(Lent::Output), converted)?;
+            same("count", self.buffer(Lent::Count), count.as_ref().map_or(&[], |count| &count[..]))?;
+        }
         if let Some(book) = &expected.book {
             same("book", self.buffer(Lent::Book), book)?;
         }
@@ -100,6 +116,11 @@ impl Desk {
             None => Ok(()),
         }
     }
+}
+
+/// The bits of a layout after those for the sides: what buffers hold that are to be written.
+pub fn fill(layout: u64) -> u8 {
+    (layout >> Lent::ALL.len()) as u8
 }
 
 /// Whether a buffer holds these bytes, and after them what it was filled with.

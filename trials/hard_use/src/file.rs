@@ -2,10 +2,12 @@
 
 use book::Offer;
 use inputs::call::Call;
+use oracle::arrangement::Arrangement;
 use oracle::file::{Blobs, Case, JUDGE, VERIFY};
 
 const OPEN: u8 = 3;
 const OFFER_TO: u8 = 6;
+const CONVERT: u8 = 17;
 
 /// The bytes of a call; an offer needs its book.
 pub fn write(call: &Call) -> Vec<u8> {
@@ -22,6 +24,7 @@ pub fn write(call: &Call) -> Vec<u8> {
             let book = book.as_deref().unwrap_or_default();
             blobs(OFFER_TO, &[book, schedule, &[*leader], record, &number(*peer_buffer)])
         }
+        Call::Convert { from, record, length } => blobs(CONVERT, &[&[*from as u8], record, &number(*length as u32)]),
     }
 }
 
@@ -61,6 +64,11 @@ pub fn read((kind, blobs): &Blobs<'_>) -> Option<Call> {
                 record: record.to_vec(),
                 peer_buffer: number(peer_buffer)?,
             },
+        },
+        (CONVERT, [[from], record, length, ..]) => Call::Convert {
+            from: *Arrangement::ALL.get(usize::from(*from))?,
+            record: record.to_vec(),
+            length: number(length)? as usize,
         },
         _ => return None,
     })

@@ -25,6 +25,7 @@ pub fn parts(call: &mut Call) -> Vec<&mut Vec<u8>> {
         Call::Case(Case::Verify { settings, schedule, record, .. }) => vec![settings, schedule, record],
         Call::Case(Case::Judge { settings, schedule, record, list, .. }) => vec![settings, schedule, record, list],
         Call::Open { settings, .. } => vec![settings],
+        Call::Convert { record, .. } => vec![record],
         Call::Offer { book, offer } => vec![book.get_or_insert_default(), &mut offer.schedule, &mut offer.record],
     }
 }

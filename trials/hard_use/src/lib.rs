@@ -1,5 +1,6 @@
 //! The C calls on bytes that stand between guard pages, against the model.
 
+pub mod converted;
 pub mod counts;
 pub mod desk;
 pub mod fault;

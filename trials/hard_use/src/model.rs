@@ -3,6 +3,7 @@
 use book::{Book, Marks, Offer, spread};
 use inputs::call::Call;
 use oracle::Answer;
+use oracle::arrangement::{Arrangement, converted};
 use oracle::file::Case;
 use oracle::value::Peer;
 use plain::{KNOWN_PANIC, Prepared};
@@ -25,6 +26,8 @@ pub struct Expected {
     pub unknown: Vec<Peer>,
     /// None if the call is lent none, or one that is compared elsewhere.
     pub book: Option<Vec<u8>>,
+    /// At the output's front, with its length in the count; none if both keep their bytes.
+    pub converted: Option<Vec<u8>>,
     /// The kind of a verdict and its reason.
     pub verdict: Option<(u8, u8)>,
     /// The Rust panicked as is known, and the plain judge stood in.
@@ -35,19 +38,31 @@ impl Expected {
     /// A panic that isn't known is no answer.
     pub fn new(answer: &Answer, book: Option<Vec<u8>>, stood_in: bool) -> Result<Self, String> {
         Ok(match answer {
-            Answer::Number(number) => {
-                Self { number: *number, answer: None, unknown: Vec::new(), book, verdict: None, stood_in }
-            }
+            Answer::Number(number) => Self { book, stood_in, ..Self::number(*number) },
             Answer::Verdict(verdict) => Self {
                 number: 0,
                 answer: Some(verdict.bytes()),
                 unknown: verdict.unknown.clone(),
                 book,
+                converted: None,
                 verdict: Some((verdict.kind, verdict.reason)),
                 stood_in,
             },
             Answer::Panic(message) => return Err(format!("the oracle has no answer: {message}")),
         })
+    }
+
+    /// A number or 0, and nothing changed.
+    fn number(number: u8) -> Self {
+        let (unknown, stood_in) = (Vec::new(), false);
+        Self { number, answer: None, unknown, book: None, converted: None, verdict: None, stood_in }
+    }
+
+    fn convert(from: Arrangement, record: &[u8], length: usize) -> Self {
+        match converted(record, from, length) {
+            Ok(record) => Self { converted: Some(record), ..Self::number(0) },
+            Err(number) => Self::number(number),
+        }
     }
 }
 
@@ -59,13 +74,13 @@ impl Model {
             Call::Open { settings, length } => {
                 let mut slice = vec![fill; *length];
                 let number = book::open(&mut slice, settings);
-                let book = Some(slice);
-                Ok(Expected { number, answer: None, unknown: Vec::new(), book, verdict: None, stood_in: false })
+                Ok(Expected { book: Some(slice), ..Expected::number(number) })
             }
             Call::Offer { book, offer } => {
                 let slice = book.as_ref().ok_or("an offer to the book of the call before has no model here")?;
                 self.offer(slice, offer)
             }
+            Call::Convert { from, record, length } => Ok(Expected::convert(*from, record, *length)),
         }
     }
 

@@ -1,9 +1,13 @@
-//! The four C calls on what a desk lends. Each length is that of the buffer before it, and buffers don't overlap.
+//! The C calls on what a desk lends. Each length is that of the buffer before it, and buffers don't overlap.
 
 use book::Offer;
 use inputs::call::{Call, Lent};
+use oracle::arrangement::Arrangement;
 use oracle::file::Case;
-use wutherdish_sys::{ANSWER, wutherdish_judge, wutherdish_offer, wutherdish_open, wutherdish_verify};
+use wutherdish_sys::{
+    ANSWER, wutherdish_columns_to_pairs, wutherdish_judge, wutherdish_offer, wutherdish_open,
+    wutherdish_pairs_to_columns, wutherdish_verify,
+};
 
 use crate::desk::Desk;
 
@@ -13,6 +17,7 @@ pub fn call(desk: &Desk, call: &Call) -> u8 {
         Call::Case(Case::Judge { leader, presence, .. }) => judge(desk, *leader, *presence),
         Call::Open { .. } => open(desk),
         Call::Offer { offer: Offer { leader, .. }, .. } => offer(desk, *leader),
+        Call::Convert { from, .. } => convert(desk, *from),
     }
 }
 
@@ -88,4 +93,14 @@ fn offer(desk: &Desk, leader: u8) -> u8 {
             answer(desk),
         )
     }
+}
+
+fn convert(desk: &Desk, from: Arrangement) -> u8 {
+    let call = match from {
+        Arrangement::Pairs => wutherdish_pairs_to_columns,
+        Arrangement::Columns => wutherdish_columns_to_pairs,
+    };
+    let (record, output, count) = (Lent::Record, Lent::Output, at(desk, Lent::Count).cast());
+    // SAFETY: as said above; a count touches the start or the end of a page, so that it is aligned.
+    unsafe { call(at(desk, record), len(desk, record), at(desk, output), len(desk, output), count) }
 }

@@ -87,14 +87,15 @@ fn first_difference(worker: &mut Worker, plan: Plan, places: u64) -> Option<Stri
         .find_map(|place| worker.run(plan, place).err().map(|why| format!("seed {}, place {place}: {why}", plan.seed)))
 }
 
-/// Places of the run without offers, which don't ask the judge that has the mistake, and without long lists.
+/// Places of the run without offers and the calls that don't ask the judge that has the mistake, and without long lists.
 fn judge_mistake(worker: &mut Worker, mistake: plain::Mistake) -> Result<(), String> {
     let model = Model { judge_mistake: Some(mistake), ..Model::default() };
     let plan = Plan { seed: SEED, model, fault: None };
     let has_cases = |place: &u64| {
         let source = Source::of(SEED, *place);
-        let others = [Source::Feed, Source::Certificates, Source::DamagedBook, Source::SmallBook, Source::Opening];
-        source != Source::Dear && !others.contains(&source)
+        let offers = [Source::Feed, Source::Certificates, Source::DamagedBook, Source::SmallBook];
+        let others = [Source::Opening, Source::Converted, Source::Dear];
+        !offers.contains(&source) && !others.contains(&source)
     };
     let noticed = (0..MISTAKE_PLACES).filter(has_cases).any(|place| worker.run(plan, place).is_err());
     if noticed { Ok(()) } else { Err(format!("a mistake of the judge went unnoticed: {}", mistake.text())) }

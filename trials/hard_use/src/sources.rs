@@ -9,7 +9,7 @@ use inputs::call::Call;
 use inputs::dear::Shape;
 
 use crate::fronts::share_fronts;
-use crate::{opening, small_book, wild};
+use crate::{converted, opening, small_book, wild};
 
 /// The choice of a place's source differs from its cases.
 const CHOICE: u64 = 0x736F_7572;
@@ -25,6 +25,7 @@ pub enum Source {
     SmallBook,
     SharedFronts,
     Opening,
+    Converted,
     Spliced,
     Wild,
     Dear,
@@ -32,7 +33,7 @@ pub enum Source {
 
 /// Sources with their parts of the places. A feed's place has 200 offers, one for certificates up to 1,400, a permuted one up to 96
 /// calls.
-const PARTS: [(Source, usize); 12] = [
+const PARTS: [(Source, usize); 13] = [
     (Source::Generated, 450),
     (Source::Damaged, 500),
     (Source::Permuted, 250),
@@ -42,6 +43,7 @@ const PARTS: [(Source, usize); 12] = [
     (Source::SmallBook, 250),
     (Source::SharedFronts, 150),
     (Source::Opening, 60),
+    (Source::Converted, 100),
     (Source::Spliced, 250),
     (Source::Wild, 150),
     (Source::Dear, 4),
@@ -70,6 +72,7 @@ impl Source {
             Self::SmallBook => "small books",
             Self::SharedFronts => "ids alike at their front",
             Self::Opening => "openings",
+            Self::Converted => "records converted",
             Self::Spliced => "spliced cases",
             Self::Wild => "wild bytes",
             Self::Dear => "dear inputs",
@@ -89,6 +92,7 @@ pub fn calls(source: Source, seed: u64, place: u64) -> Vec<Call> {
         Source::SmallBook => return small_book::offers(&mut random, seed, place),
         Source::SharedFronts => return alike(&mut random, seed, place),
         Source::Opening => return vec![opening::opening(&mut random, seed, place)],
+        Source::Converted => return converted::conversions(&mut random, seed, place),
         Source::Dear => return vec![dear(&mut random)],
         Source::Feed | Source::Certificates | Source::DamagedBook => unreachable!("their calls depend on one another"),
     };

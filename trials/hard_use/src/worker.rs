@@ -6,7 +6,7 @@ use feeds::{Feed, Ordered, OrderedStep, Step, damaged_books};
 use inputs::call::Call;
 
 use crate::counts::Counts;
-use crate::desk::Desk;
+use crate::desk::{Desk, fill};
 use crate::fault::Fault;
 use crate::model::{Expected, Model};
 use crate::sources::{self, Source};
@@ -86,7 +86,7 @@ impl Place<'_> {
     ) -> Result<(), String> {
         self.calls += 1;
         let called = self.desk.call(call, layout);
-        let expected = expected(&self.plan.model, (layout >> 7) as u8)?;
+        let expected = expected(&self.plan.model, fill(layout))?;
         let name = Call::NAMES[call.kind()];
         self.desk.check(call, called.number, &expected).map_err(|why| format!("{name} differs: {why}"))?;
         self.counts.add(self.source.name(), self.place, call, &expected, called.took);

@@ -1,6 +1,7 @@
 //! One call of the library, with all that it is lent.
 
 use book::Offer;
+use oracle::arrangement::Arrangement;
 use oracle::file::Case;
 
 #[derive(Clone)]
@@ -17,6 +18,12 @@ pub enum Call {
         book: Option<Vec<u8>>,
         offer: Offer,
     },
+    Convert {
+        from: Arrangement,
+        record: Vec<u8>,
+        /// Of the output.
+        length: usize,
+    },
 }
 
 /// What a call can be lent.
@@ -29,20 +36,31 @@ pub enum Lent {
     Book,
     Peers,
     Answer,
+    Output,
+    Count,
 }
 
 impl Lent {
-    pub const ALL: [Self; 7] =
-        [Self::Settings, Self::Schedule, Self::Record, Self::List, Self::Book, Self::Peers, Self::Answer];
+    pub const ALL: [Self; 9] = [
+        Self::Settings,
+        Self::Schedule,
+        Self::Record,
+        Self::List,
+        Self::Book,
+        Self::Peers,
+        Self::Answer,
+        Self::Output,
+        Self::Count,
+    ];
 
     /// Whether a call may write it.
     pub fn is_written(self) -> bool {
-        matches!(self, Self::Book | Self::Peers | Self::Answer)
+        matches!(self, Self::Book | Self::Peers | Self::Answer | Self::Output | Self::Count)
     }
 }
 
 impl Call {
-    pub const NAMES: [&str; 4] = ["verify", "judge", "open", "offer"];
+    pub const NAMES: [&str; 6] = ["verify", "judge", "open", "offer", "pairs to columns", "columns to pairs"];
 
     /// The place of its name.
     pub fn kind(&self) -> usize {
@@ -51,6 +69,8 @@ impl Call {
             Self::Case(Case::Judge { .. }) => 1,
             Self::Open { .. } => 2,
             Self::Offer { .. } => 3,
+            Self::Convert { from: Arrangement::Pairs, .. } => 4,
+            Self::Convert { from: Arrangement::Columns, .. } => 5,
         }
     }
 
@@ -66,6 +86,7 @@ impl Call {
             }
             Self::Open { settings, .. } => vec![(Lent::Settings, settings)],
             Self::Offer { offer, .. } => vec![(Lent::Schedule, &offer.schedule), (Lent::Record, &offer.record)],
+            Self::Convert { record, .. } => vec![(Lent::Record, record)],
         }
     }
 
@@ -75,16 +96,25 @@ impl Call {
             Self::Case(Case::Verify { peer_buffer, .. } | Case::Judge { peer_buffer, .. }) => {
                 Some(*peer_buffer as usize)
             }
-            Self::Open { .. } => None,
+            Self::Open { .. } | Self::Convert { .. } => None,
             Self::Offer { offer, .. } => Some(offer.peer_buffer as usize),
+        }
+    }
+
+    /// The length of the output, where there is one, with a count beside it.
+    pub fn output(&self) -> Option<usize> {
+        match self {
+            Self::Convert { length, .. } => Some(*length),
+            _ => None,
         }
     }
 
     /// What it is lent.
     pub fn lends(&self, lent: Lent) -> bool {
         match lent {
-            Lent::Book => self.kind() >= 2,
+            Lent::Book => matches!(self, Self::Open { .. } | Self::Offer { .. }),
             Lent::Peers | Lent::Answer => self.peer_buffer().is_some(),
+            Lent::Output | Lent::Count => self.output().is_some(),
             _ => self.inputs().iter().any(|(other, _)| *other == lent),
         }
     }

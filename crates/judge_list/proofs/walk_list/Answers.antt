@@ -12,7 +12,7 @@ use Rattle.base.proofs.Lists.{rest}
 use Rattle.point.specs.Said.{said}
 use Rattle.schedule.specs.Settings.{Settings}
 use Rattle.schedule.specs.Code.{settings_of}
-use Rattle.rules.specs.List.{is_in_order, read_entry, list_from, read_list}
+use Rattle.rules.specs.List.{is_in_order, read_entry, list_from, read_list, read_list_in}
 use Rattle.judge_entries.specs.Entry.{listed_of}
 use Rattle.judge_step.specs.Code.{judging_of, gives_of}
 use Rattle.judge_step.proofs.Laws.{passed}
@@ -67,7 +67,7 @@ goes o v seen g e f =
     (omega (arith, within o)) (omega (arith, o.if-left-eq0.false)) (read o) g e (rest x.size s) f o.loop-rest.invariant
 
 all_left : (s : List ℕ) → list_from 65535 false s ≡ read_list s
-unfolding read_list
+unfolding read_list_in
 all_left s = refl
 
 pub loop-rest-init : goal.loop-rest-init

@@ -1,7 +1,9 @@
 //! `explain` on files of cases.
 
+use wutherdish::{Point, columns_to_pairs};
+
 use crate::explain::{explained, says};
-use crate::run::{done, drill, fed, repository};
+use crate::run::{done, drill, fed, repository, split_front};
 
 /// The answer, the last blob, of each case of a file whose cases have one.
 fn answers(bytes: &[u8]) -> Vec<&[u8]> {
@@ -62,7 +64,7 @@ fn what_stands_before_a_bad_case_is_explained() {
         assert_eq!((ran.code, ran.err), (Some(1), message));
         assert!(ran.out.ends_with("\n\ncases: 1\nverdicts: 1 invalid\n"), "{}", ran.out);
     };
-    let no_case = "a case: 1 for verifying or 2 for judging, and its blobs";
+    let no_case = "a case: 1 for verifying, 2 for judging or 17 for converting, and its blobs";
     bad(&[3, 0], 0, no_case);
     bad(&[2], 0, no_case);
     bad(&[1, 1, 0, 0, 0, 0], 0, no_case);
@@ -80,4 +82,42 @@ fn a_peer_buffer_of_any_length() {
         case[place..].copy_from_slice(&length.to_le_bytes());
         assert!(!done(&["explain", "-"], &case).contains("refused"));
     }
+}
+
+/// A case of converting, with an answer or without.
+fn converting(direction: u8, record: &[u8], output: u32, answer: Option<&[u8]>) -> Vec<u8> {
+    let (direction, output) = ([direction], output.to_le_bytes());
+    let blobs = [&direction, record, &output].into_iter().chain(answer);
+    let mut case = vec![17, 3 + u8::from(answer.is_some())];
+    for blob in blobs {
+        case.extend((blob.len() as u32).to_le_bytes());
+        case.extend(blob);
+    }
+    case
+}
+
+#[test]
+fn converting_is_explained() {
+    let point = Point::read(&split_front(&drill("number-12")).1[1..]).expect("it can be read").0;
+    let columns = point.to_bytes().expect("it can be written");
+    let pairs = columns_to_pairs(&columns).expect("it can be converted");
+    let length = columns.len() as u32;
+    let cases = [
+        (converting(0, &pairs, length, None), "from pairs to columns", "converted"),
+        (converting(1, &columns, u32::MAX, Some(&[])), "from columns to pairs", "converted"),
+        (converting(1, &columns, length - 1, None), "from columns to pairs", "refused with number 14: "),
+        (converting(0, &columns, length, None), "from pairs to columns", "refused with number 3: "),
+    ];
+    let out = done(&["explain", "-"], &cases.each_ref().map(|(case, _, _)| &case[..]).concat());
+    let explained = explained(&out);
+    assert_eq!(explained.len(), cases.len());
+    for (place, ((_, way, answer), lines)) in cases.iter().zip(&explained).enumerate() {
+        let said = if place == 3 { "a record that can't be read".into() } else { format!("{}, genesis", point.id) };
+        assert_eq!(lines[0], format!("convert: {said}, {way}"));
+        assert!(lines[1].starts_with(answer), "{lines:?}");
+    }
+    let verdicts = "2 converted, 1 refused with number 3, 1 refused with number 14";
+    assert!(out.ends_with(&format!("\n\ncases: 4\nverdicts: {verdicts}\n")), "{out}");
+    let ran = fed(&["explain", "-"], &converting(2, &columns, length, None));
+    assert!(ran.err.contains(": byte 0: expected a case: "), "{}", ran.err);
 }

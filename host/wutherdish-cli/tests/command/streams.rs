@@ -30,9 +30,16 @@ fn assert_closed(arguments: &[&str], out: PipeWriter, input: &[u8]) {
 
 #[test]
 fn a_closed_pipe_ends_it_quietly() {
-    for arguments in
-        [&["explain", "-"][..], &["show", "-"], &["tally"], &["demo"], &["drill"], &["help"], &["--version"]]
-    {
+    for arguments in [
+        &["explain", "-"][..],
+        &["show", "-"],
+        &["tally"],
+        &["convert", "--to=pairs", "-"],
+        &["demo"],
+        &["drill"],
+        &["help"],
+        &["--version"],
+    ] {
         assert_closed(arguments, closed_pipe(), &drill("demo"));
     }
     // one that is closed after its first bytes
@@ -62,9 +69,16 @@ fn output_that_cannot_be_written_is_1() {
     let bad = "wutherdish: standard output: Bad file descriptor (os error 9)\n";
     for (redirection, message) in [(">/dev/full", FULL), (">&-", bad), ("1</dev/null", bad)] {
         let script = format!("exec \"$0\" \"$@\" {redirection}");
-        for arguments in
-            [&["explain", "-"][..], &["show", "-"], &["tally"], &["demo"], &["drill"], &["help"], &["--version"]]
-        {
+        for arguments in [
+            &["explain", "-"][..],
+            &["show", "-"],
+            &["tally"],
+            &["convert", "--to=pairs", "-"],
+            &["demo"],
+            &["drill"],
+            &["help"],
+            &["--version"],
+        ] {
             let ran = shell(&script, arguments, &drill("demo"));
             assert_eq!((ran.code, &ran.err[..]), (Some(1), message), "{redirection} {arguments:?}");
         }
@@ -79,7 +93,7 @@ fn output_that_cannot_be_written_is_1() {
 #[test]
 fn input_that_cannot_be_read_is_1() {
     for redirection in ["<&-", "0>/dev/null"] {
-        for arguments in [&["explain", "-"][..], &["show", "-"], &["tally"]] {
+        for arguments in [&["explain", "-"][..], &["show", "-"], &["tally"], &["convert", "--to=pairs", "-"]] {
             let ran = shell(&format!("exec \"$0\" \"$@\" {redirection}"), arguments, &[]);
             assert_eq!((ran.code, &ran.out[..]), (Some(1), ""), "{redirection} {arguments:?}");
             assert_eq!(ran.err, "wutherdish: standard input: Bad file descriptor (os error 9)\n");

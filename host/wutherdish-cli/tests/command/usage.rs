@@ -42,6 +42,12 @@ fn wrong_usage_is_2() {
     assert_usage(&["drill", ""], "no drill is called \"\"");
     assert_usage(&["explain", "-", "a\nb"], r#""a\nb" is one argument too many"#);
     assert_usage(&["drill", "-o", "x"], "-o needs the name of a drill");
+    for to in [&[][..], &["--to", "rows"], &["--to=Pairs"]] {
+        let wanted = "--to columns or --to pairs says what records are converted to";
+        assert_usage(&[&["convert", "-"], to].concat(), wanted);
+    }
+    assert_usage(&["convert", "--to", "pairs"], "a file is missing");
+    assert_usage(&["tally", "--to", "pairs"], "--to is no option here");
     for room in ["46", "16777217", "-1", "many", " 100"] {
         assert_usage(&["explain", "-", "--room", room], "--room needs a number from 47 to 16777216");
         assert_usage(&["explain", "-", &format!("--room={room}")], "--room needs a number from 47 to 16777216");
@@ -77,10 +83,11 @@ fn after_two_dashes_there_are_no_options() {
 #[test]
 fn help_and_version() {
     let help = done(&["help"], &[]);
-    for words in ["explain FILE", "show FILE", "tally [FILE]", "drill [NAME", "demo", "--version", "Exit code"] {
+    let commands = ["explain FILE", "show FILE", "tally [FILE]", "convert --to NAME FILE", "drill [NAME", "demo"];
+    for words in commands.into_iter().chain(["--version", "Exit code"]) {
         assert!(help.contains(words), "{words}");
     }
-    for option in ["--room", "--book", "--full-ids", "--progress", "-o", "--help", "--version"] {
+    for option in ["--room", "--book", "--full-ids", "--progress", "--to", "-o", "--help", "--version"] {
         assert!(help.contains(&format!("\n  {option} ")), "{option}");
     }
     assert!(help.lines().all(|line| line.chars().count() <= 105), "{help}");
@@ -88,7 +95,7 @@ fn help_and_version() {
         assert_eq!(done(arguments, &[]), help);
     }
     let version = done(&["--version"], &[]);
-    assert_eq!(version, concat!("wutherdish ", env!("CARGO_PKG_VERSION"), "\nlibrary 0.1, format 1, ABI 1\n"));
+    assert_eq!(version, concat!("wutherdish ", env!("CARGO_PKG_VERSION"), "\nlibrary 0.1, format 2, ABI 1\n"));
 }
 
 #[test]
@@ -98,6 +105,7 @@ fn help_for_one_command() {
         ("explain", &["--last", "--room", "--book", "--full-ids", "--progress"][..]),
         ("show", &["--room", "--progress", "-o"]),
         ("tally", &["--progress"]),
+        ("convert", &["-o"]),
         ("drill", &["-o"]),
         ("demo", &["-o"]),
         ("help", &[]),
@@ -119,6 +127,11 @@ fn help_for_one_command() {
             assert_eq!(done(arguments, &[]), help, "{arguments:?}");
         }
     }
+    let help = done(&["help", "convert"], &[]);
+    assert!(
+        help.starts_with("wutherdish convert --to NAME FILE [-o FILE]\n") && help.contains("\n  --to NAME "),
+        "{help}"
+    );
 }
 
 /// A file that is not what it should be: its name, and what is wrong.
@@ -131,7 +144,7 @@ fn assert_bad(arguments: &[&str], input: &[u8], wanted: &str) {
 #[test]
 fn bad_input_is_1() {
     let neither =
-        "standard input: byte 0: expected a feed or a book (tag 32), a point record (tag 1), or a case (1 or 2)";
+        "standard input: byte 0: expected a feed or a book (tag 32), a point record (tag 1), or a case (1, 2 or 17)";
     for command in ["explain", "show"] {
         assert_bad(&[command, "-"], &[], neither);
         assert_bad(&[command, "-"], b"text", neither);

@@ -101,7 +101,7 @@ pub fn answer(given: &Result<Verdict, Refusal>) -> Answer {
     }
 }
 
-/// What the call of a case gives.
+/// What the call of a case gives. No drill is there for a record that is converted.
 pub fn case_answer(bytes: &[u8]) -> Answer {
     let blobs = blobs(bytes);
     let length = u32::from_le_bytes(blobs[blobs.len() - 1].try_into().expect("four bytes"));
@@ -112,7 +112,8 @@ pub fn case_answer(bytes: &[u8]) -> Answer {
         [settings, schedule, record, &[leader, presence], list, _] => {
             lent::judge(settings, schedule, record, leader, presence, list, &mut peers, &mut bytes)
         }
-        _ => panic!("neither verifying nor judging"),
+        [&[0], record, _] => return Answer::Number(lent::pairs_to_columns(record, &mut peers, &mut 0)),
+        _ => panic!("neither verifying, judging nor converting to columns"),
     };
     match number {
         0 => answer(&Ok(Verdict::read(&bytes, &peers).expect("an answer of judging"))),
@@ -131,6 +132,7 @@ pub fn blobs(bytes: &[u8]) -> Vec<&[u8]> {
     }
     assert!(rest.is_empty());
     assert_eq!(blobs.len(), usize::from(head[1]));
-    assert_eq!(blobs.len(), [4, 6][usize::from(head[0]) - 1]);
+    let counts = [(1, 4), (2, 6), (17, 3)];
+    assert!(counts.iter().any(|(kind, count)| head[0] == *kind && blobs.len() == *count), "{head:?}");
     blobs
 }

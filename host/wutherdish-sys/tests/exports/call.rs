@@ -1,7 +1,7 @@
 //! A call, as its source declares it.
 
 /// What a parameter may be. Under another name, or with a lifetime, one that is lent would not be seen as such.
-const KINDS: [&str; 4] = ["u8", "&[u8]", "&mut [u8]", "&mut [u8; 114]"];
+const KINDS: [&str; 5] = ["u8", "&[u8]", "&mut [u8]", "&mut [u8; 114]", "&mut u32"];
 
 #[derive(Debug)]
 pub struct Call {

@@ -72,6 +72,15 @@ fn a_lent_slice_of_which_nothing_is_said() {
 }
 
 #[test]
+fn a_lent_count_or_output_of_which_nothing_is_said() {
+    for name in ["out", "written"] {
+        let exports = changed(&format!("{{ {name}.new ≡ "), "{ record.new ≡ ");
+        let fault = format!("wutherdish_pairs_to_columns says nothing of {name}");
+        assert_eq!(exports.faults(), [fault]);
+    }
+}
+
+#[test]
 fn what_is_said_of_itself() {
     let exports = changed("answer.new ≡ verify_answer", "answer.new ≡ same answer.new");
     assert_eq!(exports.faults(), ["wutherdish_verify says nothing of answer"]);

@@ -107,14 +107,15 @@ fn a_faults_place_is_its_field() {
     assert!(unreadable > CASES / 20, "{unreadable} of {CASES} were unreadable");
 }
 
-/// A field of n rows of this width, by rising first bytes, after a front.
-fn rows(tag: u8, front: &[u8], count: u16, width: usize) -> Vec<u8> {
-    let length = (front.len() + usize::from(count) * width) as u16;
+/// A field of n peers, rising, after a front, and then of n digests of this length.
+fn rows(tag: u8, front: &[u8], count: u16, digest: usize) -> Vec<u8> {
+    let length = (front.len() + usize::from(count) * (32 + digest)) as u16;
     let mut bytes = [&[tag], &length.to_le_bytes()[..], front].concat();
     for number in 0..count {
         bytes.extend(number.to_be_bytes());
-        bytes.extend(vec![0; width - 2]);
+        bytes.extend([0; 30]);
     }
+    bytes.extend(vec![0; usize::from(count) * digest]);
     bytes
 }
 
@@ -123,16 +124,16 @@ fn rows_up_to_255() {
     let good = record(&genesis());
     let starts = starts(&good);
     let (settings, schedule) = (settings().to_bytes(), schedule());
-    for (place, tag, width) in [(2, 3, 64), (3, 4, 64), (4, 5, 32)] {
+    for (place, tag, digest) in [(2, 3, 32), (3, 4, 32), (4, 5, 0)] {
         for count in [254, 255, 256, 257] {
-            let parts = [&good[..starts[place]], &rows(tag, &[], count, width), &good[starts[place + 1]..]];
+            let parts = [&good[..starts[place]], &rows(tag, &[], count, digest), &good[starts[place + 1]..]];
             let bytes = parts.concat();
             assert_eq!(Point::try_from(&bytes[..]).is_ok(), count <= 255);
             assert_eq!(verify(&settings, &schedule, &bytes) == 3, count > 255);
         }
     }
     for count in [255, 256] {
-        let bytes = [rows(34, &[11, 0, 0, 0], count, 32), vec![35, 4, 0, 99, 0, 0, 0]].concat();
+        let bytes = [rows(34, &[11, 0, 0, 0], count, 0), vec![35, 4, 0, 99, 0, 0, 0]].concat();
         assert_eq!(Schedule::try_from(&bytes[..]).is_ok(), count <= 255);
         assert_eq!(verify(&settings, &bytes, &good) == 2, count > 255);
     }

@@ -58,10 +58,22 @@ fn peers_are_written_rising() {
     let bytes = Schedule::new(9).span(5, peers(255)).to_bytes().expect("255 peers");
     let written: Vec<[u8; 32]> = bytes[7..7 + 255 * 32].as_chunks().0.to_vec();
     assert!(written.is_sorted() && written[0] == [0; 32]);
-    let point = peers(3).fold(Random(4).point(0), |point, peer| point.include(peer, Digest(peer.0)));
-    let bytes = point.to_bytes().expect("3 peers");
-    let rows: Vec<[u8; 64]> = bytes[85..85 + 3 * 64].as_chunks().0.to_vec();
-    assert!(rows.is_sorted() && rows[0] == [0; 64]);
+}
+
+#[test]
+fn digests_are_written_after_all_peers() {
+    let empty = Random(4).point(0);
+    let digest = |peer: PeerId| Digest(peer.0.map(|byte| 255 - byte));
+    let rising: BTreeSet<PeerId> = peers(3).collect();
+    let digests = rising.iter().map(|peer| digest(*peer).0);
+    let expected: Vec<[u8; 32]> = rising.iter().map(|peer| peer.0).chain(digests).collect();
+    let includes = peers(3).fold(empty.clone(), |point, peer| point.include(peer, digest(peer)));
+    let witness = peers(3).fold(empty, |point, peer| point.witness(peer, digest(peer)));
+    for (point, place) in [(includes, 85), (witness, 88)] {
+        let bytes = point.to_bytes().expect("3 peers");
+        let columns: Vec<[u8; 32]> = bytes[place..place + 6 * 32].as_chunks().0.to_vec();
+        assert_eq!(columns, expected);
+    }
 }
 
 #[test]

@@ -1,6 +1,7 @@
 //! Values, their bytes, and what the library makes of them.
 
 mod book;
+mod convert;
 mod damage;
 mod halves;
 mod inverse;

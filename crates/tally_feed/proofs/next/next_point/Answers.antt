@@ -1,7 +1,7 @@
 -- `next_point` meets its contract: where the record ends, what its offer gives, and what it says; each `return` cites the law of its case.
 use Prim.Native.Nat.{ℕ, suc, ◌+◌, ◌-◌, ◌<◌}
 use native.Mathlib.Omega.{arith}
-use mathlib.Core.Path.{◌≡◌, refl, ap, sym, ◌∙◌}
+use mathlib.Core.Path.{◌≡◌, ap, sym, ◌∙◌}
 use mathlib.Core.List.{List}
 use lib.ListN.{length, get_or, take, drop, length-drop}
 use Rattle.std.proofs.Common.{◌≢◌, rules}

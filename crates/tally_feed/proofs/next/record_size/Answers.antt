@@ -1,11 +1,9 @@
 -- `record_size` meets its contract: where the record ends, or the length.
-use Rattle.std.specs.Prelude.{Option, None, Some, unwrap_or}
 use Rattle.std.proofs.lemmas.Grind.{common_steps}
 use native.Mathlib.Omega.{arith}
 use mathlib.Core.Path.{◌≡◌, subst, sym}
 use lib.ListN.{length}
 use Prim.Native.Nat.{◌≤◌}
-use Rattle.record.specs.Record.{record_end}
 use Rattle.tally_feed.specs.Tally.{record_size}
 use Rattle.tally_feed.proofs.Laws.{size-inside}
 use Rattle.tally_feed.proofs.next.record_size.Goals as goal
