@@ -28,18 +28,21 @@ fn assert_closed(arguments: &[&str], out: PipeWriter, input: &[u8]) {
     assert_eq!((output.status.code(), &output.stderr[..]), (Some(CLOSED), &b""[..]), "{arguments:?}");
 }
 
+/// The commands that write to standard output.
+const TELLING: [&[&str]; 8] = [
+    &["explain", "-"],
+    &["show", "-"],
+    &["tally"],
+    &["convert", "--to=pairs", "-"],
+    &["demo"],
+    &["drill"],
+    &["help"],
+    &["--version"],
+];
+
 #[test]
 fn a_closed_pipe_ends_it_quietly() {
-    for arguments in [
-        &["explain", "-"][..],
-        &["show", "-"],
-        &["tally"],
-        &["convert", "--to=pairs", "-"],
-        &["demo"],
-        &["drill"],
-        &["help"],
-        &["--version"],
-    ] {
+    for arguments in TELLING {
         assert_closed(arguments, closed_pipe(), &drill("demo"));
     }
     // one that is closed after its first bytes
@@ -69,16 +72,7 @@ fn output_that_cannot_be_written_is_1() {
     let bad = "wutherdish: standard output: Bad file descriptor (os error 9)\n";
     for (redirection, message) in [(">/dev/full", FULL), (">&-", bad), ("1</dev/null", bad)] {
         let script = format!("exec \"$0\" \"$@\" {redirection}");
-        for arguments in [
-            &["explain", "-"][..],
-            &["show", "-"],
-            &["tally"],
-            &["convert", "--to=pairs", "-"],
-            &["demo"],
-            &["drill"],
-            &["help"],
-            &["--version"],
-        ] {
+        for arguments in TELLING {
             let ran = shell(&script, arguments, &drill("demo"));
             assert_eq!((ran.code, &ran.err[..]), (Some(1), message), "{redirection} {arguments:?}");
         }

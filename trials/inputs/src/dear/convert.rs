@@ -13,25 +13,16 @@ use crate::points::{judged, set};
 const ROWS: usize = 255;
 
 pub const SHAPES: [Shape; 4] = [
-    Shape::typical("full maps of 100 peers", 100, |random, count| {
-        let set = set(random, count.max(4));
-        full_maps(random, &set, Arrangement::Pairs)
-    }),
-    Shape::dear("full maps of 255 peers, alike but for their last byte", ROWS, |random, count| {
-        let set = alike(random, count.max(4));
-        full_maps(random, &set, Arrangement::Pairs)
-    }),
-    Shape::typical("full maps of 100 peers", 100, |random, count| {
-        let set = set(random, count.max(4));
-        full_maps(random, &set, Arrangement::Columns)
-    }),
-    Shape::dear("full maps of 255 peers, alike but for their last byte", ROWS, |random, count| {
-        let set = alike(random, count.max(4));
-        full_maps(random, &set, Arrangement::Columns)
-    }),
+    Shape::typical(TYPICAL, 100, |random, count| full_maps(&set(random, count.max(4)), random, Arrangement::Pairs)),
+    Shape::dear(ALIKE, ROWS, |random, count| full_maps(&alike(random, count.max(4)), random, Arrangement::Pairs)),
+    Shape::typical(TYPICAL, 100, |random, count| full_maps(&set(random, count.max(4)), random, Arrangement::Columns)),
+    Shape::dear(ALIKE, ROWS, |random, count| full_maps(&alike(random, count.max(4)), random, Arrangement::Columns)),
 ];
 
-fn full_maps(random: &mut Random, set: &[Peer], from: Arrangement) -> Made {
+const TYPICAL: &str = "full maps of 100 peers";
+const ALIKE: &str = "full maps of 255 peers, alike but for their last byte";
+
+fn full_maps(set: &[Peer], random: &mut Random, from: Arrangement) -> Made {
     let point = judged(random, set, 0);
     let record = write::record_in(from, &point);
     let (length, entries) = (record.len(), point.includes.len() + point.witness.len() + point.evidence.len());
