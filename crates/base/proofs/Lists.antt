@@ -1,12 +1,14 @@
 -- Laws of lists: parts of a list, elements by position, and lists that are empty.
-use Prim.Native.Nat.{ℕ, zero, suc, ◌+◌, ◌-◌, ◌<◌}
-use native.Mathlib.Nat.{add-zero}
+use Prim.Native.Nat.{ℕ, zero, suc, ◌+◌, ◌-◌, ◌≤◌, ◌<◌}
+use native.Mathlib.Nat.{add-zero, zero-add, add-suc, suc-add}
 use native.Mathlib.Omega.{arith}
-use mathlib.Core.Path.{◌≡◌, refl, ap, sym, ◌∙◌}
+use mathlib.Core.Path.{◌≡◌, refl, ap, sym, ◌∙◌, subst}
+use mathlib.Core.Logic.{◌⊎◌, inl, inr}
 use mathlib.Core.Bool.{true, false, not}
-use mathlib.Core.List.{List, [], ◌∷◌, ◌++◌, Memᴰ}
+use mathlib.Core.List.Memᴰ
+use mathlib.Core.List.{List, [], ◌∷◌, ◌++◌, map, Memᴰ}
 use lib.ListN.{length, get_or, take, drop, length-drop}
-use lib.Seq.{take_all}
+use lib.Seq.{take_all, take_at}
 use lib.Dec.{ltb, eqb}
 use borrow.Author.Tests.{lt-ltb, eq-eqb, ne_eqb}
 use Rattle.base.specs.Base.{is_empty, tabulate}
@@ -51,3 +53,47 @@ module _ {A : Type 0} (f : ℕ → A) where
   tabulate-at zero i k d h = absurd (omega arith)
   tabulate-at (suc n) i zero d h = ap f (sym (add-zero i))
   tabulate-at (suc n) i (suc k) d h = tabulate-at n (suc i) k d (omega arith) ∙ ap f (omega arith)
+
+  pub tabulate-append : (n m i : ℕ) → tabulate f (n + m) i ≡ tabulate f n i ++ tabulate f m (i + n)
+  unfolding tabulate
+  tabulate-append zero m i = ap (λ k. tabulate f k i) (zero-add m) ∙ ap (tabulate f m) (sym (add-zero i))
+  tabulate-append (suc n) m i =
+      let e : suc n + m ≡ suc (n + m) = omega arith in
+      let g : suc i + n ≡ i + suc n = omega arith in
+      rw e (ap (λ l. f i ∷ l) (tabulate-append n m (suc i)) ∙ ap (λ k. f i ∷ (tabulate f n (suc i) ++ tabulate f m k)) g)
+
+  -- one element more
+  pub tabulate-next : (n i : ℕ) → tabulate f (suc n) i ≡ tabulate f n i ++ (f (i + n) ∷ [])
+  unfolding tabulate
+  tabulate-next n i = let e : suc n ≡ n + 1 = omega arith in ap (λ m. tabulate f m i) e ∙ tabulate-append n 1 i
+
+  pub tabulate-take : (n m i : ℕ) → n ≤ m → take n (tabulate f m i) ≡ tabulate f n i
+  tabulate-take n m i h =
+      let e : m ≡ n + (m - n) = omega arith in
+      ap (λ k. take n (tabulate f k i)) e
+      ∙ (ap (take n) (tabulate-append n (m - n) i) ∙ take_at (tabulate f n i) (tabulate f (m - n) (i + n)) n (tabulate-length n i))
+
+  pub tabulate-map : {B : Type 0} (g : A → B) (n i : ℕ) → map g (tabulate f n i) ≡ tabulate (λ k. g (f k)) n i
+  unfolding tabulate
+  tabulate-map g zero i = refl
+  tabulate-map g (suc n) i = ap (λ l. g (f i) ∷ l) (tabulate-map g n (suc i))
+
+  -- what holds of each position holds of each element
+  pub tabulate-each : (P : A → Type 0) (n i : ℕ) → ((k : ℕ) → k < i + n → P (f k)) → (x : A) → Memᴰ x (tabulate f n i) → P x
+  unfolding tabulate
+  tabulate-each P zero i h x m = absurd (Memᴰ.not-nil m)
+  tabulate-each P (suc n) i h x m = go (Memᴰ.cases_cons m) (tabulate-each P n (suc i) (λ k l. h k (omega arith)) x)
+    where
+      go : (x ≡ f i) ⊎ Memᴰ x (tabulate f n (suc i)) → (Memᴰ x (tabulate f n (suc i)) → P x) → P x
+      go (inl e) rec = subst P (sym e) (h i (omega arith))
+      go (inr r) rec = rec r
+
+-- a list is what its elements are by position
+pub tabulate-is : {A : Type 0} (f : ℕ → A) (l : List A) (d : A) (i : ℕ) → ((k : ℕ) → k < length l → f (i + k) ≡ get_or l k d) →
+    tabulate f (length l) i ≡ l
+unfolding tabulate
+tabulate-is f [] d i h = refl
+tabulate-is f (x ∷ l) d i h =
+    let first : f i ≡ x = rw (add-zero i) at (h 0 (omega arith)) in
+    let later = tabulate-is f l d (suc i) (λ k m. rw (add-suc i k, ← suc-add i k) at (h (suc k) (omega arith))) in
+    rw (first, later)

@@ -15,7 +15,7 @@ use Rattle.base.proofs.Impossible.{impossible}
 use Rattle.parts.specs.Bytes.{little_at, Bytes}
 use Rattle.record.specs.Record.{next_at, content_at, start_of, content_of, well_shaped}
 use Rattle.record.proofs.Laws.{shaped-end, third-start, append_agrees, start-same, append-content}
-use Rattle.write.proofs.Numbers.{rest-bytes}
+use Rattle.parts.proofs.Laws.{rest-bytes}
 use Rattle.map.specs.Rows.{pairs_of}
 use Rattle.point.specs.Point.{same_id}
 use Rattle.point.specs.Reading.{point_id_at}

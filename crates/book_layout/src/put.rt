@@ -7,7 +7,8 @@ ghost use Rattle.point.specs.Code.{point_id_of, through_of};
 ghost use Rattle.reasons.specs.Code.{dependency_of};
 ghost use Rattle.books.specs.Kept.{TransInvalid};
 ghost use Rattle.books.specs.Offer.{kept_as};
-ghost use Rattle.books.specs.Layout.{id_bytes, through_bytes, status_bytes, kept_bytes};
+ghost use Rattle.point.specs.Written.{id_bytes, through_bytes};
+ghost use Rattle.books.specs.Layout.{status_bytes, kept_bytes};
 ghost use Rattle.book_layout.specs.Code.{status_of};
 
 use crate::status::Status;
@@ -15,7 +16,7 @@ use point::{PointId, Through};
 use reasons::InvalidDependency;
 
 // Each writes at a place of the book, as write's functions do, so each asks for its room there.
-#[tactic(auto, using(crate::proofs::Laws::put_right, books::proofs::RoundTrip::id_length))]
+#[tactic(auto, using(crate::proofs::Laws::put_right, point::proofs::PartsWritten::id_length))]
 fn put_point_id(out: &mut [u8], at: usize, id: PointId)
     requires { at + 68 ≤ length out.old }
     ensures { out.new ≡ put_at out.old at (id_bytes (point_id_of id)) }
@@ -39,7 +40,7 @@ fn put_through(out: &mut [u8], at: usize, reason: u8, through: Through)
     write::put_id(out, at + 2, peer);
 }
 
-#[tactic(auto, unfolding(books::specs::Layout::status_bytes), using(crate::proofs::Laws::put_right, books::proofs::RoundTrip::id_length))]
+#[tactic(auto, unfolding(books::specs::Layout::status_bytes), using(crate::proofs::Laws::put_right, point::proofs::PartsWritten::id_length))]
 fn put_root(out: &mut [u8], at: usize, d: InvalidDependency)
     requires { at + 105 ≤ length out.old }
     ensures { out.new ≡ put_at out.old at (status_bytes (TransInvalid (dependency_of d)) false) }

@@ -16,7 +16,7 @@ use Rattle.point.specs.Reading.{read_point}
 use Rattle.schedule.specs.Settings.{Settings, read_settings}
 use Rattle.reasons.specs.Verdict.{Verdict}
 use Rattle.rules.specs.Judge.{Input, JudgeAnswer, Number, Given, Before, answered, needed}
-use Rattle.rules.proofs.Fits.{point-fits}
+use Rattle.point.proofs.Fits.{read-fits}
 use Rattle.books.specs.Kept.{Status, Kept, Book, find_kept, is_twice, mark, Opened}
 use Rattle.books.specs.Lists.{direct_list, indirect_list}
 use Rattle.books.specs.Offer.{Offer, Result, answer_with, left_by, before_in}
@@ -83,7 +83,7 @@ module _ (bytes : List ℕ) (p : PointInfo) (by : Bytes bytes) (read : read_poin
       subst (AnswerShape p) e
       (over-cases c required 3 p (direct_list b p) (indirect_list b p) (AnswerShape p) (λ n. tt)
       (validated (VerdictShape p) (invalid-shape p l) (trans_invalid-shape p l) (valid-shape p l)
-      c required p (direct_list b p) (indirect_list b p) (point-fits bytes p by read) (direct-rooted b p h) (indirect-rooted b p h) 3))
+      c required p (direct_list b p) (indirect_list b p) (read-fits bytes p by read) (direct-rooted b p h) (indirect-rooted b p h) 3))
 
 both_shaped : (a b : Book) → AllShaped a → AllShaped b → AllShaped (a ++ b)
 both_shaped a b s t k m = go (Memᴰ.append_cases a m)

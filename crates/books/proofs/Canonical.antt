@@ -1,7 +1,7 @@
 -- Reading then writing: bytes that are read as an entry, as entries or as a book are the bytes of what was read, and what was read
 -- is such as bytes can hold.
 use Rattle.std.specs.Prelude.{None, Some, is_some}
-use Prim.Native.Nat.{ℕ, zero, suc, ◌+◌, ◌-◌, ◌^◌, ◌≤◌, ◌<◌}
+use Prim.Native.Nat.{ℕ, zero, suc, ◌+◌, ◌-◌, ◌≤◌}
 use native.Mathlib.Nat.{sub-zero}
 use native.Mathlib.Numerals.{add-one, add-three}
 use native.Mathlib.Omega.{arith}
@@ -17,13 +17,14 @@ use borrow.Author.Tests.{leb-true, eqb-true}
 use Rattle.base.specs.Base.{pick}
 use Rattle.base.proofs.Bool.{and_left, and_right}
 use Rattle.base.proofs.Option.{picked, IfSome, pick-has, then_has, map-has, has}
-use Rattle.parts.specs.Bytes.{bytes_at, little_at, id_at, big_bytes, Bytes}
-use Rattle.parts.proofs.Laws.{at_split, little_split, little-one, at-bytes, big-fits}
+use Rattle.parts.specs.Bytes.{little_at, Bytes}
+use Rattle.parts.proofs.Laws.{little_split, little-one, at-bytes, rest-bytes, big-fits}
 use Rattle.record.specs.Record.{field_row, field_ok, record_end}
 use Rattle.record.proofs.Laws.{Fitting, fitting, end-within}
-use Rattle.write.proofs.Numbers.{little-fits, rest-bytes, little-of, big-of}
-use Rattle.point.specs.Point.{Includes, Witness, PointInfo, through_peer, in_domain}
+use Rattle.write.proofs.Numbers.{little-fits}
+use Rattle.point.specs.Point.{PointInfo, in_domain}
 use Rattle.point.specs.Reading.{point_id_at, through_at, read_point}
+use Rattle.point.proofs.PartsWritten.{id-again, through-again, through-fits}
 use Rattle.schedule.specs.Settings.{Settings, read_settings}
 use Rattle.reasons.specs.Answer.{flag}
 use Rattle.reasons.specs.Invalid.{dag_round}
@@ -31,7 +32,8 @@ use Rattle.rules.specs.List.{is_listable}
 use Rattle.books.specs.Kept.{Status, Valid, TransInvalid, Invalid, IllFormed, Kept, Book, is_twice, Opened}
 use Rattle.books.specs.Lists.{dag_point}
 use Rattle.books.specs.Offer.{used, is_state_ok}
-use Rattle.books.specs.Layout.{id_bytes, through_bytes, status_bytes, kept_bytes, entries_bytes, book_bytes, is_zeros, root_at, is_root_ok, read_status, is_keepable, read_kept, KeptFront, kept_front, entries_from, read_book}
+use Rattle.point.specs.Written.{id_bytes, through_bytes}
+use Rattle.books.specs.Layout.{status_bytes, kept_bytes, entries_bytes, book_bytes, is_zeros, root_at, is_root_ok, read_status, is_keepable, read_kept, KeptFront, kept_front, entries_from, read_book}
 use Rattle.books.proofs.Shape.{RootFits, StatusShape, KeptShape, Shape}
 use Rattle.books.proofs.RoundTrip.{settings-length}
 
@@ -48,29 +50,6 @@ flag-again : (x : ℕ) → x ≤ 1 → flag (eqb x 1) ≡ x
 flag-again zero h = refl
 flag-again (suc zero) h = refl
 flag-again (suc (suc x)) h = absurd (omega arith)
-
-through-bytes : (x p : ℕ) → x ≤ 1 → through_bytes (pick (eqb x 0) (Includes p) (Witness p)) ≡ x ∷ big_bytes 32 p
-through-bytes zero p h = refl
-through-bytes (suc zero) p h = refl
-through-bytes (suc (suc x)) p h = absurd (omega arith)
-
-either-peer : (b : Bool) (p : ℕ) → through_peer (pick b (Includes p) (Witness p)) ≡ p
-either-peer true p = refl
-either-peer false p = refl
-
-module _ (t : List ℕ) (at : ℕ) (b : Bytes t) where
-  id-again : at + 68 ≤ length t → id_bytes (point_id_at t at) ≡ bytes_at 68 t at
-  unfolding point_id_at
-  id-again h =
-      let e : at + 4 + 32 ≡ at + 36 = omega arith in
-      rw (little-of 4 t at b (omega arith), big-of 32 t (at + 4) b (omega arith), big-of 32 t (at + 36) b (omega arith), at_split 4 64 t at, at_split 32 32 t (at + 4), e)
-
-  through-again : at + 33 ≤ length t → get_or t at 0 ≤ 1 → through_bytes (through_at t at) ≡ get_or t at 0 ∷ bytes_at 32 t (at + 1)
-  through-again h m =
-      through-bytes (get_or t at 0) (id_at t (at + 1)) m ∙ ap (λ (l : List ℕ). get_or t at 0 ∷ l) (big-of 32 t (at + 1) b (omega arith))
-
-  through-fits : at + 33 ≤ length t → through_peer (through_at t at) < 256 ^ 32
-  through-fits h = rw (either-peer (eqb (get_or t at 0) 0) (id_at t (at + 1))) (big-fits 32 t (at + 1) b (omega arith))
 
 zeros-after : (t : List ℕ) (n k : ℕ) → length t ≡ n + k → is_zeros (drop n t) ≡ true → replicate k 0 ≡ drop n t
 zeros-after t n k l z =

@@ -14,6 +14,7 @@ use Rattle.base.proofs.Impossible.{impossible}
 use Rattle.parts.specs.Bytes.{little_at, big_at, Bytes}
 use Rattle.map.specs.Rows.{pair_at, pairs_in, peers, digests}
 use Rattle.point.specs.Point.{source, target}
+use Rattle.point.specs.Written.{point_bytes}
 use Rattle.schedule.specs.Settings.{read_settings}
 use Rattle.rules.specs.Mismatch.{mismatch, uncovered}
 use Rattle.rules.specs.Validate.{validate}
@@ -23,7 +24,7 @@ use Rattle.books.specs.Run.{Run, run, AreBytes}
 use Rattle.books.specs.Layout.{entries_bytes, book_bytes}
 use Rattle.books.specs.Calls.{open_bytes, laid_out, offer_bytes}
 use Rattle.books.specs.FoundBook.{FoundBook}
-use Rattle.books.specs.Example.{settings_bytes, schedule_bytes, record_bytes, conf, slice, genesis, first, second, offers, plain, given, expected_answers, entry, expected_book, expected_entries, expected_slice, Example}
+use Rattle.books.specs.Example.{settings_bytes, schedule_bytes, conf, slice, genesis, first, second, offers, plain, given, expected_answers, entry, expected_book, expected_entries, expected_slice, Example}
 use Rattle.books.proofs.FoundBooks.{found_books}
 
 -- ---- the records are bytes
@@ -55,15 +56,15 @@ unfolding read_settings settings_bytes little_at big_at
 reads = refl
 
 all-below : all_below offers ≡ true
-unfolding all_below are_below record_bytes
+unfolding all_below are_below point_bytes
 all-below = refl
 
 as_given : given ≡ expected_answers
-unfolding run offer_in record_bytes schedule_bytes little_at big_at pairs_in pair_at peers digests mark mismatch uncovered validate
+unfolding run offer_in point_bytes schedule_bytes little_at big_at pairs_in pair_at peers digests mark mismatch uncovered validate
 as_given = refl
 
 as_left : plain.last.book ≡ expected_book
-unfolding run offer_in record_bytes schedule_bytes little_at big_at pairs_in pair_at peers digests mark mismatch uncovered validate
+unfolding run offer_in point_bytes schedule_bytes little_at big_at pairs_in pair_at peers digests mark mismatch uncovered validate
 as_left = refl
 
 as_found : FoundBook (settings_bytes conf) conf (length slice) (run offer_bytes (open_bytes (settings_bytes conf) slice) offers) plain
@@ -76,7 +77,7 @@ unfolding entries_bytes concat
 as_entries = refl
 
 as_used : used expected_book ≡ 4946
-unfolding used record_bytes
+unfolding used point_bytes
 as_used = refl
 
 as_written : book_bytes (settings_bytes conf) (length slice) expected_book ≡ expected_slice

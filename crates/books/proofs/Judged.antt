@@ -17,7 +17,7 @@ use Rattle.schedule.specs.Settings.{Settings, read_settings}
 use Rattle.reasons.specs.declared.ill_formed.VerifyError.{VerifyError}
 use Rattle.reasons.specs.declared.ill_formed.WaveChecked.{WaveChecked}
 use Rattle.reasons.specs.Verdict.{Verdict}
-use Rattle.rules.specs.Unknown.{peer_bytes}
+use Rattle.map.specs.Written.{peer_bytes}
 use Rattle.rules.specs.Verify.{verify}
 use Rattle.rules.specs.List.{read_list}
 use Rattle.rules.specs.Judge.{Input, Tested, refused, admitted, verify_buffer, Number, Given, Before, answered, needed, before_with, before, over_list, judge_from, judge_with, judge_with_in}

@@ -1,13 +1,14 @@
 -- The list that a book and its marks give consists of bytes.
 use Rattle.std.specs.Prelude.{Option, None, Some, is_some}
-use Prim.Native.Nat.{ℕ, zero, suc, ◌-◌, ◌/◌, ◌<◌}
+use Prim.Native.Nat.{ℕ, ◌-◌, ◌<◌}
 use native.Mathlib.Omega.{arith}
 use mathlib.Core.Path.{◌≡◌, refl}
 use mathlib.Core.Bool.{Bool, true, false}
 use mathlib.Core.List.{List, [], ◌∷◌, ◌++◌, Memᴰ}
 use lib.Dec.{ltb}
 use Rattle.base.specs.Base.{pick}
-use Rattle.parts.specs.Bytes.{little_bytes, big_bytes, Bytes}
+use Rattle.parts.specs.Bytes.{Bytes}
+use Rattle.parts.proofs.AllBytes.{AllBytes, none_more, one_more, both}
 use Rattle.map.specs.Rows.{Pair}
 use Rattle.point.specs.Point.{PointId, AnchorLink, Direct, Indirect, PointInfo, prev_digest, prev_id, target}
 use Rattle.point.specs.declared.data.AnchorStageRole.{AnchorStageRole}
@@ -16,47 +17,17 @@ use Rattle.reasons.specs.Answer.{flag, role_number}
 use Rattle.rules.specs.Mismatch.{pair_id, is_id}
 use Rattle.rules.specs.DagPoint.{is_by}
 use Rattle.books.specs.Kept.{Status, Valid, TransInvalid, Invalid, IllFormed, Kept, Book, find_kept}
-use Rattle.books.specs.Layout.{id_bytes}
-use Rattle.write.proofs.Laws.{bytes_below}
+use Rattle.point.specs.Written.{id_bytes}
+use Rattle.point.proofs.PartsWritten.{id-bytes}
 use Rattle.books.specs.ListFor.{tag16, tag17, entry_as, of_kept, entry_for, of_pairs, of_versions, of_target, list_for}
 use Rattle.books.proofs.Find.{find-member}
 use Rattle.books.proofs.Shape.{StatusFits, KeptShape, Shape}
-
--- ---- bytes, one more, and two lists of them
-
-record AllBytes (l : List ℕ) : Type 0 where
-  pub bytes : Bytes l
-
-none_more : AllBytes []
-none_more = record { bytes = λ k. omega arith }
-
-one_more : {x : ℕ} {l : List ℕ} → x < 256 → AllBytes l → AllBytes (x ∷ l)
-one_more {x} {l} h w = record { bytes = go }
-  where
-    go : Bytes (x ∷ l)
-    go zero = h
-    go (suc k) = w.bytes k
-
-both : (a : List ℕ) {b : List ℕ} → AllBytes a → AllBytes b → AllBytes (a ++ b)
-both [] v w = w
-both (x ∷ a) v w = one_more (v.bytes zero) (both a (record { bytes = λ k. v.bytes (suc k) }) w)
 
 chosen : (t : Bool) {a b : List ℕ} → AllBytes a → AllBytes b → AllBytes (pick t a b)
 chosen true v w = v
 chosen false v w = w
 
 -- ---- ids and tags
-
-little-below : (n x : ℕ) → AllBytes (little_bytes n x)
-unfolding little_bytes
-little-below zero x = none_more
-little-below (suc n) x = one_more (omega arith) (little-below n (x / 256))
-
-big-below : (x : ℕ) → AllBytes (big_bytes 32 x)
-big-below x = record { bytes = bytes_below 32 x }
-
-id-bytes : (i : PointId) → AllBytes (id_bytes i)
-id-bytes i = both (little_bytes 4 i.round) (little-below 4 i.round) (both (big_bytes 32 i.digest) (big-below i.digest) (big-below i.author))
 
 flag-below : (t : Bool) → flag t < 256
 flag-below true = omega arith

@@ -13,7 +13,6 @@ use Rattle.parts.specs.Bytes.{Bytes}
 use Rattle.map.specs.Rows.{Pair}
 use Rattle.point.specs.Point.{PointId, AnchorLink, Direct, Indirect, PointInfo, prev_digest, prev_id, source, target_of, target, same_id}
 use Rattle.point.specs.Reading.{read_point}
-use Rattle.point.proofs.Laws.{readable}
 use Rattle.point.specs.declared.data.AnchorStageRole.{AnchorStageRole}
 use Rattle.point.specs.declared.data.AnchorStageRole.TheVariants.{Proof, Trigger}
 use Rattle.rules.specs.DagPoint as dag
@@ -24,7 +23,7 @@ use Rattle.books.specs.Kept.{Status, Valid, TransInvalid, Invalid, IllFormed, Ke
 use Rattle.books.specs.Lists.{is_valid, is_of, first_valid, kept_entry, entry_with, lookup, lookups, versions, direct_list, target_entry, is_trigger_first, indirect_list}
 use Rattle.books.specs.ListFor.{tag17, is_kept_valid, is_first_valid, of_kept, entry_for, of_pairs, of_versions, of_target, list_for}
 use Rattle.books.proofs.Find.{find-member, find-marked}
-use Rattle.rules.proofs.Fits.{IdFits, point-fits, TargetFits, DependenciesFit, dependencies_fit}
+use Rattle.point.proofs.Fits.{IdFits, TargetFits, read-fits}
 use Rattle.books.proofs.Shape.{Shape}
 use Rattle.books.proofs.Written.{Written, tagged, lost-reads, entry-written, Reads, none_read, direct-more, indirect-more}
 
@@ -126,28 +125,27 @@ module _ (b : Book) (covers marked : PointId → Bool) (p : PointInfo) (h : Shap
       go false l = refl
   same-order i j (Indirect to t) (Indirect other u) = refl
 
-  all-targets : DependenciesFit p →
+  all-targets : TargetFits p.anchor_proof → TargetFits p.anchor_trigger →
       Reads 2 false (both_targets (ltb (target Proof p).round (target Trigger p).round) p.anchor_proof p.anchor_trigger) [] (indirect_list (mark covers b) p)
   unfolding indirect_list target
-  all-targets f =
+  all-targets f i =
       rw (same-order (source Proof p) (source Trigger p) p.anchor_proof p.anchor_trigger) (go (is_trigger_first p.anchor_proof p.anchor_trigger))
     where
       go : (first : Bool) → Reads 2 false (both_targets first p.anchor_proof p.anchor_trigger) [] (pick first
           (target_entry (mark covers b) p Trigger p.anchor_trigger ++ target_entry (mark covers b) p Proof p.anchor_proof)
           (target_entry (mark covers b) p Proof p.anchor_proof ++ target_entry (mark covers b) p Trigger p.anchor_trigger))
-      go true = targets-read Trigger Proof p.anchor_trigger p.anchor_proof f.trigger f.proof
-      go false = targets-read Proof Trigger p.anchor_proof p.anchor_trigger f.proof f.trigger
+      go true = targets-read Trigger Proof p.anchor_trigger p.anchor_proof i f
+      go false = targets-read Proof Trigger p.anchor_proof p.anchor_trigger f i
 
   -- the whole list, of a point that was read
   pub list_read : (bytes : List ℕ) → Bytes bytes → read_point bytes ≡ Some p →
       (l : List Listed) × (read_list (list_for b marked p) ≡ Some l) × (directs l ≡ direct_list (mark covers b) p) × (indirects l ≡ indirect_list (mark covers b) p)
   unfolding list_for read_list_in direct_list
   list_read bytes by r =
-      let f = dependencies_fit bytes p by r in
-      let w = readable bytes p r in
-      let id : p.id.round < 256 ^ 4 = (point-fits bytes p by r).id.round in
-      let own = own-more 2 _ [] (indirect_list (mark covers b) p) (all-targets f) (is_some (prev_digest p)) in
-      let inner = pairs-more _ _ _ _ own (p.id.round - 1) p.includes (λ q m. record { round = omega arith; digest = (f.includes q m).1; author = (f.includes q m).0 }) in
-      let all = pairs-more _ _ _ _ inner (p.id.round - 2) p.witness (λ q m. record { round = omega arith; digest = (f.witness q m).1; author = (f.witness q m).0 }) in
-      let x = all 65535 (omega (arith, h.few, w.includes.few, w.witness.few)) in
+      let f = read-fits bytes p by r in
+      let id : p.id.round < 256 ^ 4 = f.id.round in
+      let own = own-more 2 _ [] (indirect_list (mark covers b) p) (all-targets f.proof.target f.trigger.target) (is_some (prev_digest p)) in
+      let inner = pairs-more _ _ _ _ own (p.id.round - 1) p.includes (λ q m. record { round = omega arith; digest = (f.includes.fit q m).1; author = (f.includes.fit q m).0 }) in
+      let all = pairs-more _ _ _ _ inner (p.id.round - 2) p.witness (λ q m. record { round = omega arith; digest = (f.witness.fit q m).1; author = (f.witness.fit q m).0 }) in
+      let x = all 65535 (omega (arith, h.few, f.includes.few, f.witness.few)) in
       (x.list, x.reads, x.direct ∙ rw (append-nil (pick (is_some (prev_digest p)) [] (versions (mark covers b) (p.id.round - 1) p.id.author (mark covers b)))), x.indirect)

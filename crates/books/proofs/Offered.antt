@@ -39,7 +39,7 @@ use Rattle.books.specs.Spread.{covers}
 use Rattle.books.specs.Offer.{Offer, Result, start_in, used, is_full, tested_room, input_tested, offer_tested, offer_tested_in, marked_by, answer_with, kept_as, left_by, before_in, marked_in, answer_in, numbered, judged_as, offer_with, offer, offer_in}
 use Rattle.books.specs.Calls.{IsOfferNumber}
 use Rattle.books.specs.FoundBook.{tested_as}
-use Rattle.rules.proofs.Fits.{point-fits}
+use Rattle.point.proofs.Fits.{read-fits}
 use Rattle.books.proofs.Named.{listable}
 use Rattle.rules.proofs.Roots.{Recorded}
 use Rattle.books.proofs.Roots.{Root, reason-fits, validated}
@@ -339,7 +339,7 @@ module _ (bytes : List ℕ) (p : PointInfo) (b : Book) (h : Shape b) (by : Bytes
       let s : Shape marked = mark-shape (covers c b (prev_id p)) b h in
       rw (whole c required bytes p marked s (covers-prev c b (prev_id p)) r d)
       (validated (VerdictShape p) (invalid-shape p l) (trans_invalid-shape p l) (valid-shape p l)
-      c required p (direct_list marked p) (indirect_list marked p) (point-fits bytes p by r) (direct-rooted marked p s) (indirect-rooted marked p s) 3)
+      c required p (direct_list marked p) (indirect_list marked p) (read-fits bytes p by r) (direct-rooted marked p s) (indirect-rooted marked p s) 3)
 
   module _ (new : find_kept b p.id ≡ None) (few : length b < 4096) where
     left-entry : (x : Status) → StatusShape p x → Shape (b ++ (kept_as bytes p x ∷ []))

@@ -20,7 +20,7 @@ use Rattle.rules.specs.DagPoint.{Entry, IndirectEntry}
 use Rattle.rules.specs.Validate.{validate}
 use Rattle.rules.proofs.Records.{IsRoot, validate-cases}
 use Rattle.rules.specs.Mismatch.{entries_in}
-use Rattle.rules.proofs.Fits.{IdFits, PointFits}
+use Rattle.point.proofs.Fits.{IdFits, PointFits}
 use Rattle.rules.proofs.All.{All, all-member}
 use Rattle.rules.proofs.Roots.{Recorded, Rooted, of-recorded, direct-recorded, link-peer}
 

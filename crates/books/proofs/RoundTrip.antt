@@ -1,7 +1,7 @@
 -- Writing then reading: the bytes of an entry, with anything after them, are read as that entry and its size; so are the bytes of
 -- entries and of a book.
 use Rattle.std.specs.Prelude.{Option, None, Some, option_map}
-use Prim.Native.Nat.{ℕ, zero, suc, ◌+◌, ◌-◌, ◌^◌, ◌≤◌, ◌<◌}
+use Prim.Native.Nat.{ℕ, zero, suc, ◌+◌, ◌-◌, ◌≤◌}
 use native.Mathlib.Omega.{arith}
 use mathlib.Core.Path.{◌≡◌, refl, ap, ◌∙◌, subst}
 use mathlib.Core.Bool.{Bool, true, false}
@@ -16,11 +16,10 @@ use Rattle.base.proofs.Option.{picked}
 use Rattle.parts.specs.Bytes.{little, little_at, big_at, big_bytes, little_bytes}
 use Rattle.record.specs.Record.{field_row, field_ok, length_at, row_of, rows, start_of, record_end, well_shaped}
 use Rattle.record.proofs.Laws.{append-end, field-last, front-field}
-use Rattle.write.proofs.Laws.{bytes-length, big-bytes}
-use Rattle.write.proofs.Numbers.{little-back}
-use Rattle.point.specs.Point.{PointId, Through, Includes, Witness, PointInfo, through_peer}
+use Rattle.point.specs.Point.{PointId, Through, Includes, Witness, PointInfo}
 use Rattle.point.specs.Reading.{point_id_at, through_at, read_point}
 use Rattle.point.proofs.Laws.{readable}
+use Rattle.point.proofs.PartsWritten.{through-length, through-reads, id-back}
 use Rattle.schedule.specs.Settings.{Settings, settings_in, read_settings}
 use Rattle.reasons.specs.Answer.{flag}
 use Rattle.reasons.specs.Invalid.{InvalidDependency}
@@ -28,21 +27,13 @@ use Rattle.reasons.proofs.Laws.{flag-back}
 use Rattle.rules.specs.List.{is_listable}
 use Rattle.books.specs.Kept.{Status, Valid, TransInvalid, Invalid, IllFormed, Kept, Book, is_twice, Opened}
 use Rattle.books.specs.Offer.{used}
-use Rattle.books.specs.Layout.{id_bytes, through_bytes, status_bytes, kept_bytes, entries_bytes, book_bytes, is_zeros, root_at, is_root_ok, read_status, read_kept, KeptFront, kept_front, entries_from, read_book}
-use Rattle.rules.proofs.Fits.{IdFits}
+use Rattle.point.specs.Written.{through_bytes}
+use Rattle.books.specs.Layout.{status_bytes, kept_bytes, entries_bytes, book_bytes, is_zeros, root_at, is_root_ok, read_status, read_kept, KeptFront, kept_front, entries_from, read_book}
 use Rattle.rules.proofs.Roots.{Recorded}
 use Rattle.books.proofs.Roots.{Root}
 use Rattle.books.proofs.Shape.{StatusShape, KeptShape, Shape}
 
 -- ---- tag 33
-
-pub id_length : (i : PointId) → length (id_bytes i) ≡ 68
-unfolding little_bytes big_bytes
-id_length i = refl
-
-pub through-length : (t : Through) → length (through_bytes t) ≡ 33
-through-length (Includes x) = ap suc (bytes-length 32 x)
-through-length (Witness x) = ap suc (bytes-length 32 x)
 
 pub status-length : (s : Status) (c : Bool) → length (status_bytes s c) ≡ 105
 unfolding status_bytes little_bytes big_bytes
@@ -71,20 +62,10 @@ root-reads : (t : List ℕ) (d : InvalidDependency) → get_or t 0 0 ≡ 1 → g
 unfolding read_status
 root-reads t d e0 e2 r e = simp (e0, e2, r, e)
 
-through-reads : (t : Through) → through_peer t < 256 ^ 32 → through_at (through_bytes t) 0 ≡ t
-unfolding big_at big_bytes
-through-reads (Includes x) h = ap Includes (big-bytes 32 x h)
-through-reads (Witness x) h = ap Witness (big-bytes 32 x h)
-
--- an id that stands after three bytes
-pub id-back : (x y z : ℕ) (i : PointId) (rest : List ℕ) → IdFits i → point_id_at (x ∷ y ∷ z ∷ (id_bytes i ++ rest)) 3 ≡ i
-unfolding point_id_at little_at little_bytes big_at big_bytes
-id-back x y z i rest f = rw (little-back 4 i.round f.round, big-bytes 32 i.digest f.digest, big-bytes 32 i.author f.author)
-
 module _ (d : InvalidDependency) (c : Bool) (o : Recorded Root d) where
   root-id : point_id_at (status_bytes (TransInvalid d) c) 3 ≡ d.to
   unfolding status_bytes
-  root-id = id-back 1 (flag c) 0 d.to _ o.root.id
+  root-id = id-back d.to _ o.root.id 1 (flag c) 0
 
   root-round : little_at 4 (status_bytes (TransInvalid d) c) 3 ≡ d.to.round
   unfolding point_id_at
@@ -103,7 +84,7 @@ module _ (d : InvalidDependency) (c : Bool) (o : Recorded Root d) where
   root-through = through-reads d.through o.through
 
   root-at : root_at (status_bytes (TransInvalid d) c) ≡ d
-  root-at = rw (root-id, root-reason, root-through)
+  root-at = λ i. record { to = root-id i; reason = root-reason i; through = root-through i }
 
   root-head : (get_or (status_bytes (TransInvalid d) c) 0 0 ≡ 1) × (get_or (status_bytes (TransInvalid d) c) 2 0 ≡ 0)
   unfolding status_bytes

@@ -29,7 +29,7 @@ use Rattle.books.specs.Offer.{is_state_ok, answer_over}
 use Rattle.books.specs.Layout.{is_keepable}
 use Rattle.rules.proofs.All.{All}
 use Rattle.rules.proofs.Roots.{Rooted}
-use Rattle.rules.proofs.Fits.{IdFits, PointFits, point-fits}
+use Rattle.point.proofs.Fits.{IdFits, PointFits, read-fits}
 use Rattle.books.proofs.Clear.{once_distinct, each_direct, each_indirect, Covered, clear}
 use Rattle.books.proofs.Roots.{Root, RootedEntry}
 use Rattle.books.proofs.Find.{once_more, marked-found, mark-member}
@@ -123,7 +123,7 @@ kept-rooted : (k : Kept) → KeptShape k → Rooted Root (dag_point k.point k.st
 kept-rooted k h = go k.status h.status
   where
     f : PointFits k.point
-    f = point-fits k.bytes k.point h.bytes h.read
+    f = read-fits k.bytes k.point h.bytes h.read
 
     root : (i : PointId) (n : ℕ) → IdFits i → (leb 4 i.round && (leb i.round 2147483647 && is_some (dag_round n))) ≡ true → Root i n
     root i n g e =

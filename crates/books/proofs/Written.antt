@@ -26,12 +26,13 @@ use Rattle.reasons.proofs.Laws.{flag-back}
 use Rattle.rules.specs.List.{is_listable, record_front, record_front_in, is_root, read_state, read_state_in, Listed, entry_at, entry_at_in, read_entry, read_entry_in, is_in_order, list_from, list_from_in, directs, indirects}
 use Rattle.books.specs.Kept.{Status, Valid, TransInvalid, Invalid, IllFormed, Kept}
 use Rattle.books.specs.Lists.{dag_point}
-use Rattle.books.specs.Layout.{id_bytes}
+use Rattle.point.specs.Written.{id_bytes}
 use Rattle.books.specs.ListFor.{tag16, tag17, entry_as}
 use Rattle.rules.proofs.Decoded.{role-back}
-use Rattle.rules.proofs.Fits.{IdFits, point-fits}
+use Rattle.point.proofs.Fits.{IdFits, read-fits}
 use Rattle.books.proofs.Shape.{StatusShape, KeptShape}
-use Rattle.books.proofs.RoundTrip.{id_length, flag-fits, kept-shaped, field-there, id-back}
+use Rattle.point.proofs.PartsWritten.{id_length, id-back}
+use Rattle.books.proofs.RoundTrip.{flag-fits, kept-shaped, field-there}
 
 -- ---- one entry
 
@@ -62,7 +63,7 @@ record_front_lem k rest o l = rw (append-end k.bytes rest (kept-shaped k o), tak
 -- tag 17
 id-state : (i : PointId) (rest : List ℕ) → IdFits i → (field_ok (field_row 17 68 68) (tag17 i ++ rest) 0 ≡ true) × (point_id_at (tag17 i ++ rest) 3 ≡ i)
 unfolding little_bytes big_bytes
-id-state i rest f = (field-there 17 68 [] (id_bytes i ++ rest) (omega arith), id-back 17 68 0 i rest f)
+id-state i rest f = (field-there 17 68 [] (id_bytes i ++ rest) (omega arith), id-back i rest f 17 68 0)
 
 pub lost-reads : (i : PointId) (rest : List ℕ) → IdFits i → read_state 4 0 (tag17 i ++ rest) ≡ Some (record { point = dag.NotFound i; size = length (tag17 i) })
 unfolding read_state_in
@@ -91,14 +92,14 @@ module _ (k : Kept) (rest : List ℕ) (o : KeptShape k) where
     root-reads : (leb 4 d.to.round && (leb d.to.round 2147483647 && is_some (dag_round d.reason))) ≡ true → is_root (tag18 d ++ (k.bytes ++ rest)) ≡ true
     unfolding is_root little_bytes big_bytes point_id_at
     root-reads s =
-        rw (field-there 18 69 [] (id_bytes d.to ++ (d.reason ∷ (k.bytes ++ rest))) (omega arith), ap (λ (i : PointId). i.round) (id-back 18 69 0 d.to (d.reason ∷ (k.bytes ++ rest)) f)) s
+        rw (field-there 18 69 [] (id_bytes d.to ++ (d.reason ∷ (k.bytes ++ rest))) (omega arith), ap (λ (i : PointId). i.round) (id-back d.to (d.reason ∷ (k.bytes ++ rest)) f 18 69 0)) s
 
     trans_invalid-reads : is_listable k.point ≡ true → is_root (tag18 d ++ (k.bytes ++ rest)) ≡ true →
         read_state 1 0 ((tag18 d ++ k.bytes) ++ rest) ≡ Some (record { point = dag.TransInvalid k.point d.to d.reason; size = length (tag18 d ++ k.bytes) })
     unfolding read_state_in little_bytes big_bytes
     trans_invalid-reads l r =
         let e : 72 + length k.bytes ≡ length (tag18 d ++ k.bytes) = omega arith in
-        rw (r, record_front_lem k rest o l, id-back 18 69 0 d.to (d.reason ∷ (k.bytes ++ rest)) f, e)
+        rw (r, record_front_lem k rest o l, id-back d.to (d.reason ∷ (k.bytes ++ rest)) f 18 69 0, e)
 
 -- an entry in any state that the book keeps
 pub entry-written : (k : Kept) → KeptShape k → (c f : Bool) (x : Status) → StatusShape k.point x →
@@ -111,7 +112,7 @@ entry-written k o c f (Invalid n) s =
     tagged 2 n c f k.bytes (dag.Invalid k.point n) (λ rest. invalid-reads k rest o n s.keepable (and_right (is_listable k.point) _ s.state))
 entry-written k o c f (IllFormed n) s =
     tagged 3 n c f (tag17 k.point.id) (dag.IllFormed k.point.id n)
-    (λ rest. ill-formed-reads k.point.id n rest (point-fits k.bytes k.point o.bytes o.read).id s.state)
+    (λ rest. ill-formed-reads k.point.id n rest (read-fits k.bytes k.point o.bytes o.read).id s.state)
 
 -- ---- entries one after the other
 

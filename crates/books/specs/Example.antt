@@ -4,35 +4,32 @@ use Rattle.std.specs.Prelude.{ℕ, ◌≤◌, ◌≡◌, Bool, true, false, List
 use Rattle.base.specs.Base.{concat}
 use Rattle.parts.specs.Bytes.{big_bytes, little_bytes}
 use Rattle.parts.specs.Limits.{entries_start, peers_room, longest_book}
-use Rattle.map.specs.Rows.{Pair, peers, digests}
+use Rattle.map.specs.Rows.{Pair}
+use Rattle.record.specs.Fields.{field_bytes}
 use Rattle.point.specs.Point.{PointId, Includes, AnchorLink, Direct, Indirect, PointInfo}
+use Rattle.point.specs.Written.{point_bytes}
 use Rattle.point.specs.declared.data.PointRole.{PointRole}
-use Rattle.point.specs.declared.data.PointRole.TheVariants.{Regular, AnchorProof, AnchorTrigger, Genesis}
+use Rattle.point.specs.declared.data.PointRole.TheVariants.{Regular, AnchorProof, Genesis}
 use Rattle.point.specs.declared.data.AnchorStageRole.TheVariants.{Proof}
 use Rattle.point.specs.declared.data.PointMap.TheVariants as maps
 use Rattle.schedule.specs.Settings.{Settings, read_settings}
 use Rattle.schedule.specs.Schedule.{Span}
-use Rattle.reasons.specs.Answer.{flag}
 use Rattle.reasons.specs.Invalid.{NotTrigger, MustHaveReferencedPrevPoint, DepIllFormed, InvalidDependency}
 use Rattle.reasons.specs.Verdict as verdict
 use Rattle.reasons.specs.declared.ill_formed.IllFormedReason.TheVariants.{BadWaveLink}
 use Rattle.rules.specs.Judge.{JudgeAnswer, Number, Given}
-use Rattle.rules.specs.Unknown.{peer_bytes}
+use Rattle.map.specs.Written.{peer_bytes}
 use Rattle.books.specs.Kept.{Status, Valid, TransInvalid, Invalid, IllFormed, Kept, Book, Opened}
 use Rattle.books.specs.Offer.{Offer, offer, offer_of}
 use Rattle.books.specs.Run.{Run, run, AreBytes}
-use Rattle.books.specs.Layout.{id_bytes, through_bytes}
 use Rattle.books.specs.Calls.{open_bytes, opened, offer_bytes}
 use Rattle.books.specs.Following.{IsReached, IsStopped}
 use Rattle.books.specs.FoundBook.{FoundBook, Followed}
 
 -- ---- bytes of settings, schedules and points (docs/FORMAT.md)
 
-abbrev pub field_bytes : ℕ → List ℕ → List ℕ
-field_bytes tag content = tag ∷ little_bytes 2 (length content) ++ content
-
 unfoldable pub settings_bytes : Settings → List ℕ
-unfolding little_bytes big_bytes
+unfolding field_bytes little_bytes big_bytes
 settings_bytes c =
     field_bytes 32
     (little_bytes 4 c.genesis_round
@@ -43,38 +40,9 @@ settings_bytes c =
 
 -- spans, then the last known round
 unfoldable pub schedule_bytes : List Span → ℕ → List ℕ
-unfolding little_bytes peer_bytes
+unfolding field_bytes little_bytes peer_bytes
 schedule_bytes [] last = field_bytes 35 (little_bytes 4 last)
 schedule_bytes (x ∷ l) last = field_bytes 34 (little_bytes 4 x.first ++ peer_bytes x.peers) ++ schedule_bytes l last
-
-unfoldable pub pairs_bytes : List Pair → List ℕ
-unfolding peer_bytes peers digests
-pairs_bytes l = peer_bytes (peers l) ++ peer_bytes (digests l)
-
-abbrev pub link_bytes : AnchorLink → List ℕ
-link_bytes (Direct t) = 0 ∷ through_bytes t
-link_bytes (Indirect to t) = 1 ∷ through_bytes t ++ id_bytes to
-
-abbrev pub role_bytes : PointRole → List ℕ
-role_bytes Regular = 0 ∷ []
-role_bytes (AnchorProof n last) = 1 ∷ n ∷ flag last ∷ []
-role_bytes AnchorTrigger = 2 ∷ []
-role_bytes Genesis = 3 ∷ []
-
-unfoldable pub record_bytes : PointInfo → List ℕ
-unfolding concat little_bytes big_bytes pairs_bytes peer_bytes
-record_bytes p =
-    concat
-    (field_bytes 1 (id_bytes p.id)
-    ∷ field_bytes 2 (little_bytes 4 p.payload_len ++ little_bytes 4 p.payload_bytes)
-    ∷ field_bytes 3 (pairs_bytes p.includes)
-    ∷ field_bytes 4 (pairs_bytes p.witness)
-    ∷ field_bytes 5 (peer_bytes p.evidence)
-    ∷ field_bytes 6 (link_bytes p.anchor_proof)
-    ∷ field_bytes 7 (link_bytes p.anchor_trigger)
-    ∷ field_bytes 8 (role_bytes p.role)
-    ∷ field_bytes 9 (little_bytes 8 p.time ++ little_bytes 8 p.anchor_time)
-    ∷ [])
 
 -- ---- the book: its settings, and a slice with room for nine entries of the points below and not for a tenth
 
@@ -163,7 +131,7 @@ last =
 
 abbrev pub offered : List ℕ → ℕ → PointInfo → Offer
 offered above leader p =
-    offer_of (schedule_bytes (record { first = 10; peers = 1 ∷ [] } ∷ record { first = 11; peers = above } ∷ []) 40) leader (record_bytes p)
+    offer_of (schedule_bytes (record { first = 10; peers = 1 ∷ [] } ∷ record { first = 11; peers = above } ∷ []) 40) leader (point_bytes p)
     (replicate peers_room 0)
 
 abbrev pub four : List ℕ
@@ -215,7 +183,7 @@ expected_answers =
     ∷ []
 
 abbrev pub entry : PointInfo → Status → Bool → Kept
-entry p s certified = record { bytes = record_bytes p; point = p; status = s; certified = certified }
+entry p s certified = record { bytes = point_bytes p; point = p; status = s; certified = certified }
 
 -- certified are the previous points of `first`, `dependent`, `covering` and `last`, and what their certificates cover: that of
 -- `covering` also covers `third`. By `near`, whose previous point `third` is, nothing is: no list is needed of it.
@@ -253,15 +221,15 @@ first_as_root =
 
 abbrev pub expected_entries : List (List ℕ)
 expected_entries =
-    (record_bytes genesis ++ tag33 0 1 0 no_root)
-    ∷ (record_bytes first ++ tag33 2 1 4 no_root)
-    ∷ (record_bytes second ++ tag33 0 1 0 no_root)
-    ∷ (record_bytes third ++ tag33 0 1 0 no_root)
-    ∷ (record_bytes dependent ++ tag33 1 0 0 first_as_root)
-    ∷ (record_bytes covering ++ tag33 0 1 0 no_root)
-    ∷ (record_bytes near ++ tag33 3 0 16 no_root)
-    ∷ (record_bytes skipping ++ tag33 2 0 9 no_root)
-    ∷ (record_bytes last ++ tag33 2 0 18 no_root)
+    (point_bytes genesis ++ tag33 0 1 0 no_root)
+    ∷ (point_bytes first ++ tag33 2 1 4 no_root)
+    ∷ (point_bytes second ++ tag33 0 1 0 no_root)
+    ∷ (point_bytes third ++ tag33 0 1 0 no_root)
+    ∷ (point_bytes dependent ++ tag33 1 0 0 first_as_root)
+    ∷ (point_bytes covering ++ tag33 0 1 0 no_root)
+    ∷ (point_bytes near ++ tag33 3 0 16 no_root)
+    ∷ (point_bytes skipping ++ tag33 2 0 9 no_root)
+    ∷ (point_bytes last ++ tag33 2 0 18 no_root)
     ∷ []
 
 -- settings, entries, and the seven zeros that are left of 5,000 bytes

@@ -5,8 +5,9 @@ use Rattle.base.specs.Base.{pick, and_then}
 use Rattle.parts.specs.Bytes.{big_bytes, little_bytes}
 use Rattle.parts.specs.Limits.{first_round, last_round, settings_length, entries_start, tag33_length, most_kept, longest_book}
 use Rattle.record.specs.Record.{field_row, field_ok, record_end}
-use Rattle.point.specs.Point.{PointId, Through, Includes, Witness, PointInfo, in_domain}
+use Rattle.point.specs.Point.{PointInfo, in_domain}
 use Rattle.point.specs.Reading.{point_id_at, through_at, read_point, read_point_in}
+use Rattle.point.specs.Written.{id_bytes, through_bytes}
 use Rattle.schedule.specs.Settings.{read_settings}
 use Rattle.reasons.specs.Answer.{flag}
 use Rattle.reasons.specs.Invalid.{dag_round, InvalidDependency}
@@ -15,15 +16,6 @@ use Rattle.books.specs.Kept.{Status, Valid, TransInvalid, Invalid, IllFormed, Ke
 use Rattle.books.specs.Offer.{used}
 
 -- ---- how a book is laid out
-
--- "round (4), digest (32), author (32)"
-abbrev pub id_bytes : PointId → List ℕ
-id_bytes i = little_bytes 4 i.round ++ (big_bytes 32 i.digest ++ big_bytes 32 i.author)
-
--- "map (0 includes, 1 witness), peer (32)"
-abbrev pub through_bytes : Through → List ℕ
-through_bytes (Includes x) = 0 ∷ big_bytes 32 x
-through_bytes (Witness x) = 1 ∷ big_bytes 32 x
 
 -- tag 33: "state, certified, reason, root id, root's reason, map and peer it came through; zeros where none"
 unfoldable pub status_bytes : Status → Bool → List ℕ

@@ -9,7 +9,7 @@ use Rattle.reasons.specs.Answer.{flag, role_number}
 use Rattle.rules.specs.DagPoint.{is_by}
 use Rattle.rules.specs.Mismatch.{pair_id, is_id}
 use Rattle.books.specs.Kept.{Status, Valid, TransInvalid, Invalid, IllFormed, Kept, Book, find_kept}
-use Rattle.books.specs.Layout.{id_bytes}
+use Rattle.point.specs.Written.{id_bytes}
 
 -- tag 16: "state .., certified (0 or 1), first valid (0 or 1), reason number"
 abbrev pub tag16 : ℕ → Bool → Bool → ℕ → List ℕ

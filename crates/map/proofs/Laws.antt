@@ -1,5 +1,5 @@
 -- Laws of rows: their number and places, what rising peers give, and the position of a peer by halving.
-use Rattle.std.proofs.Common.{Option, None, Some, option_map, is_some, ℕ, zero, suc, ◌+◌, ◌-◌, ◌*◌, ◌/◌, ◌%◌, ◌≤◌, ◌<◌, add-suc, add-zero, mul-le-mul_left, mul_comm, div-le_self, arith, ◌≡◌, refl, ap, sym, ◌∙◌, List, [], ◌∷◌, ◌⊎◌, inl, inr, ⊎_elim, Bool, true, false, ◌&&◌, length, get_or, drop, length-drop, drop-cons, ltb, eqb, ltb-true, eqb-true, eq-eqb, ne_eqb, add-one, is_lt}
+use Rattle.std.proofs.Common.{Option, None, Some, option_map, is_some, ℕ, zero, suc, ◌+◌, ◌-◌, ◌*◌, ◌/◌, ◌%◌, ◌≤◌, ◌<◌, add-suc, add-zero, zero-add, mul-le-mul_left, mul_comm, div-le_self, arith, ◌≡◌, refl, ap, sym, ◌∙◌, List, [], ◌∷◌, ◌⊎◌, inl, inr, ⊎_elim, Bool, true, false, ◌&&◌, length, get_or, drop, length-drop, drop-cons, ltb, eqb, ltb-true, eqb-true, eq-eqb, ne_eqb, add-one, is_lt, lt-ltb}
 use Rattle.std.proofs.Math.Nat.{mul-div-le, div-add-mod}
 use Rattle.std.proofs.Math.Bool.{and-eq-true_iff}
 use Rattle.std.proofs.lemmas.Bool.Decides.{nat_tests}
@@ -8,6 +8,7 @@ use native.Mathlib.Decide.{dec_lt, ℕ_discrete}
 use Rattle.parts.specs.Bytes.{id_at}
 use Rattle.parts.specs.Parts.{order, order_then}
 use Rattle.base.specs.Base.{pick, tabulate}
+use Rattle.base.proofs.Bool.{and_left, and_right, and_both}
 use Rattle.base.proofs.Lists.{tabulate-length, tabulate-at}
 use Rattle.base.proofs.Impossible.{impossible}
 use Rattle.map.specs.declared.Arrangement.{Arrangement}
@@ -36,10 +37,15 @@ module _ (width : ℕ) (s : List ℕ) where
 
 -- ---- pairs
 
-peers-tabulate : (f : ℕ → Pair) (n i : ℕ) → peers (tabulate f n i) ≡ tabulate (λ k. (f k).peer) n i
+pub peers-tabulate : (f : ℕ → Pair) (n i : ℕ) → peers (tabulate f n i) ≡ tabulate (λ k. (f k).peer) n i
 unfolding peers tabulate
 peers-tabulate f zero i = refl
 peers-tabulate f (suc n) i = ap (λ (l : List ℕ). (f i).peer ∷ l) (peers-tabulate f n (suc i))
+
+pub digests-tabulate : (f : ℕ → Pair) (n i : ℕ) → digests (tabulate f n i) ≡ tabulate (λ k. (f k).digest) n i
+unfolding digests tabulate
+digests-tabulate f zero i = refl
+digests-tabulate f (suc n) i = ap (λ (l : List ℕ). (f i).digest ∷ l) (digests-tabulate f n (suc i))
 
 module _ (a : Arrangement) (s : List ℕ) where
   pub pairs_in-length : length (pairs_in a s) ≡ length s / 64
@@ -104,11 +110,31 @@ short (x ∷ y ∷ l) h = absurd (omega arith)
 pub rising-end : (l : List ℕ) (j : ℕ) → length l ≤ suc j → rising (drop j l) ≡ true
 rising-end l j h = short (drop j l) (omega (arith, length-drop j l))
 
+-- a peer more, above the last
+one_above : (f : ℕ → ℕ) (n i : ℕ) → rising (tabulate f (suc n) i) ≡ true → f (i + n) < f (suc (i + n)) →
+    rising (tabulate f (suc (suc n)) i) ≡ true
+unfolding rising tabulate
+one_above f zero i r h =
+    let e : i + 0 ≡ i = omega arith in
+    and_both (ltb (f i) (f (suc i))) true (lt-ltb (f i) (f (suc i)) (rw e at h)) refl
+one_above f (suc n) i r h =
+    let e : i + suc n ≡ suc i + n = omega arith in
+    let first = and_left (ltb (f i) (f (suc i))) _ r in
+    let rest = and_right (ltb (f i) (f (suc i))) _ r in
+    and_both (ltb (f i) (f (suc i))) _ first (one_above f n (suc i) rest (rw e at h))
+
+pub rising-next : (f : ℕ → ℕ) (n : ℕ) → 1 ≤ n → rising (tabulate f n 0) ≡ true → f (n - 1) < f n → rising (tabulate f (n + 1) 0) ≡ true
+rising-next f zero l r h = absurd (omega arith)
+rising-next f (suc n) l r h =
+    let before : suc n - 1 ≡ n = omega arith in
+    let less : f n < f (suc n) = rw before at h in
+    rw add-one (one_above f n 0 r (rw zero-add less))
+
 -- whether the peer at a position stands below the one before it, where f says which peer that is
 abbrev pub rises_at : (ℕ → ℕ) → ℕ → Bool
 rises_at f j = is_lt (order (f (j - 1)) (f j))
 
-is_lt-order : (m n : ℕ) → is_lt (order m n) ≡ ltb m n
+pub is_lt-order : (m n : ℕ) → is_lt (order m n) ≡ ltb m n
 unfolding order order_then
 is_lt-order m n = grind (arith, nat_tests)
 
@@ -246,7 +272,7 @@ find-rising l x n r h e =
 
 -- ---- the digest beside a peer
 
-find-later : (l : List ℕ) (x i : ℕ) → find_from (suc i) l x ≡ option_map suc (find_from i l x)
+pub find-later : (l : List ℕ) (x i : ℕ) → find_from (suc i) l x ≡ option_map suc (find_from i l x)
 unfolding find_from
 find-later [] x i = refl
 find-later (y ∷ l) x i = go (eqb y x) (find-later l x (suc i))

@@ -12,8 +12,9 @@ use lib.Dec.{eqb}
 use borrow.Author.Tests.{lt-ltb, le-ltb, eq-eqb, ne_eqb}
 use Rattle.base.specs.Base.{concat, tabulate}
 use Rattle.base.proofs.Joined.{tabulate-same, Wide, joined-length, joined-at, cut}
-use Rattle.parts.specs.Bytes.{big, bytes_at, big_at, id_at}
-use Rattle.parts.proofs.Laws.{at_length}
+use Rattle.parts.specs.Bytes.{big, bytes_at, big_at, id_at, Bytes}
+use Rattle.parts.proofs.Laws.{at_length, at-bytes, rest-bytes}
+use Rattle.parts.proofs.AllBytes.{both, joined}
 use Rattle.map.specs.declared.Arrangement.{Arrangement}
 use Rattle.map.specs.declared.Arrangement.TheVariants.{Pairs, Columns}
 use Rattle.map.specs.Rows.{pair_at, pairs_in, peers, rising, is_map}
@@ -106,6 +107,12 @@ module _ (a : Arrangement) (s : List ℕ) where
   moved-rest : drop (64 * n) (moved a s) ≡ drop (64 * n) s
   unfolding moved
   moved-rest = drop_at (concat (tabulate (moved_block a s) (2 * n) 0)) (drop (64 * n) s) (64 * n) (omega (arith, joined-length 32 (moved_block a s) (2 * n) 0 wide))
+
+  pub moved-bytes : Bytes s → Bytes (moved a s)
+  unfolding moved
+  moved-bytes b =
+      let blocks = joined (moved_block a s) (2 * n) 0 (λ k. record { bytes = at-bytes 32 s (32 * came_from a n k) b }) in
+      (both (concat (tabulate (moved_block a s) (2 * n) 0)) blocks (record { bytes = rest-bytes (64 * n) s b })).bytes
 
 -- what moving gives, by the number of pairs
 moved-with : (a : Arrangement) (s : List ℕ) (n : ℕ) → length s / 64 ≡ n →

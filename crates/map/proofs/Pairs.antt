@@ -1,10 +1,11 @@
 -- Laws of the pairs of a map: a rising map, and what a peer gets.
 use Rattle.std.proofs.Common.{Some, is_some, ℕ, ◌<◌, arith, ◌≡◌, refl, sym, ap, ◌∙◌, ◌⊎◌, inl, inr, Bool, true, false, List, [], ◌∷◌, ltb, eqb, ltb-true, eqb-true, eq-eqb, ne_eqb}
-use mathlib.Core.List.{Memᴰ}
+use mathlib.Core.List.{Memᴰ, map, map-id}
 use Rattle.base.specs.Base.{pick}
 use Rattle.base.proofs.Bool.{clash, and_left, and_right}
 use Rattle.base.proofs.Option.{none-some}
 use Rattle.map.specs.Rows.{Pair, rising, peers, get}
+use Rattle.map.specs.Risen.{peer_of, itself}
 use Rattle.map.proofs.Laws.{get-empty, get-next}
 use mathlib.Core.List.Memᴰ
 
@@ -13,18 +14,31 @@ unfolding rising
 rising_tail x [] r = refl
 rising_tail x (y ∷ l) r = and_right (ltb x y) _ r
 
--- a peer stands below those after it
-pub rising-below : (x : ℕ) (l : List Pair) (q : Pair) → rising (x ∷ peers l) ≡ true → Memᴰ q l → x < q.peer
-unfolding peers rising
-rising-below x [] q r m = absurd (Memᴰ.not-nil m)
-rising-below x (y ∷ l) q r m = go (λ n. rising-below y.peer l q (and_right (ltb x y.peer) _ r) n) (Memᴰ.cases_cons m)
-  where
-    less : x < y.peer
-    less = ltb-true x y.peer (and_left (ltb x y.peer) _ r)
+-- the peers of pairs are their keys, and a peer's key is itself
 
-    go : (Memᴰ q l → y.peer < q.peer) → (q ≡ y) ⊎ Memᴰ q l → x < q.peer
+pub keys-peers : (l : List Pair) → map peer_of l ≡ peers l
+unfolding peers
+keys-peers [] = refl
+keys-peers (q ∷ l) = ap (λ (m : List ℕ). q.peer ∷ m) (keys-peers l)
+
+pub keys-themselves : (l : List ℕ) → map itself l ≡ l
+keys-themselves l = map-id l
+
+-- a peer stands below those after it
+pub rising-above : (x : ℕ) (l : List ℕ) (y : ℕ) → rising (x ∷ l) ≡ true → Memᴰ y l → x < y
+unfolding rising
+rising-above x [] y r m = absurd (Memᴰ.not-nil m)
+rising-above x (z ∷ l) y r m = go (rising-above z l y (and_right (ltb x z) _ r)) (Memᴰ.cases_cons m)
+  where
+    less : x < z
+    less = ltb-true x z (and_left (ltb x z) _ r)
+
+    go : (Memᴰ y l → z < y) → (y ≡ z) ⊎ Memᴰ y l → x < y
     go rec (inl e) = rw e less
     go rec (inr n) = let h = rec n in omega (arith, less)
+
+pub rising-below : (x : ℕ) (l : List Pair) (q : Pair) → rising (x ∷ peers l) ≡ true → Memᴰ q l → x < q.peer
+rising-below x l q r m = rising-above x (map peer_of l) q.peer (ap (λ (k : List ℕ). rising (x ∷ k)) (keys-peers l) ∙ r) (Memᴰ.map peer_of m)
 
 -- a peer of a map is found there
 pub get-there : (l : List Pair) (q : Pair) → Memᴰ q l → is_some (get l q.peer) ≡ true

@@ -160,6 +160,9 @@ at-bytes n s at b k = elim (dec_lt k n) [
   | no h ↦ (let e : get_or (bytes_at n s at) k 0 ≡ 0 = get_or-eq_default (bytes_at n s at) 0 (simp length-take (omega arith)) in omega arith)
 ]
 
+pub rest-bytes : (n : ℕ) (s : List ℕ) → Bytes s → Bytes (drop n s)
+rest-bytes n s b k = rw (get_or-drop n s k 0) (b (n + k))
+
 pub big-fits : (n : ℕ) (s : List ℕ) (at : ℕ) → Bytes s → at + n ≤ length s → big_at n s at < 256 ^ n
 unfolding big_at
 big-fits n s at b h = rw (at_length n s at h) at (big-below (bytes_at n s at) (at-bytes n s at b))
@@ -222,7 +225,7 @@ unfolding big_bytes
 write_big zero x = refl
 write_big (suc n) x = rw (byte_is n x, write_big n x)
 
--- ---- bytes in the other order
+-- ---- a number's bytes, the first lowest, both ways
 
 -- the bytes of a number that was read from bytes are these
 pub little-bytes : (l : List ℕ) → Bytes l → little_bytes (length l) (little l) ≡ l
@@ -233,3 +236,20 @@ little-bytes (x ∷ l) b =
     let low : (x + 256 * little l) % 256 ≡ x = omega arith in
     let high : (x + 256 * little l) / 256 ≡ little l = omega arith in
     rw (low, high, little-bytes l (λ k. b (suc k)))
+
+pub little-length : (n x : ℕ) → length (little_bytes n x) ≡ n
+unfolding little_bytes
+little-length zero x = refl
+little-length (suc n) x = ap suc (little-length n (x / 256))
+
+-- a number that fits them is read back
+pub little-back : (n x : ℕ) → x < 256 ^ n → little (little_bytes n x) ≡ x
+unfolding little little_bytes
+little-back zero x h = omega arith
+little-back (suc n) x h =
+    let g : x / 256 < 256 ^ n = omega (arith, pow-succ' 256 n) in
+    rw (little-back n (x / 256) g) (omega arith)
+
+pub little-of : (n : ℕ) (s : List ℕ) (at : ℕ) → Bytes s → at + n ≤ length s → little_bytes n (little_at n s at) ≡ bytes_at n s at
+unfolding little_at
+little-of n s at b h = rw (at_length n s at h) at (little-bytes (bytes_at n s at) (at-bytes n s at b))

@@ -1,22 +1,25 @@
--- Laws of converted records: the same point in the other arrangement, and there and back the same bytes.
+-- Laws of converted records: the same point in the other arrangement, there and back the same bytes, and which contents they have.
 use Rattle.std.specs.Prelude.{Option, Some, None, option_map}
 use Prim.Native.Nat.{ℕ, ◌+◌, ◌-◌, ◌≤◌, ◌<◌}
 use native.Mathlib.Omega.{arith}
 use mathlib.Core.Path.{◌≡◌, refl, ap, sym, ◌∙◌, subst}
 use mathlib.Core.Logic.{⊎_elim}
 use mathlib.Core.Bool.{true, false}
-use mathlib.Core.List.{List}
-use lib.ListN.{length, drop, length-drop}
+use mathlib.Core.List.{List, []}
+use lib.ListN.{length, get_or, drop, set, length-drop}
 use lib.Seq.{length-take-le}
 use Rattle.base.specs.Base.{pick, and_then}
 use Rattle.base.proofs.Bool.{cases, pick_true, pick-false}
-use Rattle.parts.specs.Bytes.{put_at}
+use Rattle.parts.specs.Bytes.{put_at, Bytes}
+use Rattle.parts.proofs.AllBytes.{put-bytes}
 use Rattle.write.proofs.Laws.{put-over, put-same, put-either}
 use Rattle.map.specs.declared.Arrangement.{Arrangement}
 use Rattle.map.specs.Moved.{other, moved}
-use Rattle.map.proofs.Moved.{moved-length, moved-back, moved-means, moved-map}
+use Rattle.map.proofs.Moved.{moved-length, moved-bytes, moved-back, moved-means, moved-map}
 use Rattle.record.specs.Record.{next_at, content_at, start_of, content_of, well_shaped}
-use Rattle.record.proofs.Laws.{next-within}
+use Rattle.record.specs.Fields.{record_bytes, contents}
+use Rattle.record.proofs.Laws.{content-bytes, next-within}
+use Rattle.record.proofs.Contents.{record-parts}
 use Rattle.point.specs.Point.{PointInfo, AnchorLink}
 use Rattle.point.specs.declared.data.PointRole.{PointRole}
 use Rattle.point.specs.Reading.{read_link, read_role, maps_ok, point_in, read_point_in}
@@ -208,3 +211,37 @@ module _ (a : Arrangement) (s : List ℕ) where
       by-shape (λ t. converted (other a) t ≡ s) a s
       (λ w. converted-is (other a) (with_moved a 3 (with_moved a 2 s)) (both-shaped a s w) ∙ both-back a s w)
       (λ n. converted-not (other a) s n)
+
+-- ---- the contents of a converted record
+
+-- nine contents with the third and the fourth moved
+abbrev pub moved_contents : Arrangement → List (List ℕ) → List (List ℕ)
+moved_contents a cs = set (set cs 2 (moved a (get_or cs 2 []))) 3 (moved a (get_or cs 3 []))
+
+module _ (a : Arrangement) (s : List ℕ) (w : well_shaped s ≡ true) where
+  both-contents : contents (with_moved a 3 (with_moved a 2 s)) ≡ moved_contents a (contents s)
+  unfolding contents
+  both-contents =
+      rw (
+        both-includes a s w,
+        both-witness a s w,
+        both-other a s w 0 (omega arith) (λ e. omega arith) (λ e. omega arith),
+        both-other a s w 1 (omega arith) (λ e. omega arith) (λ e. omega arith),
+        both-other a s w 4 (omega arith) (λ e. omega arith) (λ e. omega arith),
+        both-other a s w 5 (omega arith) (λ e. omega arith) (λ e. omega arith),
+        both-other a s w 6 (omega arith) (λ e. omega arith) (λ e. omega arith),
+        both-other a s w 7 (omega arith) (λ e. omega arith) (λ e. omega arith),
+        both-other a s w 8 (omega arith) (λ e. omega arith) (λ e. omega arith),
+      ) refl
+
+with-bytes : (a : Arrangement) (k : ℕ) (s : List ℕ) → Bytes s → Bytes (with_moved a k s)
+unfolding with_moved
+with-bytes a k s b = (put-bytes s (start_of s k + 3) (moved a (content_of s k)) b (moved-bytes a (content_of s k) (content-bytes s k b))).bytes
+
+-- a converted record is the record of these
+pub converted-fields : (a : Arrangement) (s : List ℕ) → Bytes s → well_shaped s ≡ true →
+    converted a s ≡ record_bytes (moved_contents a (contents s))
+converted-fields a s b w =
+    let v = with_moved a 2 s in
+    converted-is a s w
+    ∙ (record-parts (with_moved a 3 v) (with-bytes a 3 v (with-bytes a 2 s b)) (both-shaped a s w) ∙ ap record_bytes (both-contents a s w))

@@ -87,13 +87,16 @@ set-of s l e w h =
     record { are = e; rise = rw e (well_rowed-rising 32 s w); few = rw e (omega arith); whole = rw e (sym n) }
 
 -- what a point has of its record, whatever its links and its role
-pub record PartsOf (s : List ℕ) (a b : Option AnchorLink) (p : PointInfo) : Type 0 where
+pub record PartsOf (s : List ℕ) (a b : Option AnchorLink) (r : Option PointRole) (p : PointInfo) : Type 0 where
   pub id : p.id ≡ point_id_at (content_of s 0) 0
+  pub payload_len : p.payload_len ≡ little_at 4 (content_of s 1) 0
+  pub payload_bytes : p.payload_bytes ≡ little_at 4 (content_of s 1) 4
   pub includes : p.includes ≡ pairs_of (content_of s 2)
   pub witness : p.witness ≡ pairs_of (content_of s 3)
   pub evidence : p.evidence ≡ peers_of 32 (content_of s 4)
   pub proof : a ≡ Some p.anchor_proof
   pub trigger : b ≡ Some p.anchor_trigger
+  pub role : r ≡ Some p.role
   pub time : p.time ≡ little_at 8 (content_of s 8) 0
   pub anchor_time : p.anchor_time ≡ little_at 8 (content_of s 8) 8
 
@@ -101,13 +104,26 @@ pub record PartsOf (s : List ℕ) (a b : Option AnchorLink) (p : PointInfo) : Ty
 abbrev pub reads : Arrangement → List ℕ → Option AnchorLink → Option AnchorLink → Option PointRole → Option PointInfo
 reads a s x y r = and_then x (λ p. and_then y (λ t. option_map (point_in a s p t) r))
 
-parts_with : (s : List ℕ) (a b : Option AnchorLink) (r : Option PointRole) (p : PointInfo) → reads Columns s a b r ≡ Some p → PartsOf s a b p
+parts_with : (s : List ℕ) (a b : Option AnchorLink) (r : Option PointRole) (p : PointInfo) → reads Columns s a b r ≡ Some p → PartsOf s a b r p
 parts_with s None b r p e = none-some e
 parts_with s (Some x) None r p e = none-some e
 parts_with s (Some x) (Some y) None p e = none-some e
-parts_with s (Some x) (Some y) (Some r) p e = record { id = cc; includes = cc; witness = cc; evidence = cc; proof = cc; trigger = cc; time = cc; anchor_time = cc }
+parts_with s (Some x) (Some y) (Some r) p e =
+    record {
+      id = cc;
+      payload_len = cc;
+      payload_bytes = cc;
+      includes = cc;
+      witness = cc;
+      evidence = cc;
+      proof = cc;
+      trigger = cc;
+      role = cc;
+      time = cc;
+      anchor_time = cc;
+    }
 
-pub parts-of : (s : List ℕ) (p : PointInfo) → read_point s ≡ Some p → PartsOf s (read_link (content_of s 5)) (read_link (content_of s 6)) p
+pub parts-of : (s : List ℕ) (p : PointInfo) → read_point s ≡ Some p → PartsOf s (read_link (content_of s 5)) (read_link (content_of s 6)) (read_role (content_of s 7)) p
 unfolding read_point_in
 parts-of s p h = parts_with s _ _ (read_role (content_of s 7)) p (picked (well_shaped s && maps_ok Columns s) _ p h).1
 

@@ -87,7 +87,7 @@ pub fn pair_id(map: &[u8], i: usize, round: u32) -> PointId
 const LAST_TIME: u64 = i64::MAX as u64;
 
 // Whether a point of this round and these times lies in the domain.
-pub(crate) fn are_in_domain(round: u32, time: u64, anchor_time: u64) -> bool
+pub fn are_in_domain(round: u32, time: u64, anchor_time: u64) -> bool
     ensures { result ≡ (leb first_round round && (leb round last_round && (leb time LAST_TIME && leb anchor_time LAST_TIME))) }
 {
     parts::is_round(round) && time <= LAST_TIME && anchor_time <= LAST_TIME

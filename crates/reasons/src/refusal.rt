@@ -17,6 +17,7 @@ pub enum Refusal {
     Book = 10,
     Kept = 11,
     Full = 12,
+    Twice = 13,
     Output = 14,
 }
 

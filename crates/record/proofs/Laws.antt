@@ -15,8 +15,8 @@ use native.Mathlib.Numerals.{add-one}
 use borrow.Author.Tests.{eqb-true, le-leb, lt-leb}
 use Rattle.base.specs.Base.{pick, is_some_and}
 use Rattle.base.proofs.Option.{picked, some_of}
-use Rattle.parts.specs.Bytes.{bytes_at, little_at}
-use Rattle.parts.proofs.Laws.{part_front}
+use Rattle.parts.specs.Bytes.{bytes_at, little_at, Bytes}
+use Rattle.parts.proofs.Laws.{part_front, at-bytes}
 use Rattle.record.specs.declared.Row.{Row}
 use Rattle.record.specs.Record.{length_at, next_at, content_at, field_ok, end_from, start_of, content_of, field_row, rows, row_of, record_end, well_shaped}
 use Rattle.record.specs.declared.Places.{Places}
@@ -109,6 +109,10 @@ start-within s (suc k) = next-within s (start_of s k)
 pub start-next : (s : List ℕ) (k : ℕ) → start_of s (k + 1) ≡ next_at s (start_of s k)
 unfolding start_of
 start-next s k = rw (add-one k)
+
+pub content-bytes : (s : List ℕ) (k : ℕ) → Bytes s → Bytes (content_of s k)
+unfolding content_of content_at
+content-bytes s k b = at-bytes (next_at s (start_of s k) - (start_of s k + 3)) s (start_of s k + 3) b
 
 -- ---- records
 

@@ -1,2 +1,3 @@
 pub mod Record
+pub mod Fields
 pub mod Code

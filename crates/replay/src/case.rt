@@ -2,10 +2,10 @@
 use crate::failure::Failure;
 use std::io::Read;
 
-// A case's first eight blobs, of which the last are empty where it has fewer.
+// A case's first eleven blobs, of which the last are empty where it has fewer.
 #[derive(Clone, Copy)]
 pub struct Case<'a> {
-    pub blobs: [&'a [u8]; 8],
+    pub blobs: [&'a [u8]; 11],
 }
 
 // Reads past blobs of which nothing is needed.
@@ -21,7 +21,7 @@ pub fn read_case<'a, R: Read>(
     blobs: u8,
     buf: &'a mut [u8],
 ) -> Result<Case<'a>, Failure<'a>> {
-    let mut case: [&[u8]; 8] = [&[]; 8];
+    let mut case: [&[u8]; 11] = [&[]; 11];
     let mut rest = buf;
     for i in 0..blobs {
         let Some(end) = case_files::read_blob(file, rest, 0) else {
@@ -29,7 +29,7 @@ pub fn read_case<'a, R: Read>(
             return Err(Failure::NoRoom);
         };
         let (blob, others) = rest.split_at_mut(end);
-        if i < 8 {
+        if i < 11 {
             case[i as usize] = blob;
         }
         rest = others;

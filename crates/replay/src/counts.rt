@@ -12,6 +12,7 @@ pub struct Counts {
     judge: u64,
     open: u64,
     offer: u64,
+    compose: u64,
     other: u64,
     different: u64,
     no_room: u64,
@@ -26,6 +27,7 @@ impl Counts {
             Kind::Judge => &mut self.judge,
             Kind::Open | Kind::OpenApart => &mut self.open,
             Kind::Offer | Kind::OfferToGiven => &mut self.offer,
+            Kind::Compose => &mut self.compose,
             Kind::Other => &mut self.other,
         };
         *count = count.wrapping_add(1);
@@ -56,6 +58,7 @@ impl Display for Counts {
         writeln!(f, "judge cases {}", self.judge)?;
         writeln!(f, "openings {}", self.open)?;
         writeln!(f, "offers {}", self.offer)?;
+        writeln!(f, "composed points {}", self.compose)?;
         writeln!(f, "other cases {}", self.other)?;
         writeln!(f, "no room {}", self.no_room)?;
         write!(f, "different {} of {}", self.different, self.place)

@@ -3,12 +3,14 @@ use crate::call_answer::Answer;
 use crate::hex_bytes::Hex;
 use std::io;
 
-// What a call did otherwise: its answer, the bytes that it left of a book, or the number or the bytes of an opening.
+// What a call did otherwise: its answer, the bytes that it left of a book, the number or the bytes of an opening, or the number, the
+// count or the bytes of a record.
 #[derive(Drop)]
 pub enum Difference<'a> {
     Answer { want: &'a [u8], answer: Answer<'a> },
     Book,
     Opening,
+    Record,
 }
 
 // With no room for a case, or a blob of a length that its call doesn't take, no call was made, so nothing was found different.
@@ -30,6 +32,7 @@ impl Difference<'_> {
             }
             Difference::Book => eprintln!(rt; "first difference: the book's bytes in case {place}"),
             Difference::Opening => eprintln!(rt; "first difference: opening in case {place}"),
+            Difference::Record => eprintln!(rt; "first difference: the record in case {place}"),
         }
     }
 }

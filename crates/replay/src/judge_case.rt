@@ -5,7 +5,7 @@ use crate::failure::Failure;
 use crate::lent;
 
 pub fn replay<'a>(case: Case<'a>, peers: &'a mut [u8]) -> Result<(), Failure<'a>> {
-    let [settings, schedule, rec, flags, list, length, want, _] = case.blobs;
+    let [settings, schedule, rec, flags, list, length, want, ..] = case.blobs;
     let &[leader, presence] = flags else {
         return Err(Failure::NoRoom);
     };

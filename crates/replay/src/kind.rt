@@ -9,6 +9,7 @@ pub enum Kind {
     Offer,
     // To the book that is the first blob.
     OfferToGiven,
+    Compose,
     Other,
 }
 
@@ -22,6 +23,7 @@ impl From<u8> for Kind {
             4 => Kind::Open,
             5 => Kind::Offer,
             6 => Kind::OfferToGiven,
+            16 => Kind::Compose,
             _ => Kind::Other,
         }
     }

@@ -2,15 +2,17 @@
 // compares every byte of them with the answer that the case expects. Each argument names a file of cases.
 // data/judge.bin is a sample of the 6,437 judge cases among the vectors: the two smallest of each outcome (a number, or a
 // verdict with its reason) at each pair of flags, and of each outcome with the same map, role, issue, flag and root's reason.
-// data/books.bin has openings and offers, with the answers and the bytes of the plain book in Rust. Of
-// data/wrong_on_purpose.bin each case has a change in what it expects, so all of them must be found different.
-// oracle/README.md says how the two are made. Of no file may there be a case for which there is no room.
+// data/books.bin has openings and offers, with the answers and the bytes of the plain book in Rust, and data/composes.bin points
+// that are handed over in parts, with the records of the oracle's writer. Of data/wrong_on_purpose.bin each case has a change in
+// what it expects, so all of them must be found different.
+// oracle/README.md says how the three are made. Of no file may there be a case for which there is no room.
 #![tactic(auto)]
 
 ghost use Rattle.std.specs.Prelude.{◌≤◌, length, IfOk};
 
 mod call_answer;
 mod case;
+mod compose_case;
 mod counts;
 mod failure;
 mod file;

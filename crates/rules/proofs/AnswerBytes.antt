@@ -6,10 +6,10 @@ use mathlib.Core.List.{List, [], ◌∷◌, ◌++◌}
 use lib.ListN.{length}
 use Rattle.parts.specs.Bytes.{little, big, little_bytes, big_bytes}
 use Rattle.write.proofs.Laws.{bytes-length, big-bytes}
-use Rattle.write.proofs.Numbers.{little-length, little-back}
+use Rattle.parts.proofs.Laws.{little-length, little-back}
 use Rattle.reasons.specs.Answer.{Answer}
 use Rattle.rules.specs.Answer.{head_bytes, number_bytes, root_bytes, answer_bytes}
-use Rattle.rules.proofs.Fits.{IdFits}
+use Rattle.point.proofs.Fits.{IdFits}
 
 pub record AnswerFits (a : Answer) : Type 0 where
   pub id : IdFits a.id

@@ -12,8 +12,7 @@ use Rattle.base.specs.Base.{pick}
 use Rattle.base.proofs.Bool.{and_left, and_right}
 use Rattle.base.proofs.Option.{IfSome, pick-has, then_has, map-has, has}
 use Rattle.parts.specs.Bytes.{Bytes}
-use Rattle.parts.proofs.Laws.{at-bytes}
-use Rattle.write.proofs.Numbers.{rest-bytes}
+use Rattle.parts.proofs.Laws.{at-bytes, rest-bytes}
 use Rattle.record.specs.Record.{field_row, field_ok, record_end}
 use Rattle.record.proofs.Laws.{fitting}
 use Rattle.point.specs.Point.{PointId, PointInfo}
@@ -22,7 +21,7 @@ use Rattle.point.specs.declared.data.AnchorStageRole.{AnchorStageRole}
 use Rattle.reasons.specs.Invalid.{dag_round}
 use Rattle.rules.specs.DagPoint.{DagPoint, Valid, TransInvalid, Invalid, IllFormed, NotFound}
 use Rattle.rules.specs.List.{is_listable, Stated, RecordFront, record_front, record_front_in, record_at, id_at17, is_root, read_state, read_state_in, Listed, entry_at, entry_at_in, read_entry, read_entry_in, is_in_order, list_from, list_from_in, read_list, read_list_in, directs, indirects}
-use Rattle.rules.proofs.Fits.{IdFits, PointFits, id-fits, point-fits}
+use Rattle.point.proofs.Fits.{IdFits, PointFits, id-fits, read-fits}
 use Rattle.rules.proofs.All.{All}
 use Rattle.rules.proofs.Reasons.{StateFits, EntryFits, IndirectFits}
 
@@ -37,7 +36,7 @@ unfolding record_front_in
 front_fits s b =
     then_has (λ (x : RecordFront). PointFits x.point) (record_end s) _ (λ n e.
     then_has (λ (x : RecordFront). PointFits x.point) (read_point (take n s)) _ (λ q r.
-    pick-has (λ (x : RecordFront). PointFits x.point) (is_listable q) _ _ (λ h. point-fits (take n s) q (at-bytes n s 0 b) r) tt))
+    pick-has (λ (x : RecordFront). PointFits x.point) (is_listable q) _ _ (λ h. read-fits (take n s) q (at-bytes n s 0 b) r) tt))
 
 record_fits : (state : PointInfo → DagPoint) → ((q : PointInfo) → PointFits q → StateFits (state q)) → (front : ℕ) (s : List ℕ) → Bytes s →
     IfSome StatedFits (record_at state front s)

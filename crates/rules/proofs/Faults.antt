@@ -21,7 +21,7 @@ use Rattle.reasons.specs.declared.ill_formed.StructureIssue.TheVariants.{AnchorT
 use Rattle.reasons.specs.declared.ill_formed.IllFormedReason.TheVariants.{Structure}
 use Rattle.reasons.specs.declared.ill_formed.VerifyError.{VerifyError}
 use Rattle.rules.specs.Verify.{includes_round, vset_row, new_rows, structure, genesis_rows, sticky_fault, above_rows, well_formed_rows, lack, scheduled, evidence_rows, includes_rows, witness_rows, peer_rows, faults, verify}
-use Rattle.rules.proofs.Fits.{IdFits, PointFits}
+use Rattle.point.proofs.Fits.{IdFits, PointFits}
 use Rattle.rules.proofs.All.{All, all-pick, all-when, all-concat, first-of-all}
 use Rattle.rules.proofs.AnswerBytes.{AnswerFits}
 
@@ -60,7 +60,7 @@ structure-fits (Some i) = (issue_fits i, tt)
 
 module _ (c : Settings) (s : Schedule) (p : PointInfo) (f : PointFits p) (few : (round : ℕ) → length (peers_for s round) ≤ 255) where
   payload-fits : AnswerFits (ill 6 255 255 p.payload_bytes 0 0)
-  payload-fits = ill-fits 6 _ _ _ 0 0 f.payload (none-fits 4)
+  payload-fits = ill-fits 6 _ _ _ 0 0 f.payload_bytes (none-fits 4)
 
   genesis-fits : All (All ErrorFits) (genesis_rows c p)
   unfolding genesis_rows

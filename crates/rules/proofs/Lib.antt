@@ -6,7 +6,6 @@ pub mod Fronts
 pub mod Pieces
 pub mod Records
 pub mod Mismatch
-pub mod Fits
 pub mod All
 pub mod AnswerBytes
 pub mod Decoded

@@ -19,7 +19,7 @@ use Rattle.reasons.specs.Invalid.{InvalidReason, NoRoundInDag, MustHaveReference
 use Rattle.reasons.specs.Verdict as verdict
 use Rattle.rules.specs.DagPoint.{DagPoint, Valid, TransInvalid, Invalid, IllFormed, NotFound, Dropped, Entry, IndirectEntry, entry_id, is_dropped, PointView, point_view, links_in, DepView, dep_view, top_in}
 use Rattle.rules.specs.Validate.{not_trigger, ends_too_soon, Findings, Taken, as_dependency, as_prev_point, as_version, aside, taken, direct_through, version_trail, dependency_trail, is_newer, join, dependency, findings_as, entry_findings, indirect_row, indirect_point_rows, indirect_findings, result_with, over_lists, validate, first_only, proof_row, trigger_proof_row, time_row, newer_row, seq_no, sticky_row, reached_row, target_row, anchor_time_row, carried_row, source_row, anchor_rows, point_rows}
-use Rattle.rules.proofs.Fits.{IdFits, RoleFits, PointFits}
+use Rattle.point.proofs.Fits.{IdFits, RoleFits, PointFits}
 use Rattle.rules.proofs.All.{All, all_append, all-pick, all-when, all-concat, last-of-all}
 use Rattle.rules.proofs.AnswerBytes.{AnswerFits}
 use Rattle.rules.proofs.Decoded.{PrevFits, named_prev, verdict_prev}

@@ -13,7 +13,7 @@ use Rattle.schedule.specs.Settings.{Settings}
 use Rattle.reasons.specs.Invalid.{InvalidDependency}
 use Rattle.rules.specs.DagPoint.{DagPoint, Valid, TransInvalid, Invalid, IllFormed, NotFound, Dropped, entry_id}
 use Rattle.rules.specs.Validate.{record_of, direct_through}
-use Rattle.rules.proofs.Fits.{PointFits}
+use Rattle.point.proofs.Fits.{PointFits}
 
 -- what is recorded, R being what holds of a cause's id and its reason's number
 pub record Recorded (R : PointId → ℕ → Type 0) (d : InvalidDependency) : Type 0 where
@@ -61,5 +61,5 @@ module _ (R : PointId → ℕ → Type 0) (c : Settings) (round : ℕ) (certifie
   direct-recorded Dropped h = tt
 
 pub link-peer : (p : PointInfo) → PointFits p → (g : AnchorStageRole) → through_peer (through (anchor_link g p)) < 256 ^ 32
-link-peer p f Proof = f.proof
-link-peer p f Trigger = f.trigger
+link-peer p f Proof = f.proof.through
+link-peer p f Trigger = f.trigger.through

@@ -35,7 +35,7 @@ use Rattle.rules.specs.Validate.{validate}
 use Rattle.rules.specs.Judge.{VerifyAnswer, Input, Tested, refused, admitted, tested_with, tested, tested_in, verified_from, verify_with, JudgeAnswer, Number, Given, Before, answered, needed, before_with, before, over_entries, over_list, judge_from, flags_ok, judge_with, judge_with_in}
 use Rattle.rules.specs.Answer.{verified_answer, verdict_answer, answer_bytes, verify_number, verify_answer, judge_number, judge_answer}
 use Rattle.rules.specs.Told.{Call, OfBytes, verified, judged, Told}
-use Rattle.rules.proofs.Fits.{point-fits}
+use Rattle.point.proofs.Fits.{read-fits}
 use Rattle.rules.proofs.All.{All}
 use Rattle.rules.proofs.AnswerBytes.{AnswerFits, answer-length, answer-same}
 use Rattle.rules.proofs.Decoded.{verified_of, verified-back, verdict_of, verdict-back}
@@ -84,7 +84,7 @@ module _ (x : Call) where
     found-fits : OfBytes x → IfSome ErrorFits (verify i.settings i.schedule i.point)
     found-fits b =
         let w = readable x.point i.point r.point in
-        verify-fits i.settings i.schedule i.point (point-fits x.point i.point b.0 r.point)
+        verify-fits i.settings i.schedule i.point (read-fits x.point i.point b.0 r.point)
         (λ round. (peers-few x.schedule i.schedule round r.schedule).few) w.evidence.few w.includes.few
 
     passed_ok : (o : Option VerifyError) → (OfBytes x → IfSome ErrorFits o) → VerifyOk (Ok (verified_from o))
@@ -142,7 +142,7 @@ module _ (x : Call) where
     over_ok : (required : Bool) (presence : ℕ) (es : List Entry) (ts : List IndirectEntry) → (OfBytes x → All EntryFits es) → (OfBytes x → All IndirectFits ts) →
         JudgeOk (Given (validate i.settings required presence i.point es ts))
     over_ok required presence es ts f g b =
-        validate-fits i.settings required i.point (point-fits x.point i.point b.0 r.point) es ts (f b) (g b) presence
+        validate-fits i.settings required i.point (read-fits x.point i.point b.0 r.point) es ts (f b) (g b) presence
 
     entries_ok : (required : Bool) (presence : ℕ) (l : List Listed) → read_list x.list ≡ Some l →
         JudgeOk (over_entries i.settings required presence i.point (directs l) (indirects l))

@@ -13,7 +13,8 @@ use Rattle.point.specs.declared.data.PointMap.{PointMap}
 use Rattle.point.specs.declared.data.PointMap.TheVariants as map
 use Rattle.schedule.specs.Settings.{Settings}
 use Rattle.schedule.specs.Schedule.{Schedule, peers_for}
-use Rattle.rules.specs.Unknown.{unknown_in, peer_bytes}
+use Rattle.map.specs.Written.{peer_bytes}
+use Rattle.rules.specs.Unknown.{unknown_in}
 use Rattle.reasons.specs.declared.ill_formed.StructureIssue.{StructureIssue}
 use Rattle.reasons.specs.declared.ill_formed.StructureIssue.TheVariants.{ExpectedGenesis, BadGenesisPrevPoint, AuthorInMap, TriggerBadProofLink, Link}
 use Rattle.reasons.specs.declared.ill_formed.StructureIssue.TheVariants.{AnchorTime, NoPrevPoint}

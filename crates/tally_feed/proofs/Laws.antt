@@ -170,6 +170,7 @@ refused-some refusal.Uncovered e = omega (arith, e)
 refused-some refusal.Book e = omega (arith, e)
 refused-some refusal.Kept e = omega (arith, e)
 refused-some refusal.Full e = omega (arith, e)
+refused-some refusal.Twice e = omega (arith, e)
 refused-some refusal.Output e = omega (arith, e)
 
 -- a book that is not opened is as it was

@@ -5,7 +5,7 @@ use native.Mathlib.Numerals.{add-one}
 use native.Mathlib.Omega.{arith}
 use native.Mathlib.Decide.{dec_lt}
 use mathlib.Core.Path.{◌≡◌, refl, ap, sym, ◌∙◌}
-use mathlib.Core.List.{List, [], ◌∷◌, ◌++◌, append_assoc, append-nil}
+use mathlib.Core.List.{List, [], ◌∷◌, ◌++◌, append-nil}
 use mathlib.Core.Bool.{Bool, true, false, and-eq-true_iff}
 use lib.ListN.{length, get_or, take, length-append}
 use lib.Seq.{take-suc, take_all}
@@ -21,7 +21,9 @@ use Rattle.write.proofs.Laws.{bytes-length, put_length, put_put, put_nothing}
 use Rattle.map.specs.Rows.{rising, find}
 use Rattle.map.proofs.Laws.{Nowhere, peers_of-fits, rising-less, find-rising, find_nowhere}
 use Rattle.map.proofs.Pairs.{rising_tail}
-use Rattle.rules.specs.Unknown.{unknown_in, peer_bytes}
+use Rattle.map.specs.Written.{peer_bytes}
+use Rattle.map.proofs.Written.{peer_bytes-append, peer_bytes-length}
+use Rattle.rules.specs.Unknown.{unknown_in}
 use Rattle.verify_unknown.specs.Code.{order_at}
 
 -- ---- positions
@@ -125,16 +127,6 @@ module _ (k r : List ℕ) (i : ℕ) (h : i < length r) where
 
 -- ---- the bytes of peers
 
-bytes-append : (a b : List ℕ) → peer_bytes (a ++ b) ≡ peer_bytes a ++ peer_bytes b
-unfolding peer_bytes
-bytes-append [] b = refl
-bytes-append (x ∷ a) b = rw (bytes-append a b) (sym (append_assoc (big_bytes 32 x) (peer_bytes a) (peer_bytes b)))
-
-pub peer_bytes-length : (l : List ℕ) → length (peer_bytes l) ≡ 32 * length l
-unfolding peer_bytes
-peer_bytes-length [] = refl
-peer_bytes-length (x ∷ l) = rw (length-append (big_bytes 32 x) (peer_bytes l), bytes-length 32 x, peer_bytes-length l) (omega arith)
-
 -- where no peer is unknown the buffer is as it was
 pub put_none : (old l : List ℕ) → length l ≡ 0 → put_at old 0 (peer_bytes l) ≡ old
 unfolding peer_bytes
@@ -147,7 +139,7 @@ put_more : (old l : List ℕ) (x n : ℕ) → n ≡ length l → 32 * n + 32 ≤
 unfolding peer_bytes
 put_more old l x n e h =
     put_put old 0 (peer_bytes l) (big_bytes 32 x) (32 * n) (omega (arith, peer_bytes-length l)) (rw (bytes-length 32 x) h)
-    ∙ rw (bytes-append l (x ∷ []), append-nil (big_bytes 32 x))
+    ∙ rw (peer_bytes-append l (x ∷ []), append-nil (big_bytes 32 x))
 
 -- ---- the walk: the unknown among the first i rows are written, and the scheduled peers before j are less than the row at i
 

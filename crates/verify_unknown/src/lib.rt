@@ -4,7 +4,8 @@
 ghost use Rattle.std.specs.Prelude.{◌≡◌, true, ◌+◌, ◌*◌, ◌≤◌, length};
 ghost use Rattle.parts.specs.Bytes.{put_at};
 ghost use Rattle.map.specs.Rows.{peer_at, peers_of, rising};
-ghost use Rattle.rules.specs.Unknown.{unknown_in, peer_bytes};
+ghost use Rattle.map.specs.Written.{peer_bytes};
+ghost use Rattle.rules.specs.Unknown.{unknown_in};
 ghost use Rattle.verify_unknown.specs.Code.{order_at};
 
 use std::cmp::Ordering;

@@ -5,6 +5,8 @@
 ghost use Rattle.std.specs.Prelude.{◌≡◌, true, length};
 ghost use Rattle.map.specs.declared.Arrangement.TheVariants.{Pairs, Columns};
 ghost use Rattle.point.specs.Converted.{conversion, output};
+ghost use Rattle.compose.specs.Draft.{draft, composition};
+ghost use Rattle.compose.specs.Draft as compose;
 ghost use Rattle.reasons.specs.Refusal.{filled_number, filled_count};
 ghost use Rattle.rules.specs.Judge.{tested, verify_with, verify_buffer, flags_ok, judge_with};
 ghost use Rattle.books.specs.Calls.{open_number, open_bytes, offer_bytes};
@@ -110,6 +112,50 @@ pub extern "C" fn wutherdish_columns_to_pairs(rec: &[u8], out: &mut [u8], writte
     ensures count { written.new ≡ filled_count (conversion Columns rec.now (length out.old)) written.old }
 {
     wutherdish::wutherdish_columns_to_pairs(rec, out, written)
+}
+
+// Writes the record of a point that is handed over in parts, its maps in any order. Answers 3, 4, 13, 14, or 0 with the record in the
+// front of `out` and its length in `written`; with a number no lent byte changes.
+#[unsafe(no_mangle)]
+pub extern "C" fn wutherdish_write(
+    id: &[u8; 68],
+    payload_len: u32,
+    payload_bytes: u32,
+    includes: &[u8],
+    witness: &[u8],
+    evidence: &[u8],
+    proof: &[u8; 102],
+    trigger: &[u8; 102],
+    role: u8,
+    seq_no: u8,
+    is_last: u8,
+    time: u64,
+    anchor_time: u64,
+    out: &mut [u8],
+    written: &mut u32,
+) -> u8
+    ensures { let d = draft id.now payload_len payload_bytes includes.now witness.now evidence.now proof.now trigger.now role seq_no
+        is_last time anchor_time in
+        let given = composition d (length out.old) in
+        (result ≡ filled_number given) × (out.new ≡ compose.output d out.old given) × (written.new ≡ filled_count given written.old) }
+{
+    wutherdish::wutherdish_write(
+        id,
+        payload_len,
+        payload_bytes,
+        includes,
+        witness,
+        evidence,
+        proof,
+        trigger,
+        role,
+        seq_no,
+        is_last,
+        time,
+        anchor_time,
+        out,
+        written,
+    )
 }
 
 // Answers which library this is: ABI, format, major and minor version, a byte each.

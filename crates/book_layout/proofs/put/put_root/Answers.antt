@@ -3,8 +3,9 @@ use native.Mathlib.Omega.{arith}
 use mathlib.Core.Path.{refl}
 use mathlib.Core.List.{[], ◌∷◌}
 use Rattle.reasons.specs.Code.{dependency_of}
-use Rattle.books.specs.Layout.{id_bytes, through_bytes, status_bytes}
-use Rattle.books.proofs.RoundTrip.{id_length, through-length}
+use Rattle.point.specs.Written.{id_bytes, through_bytes}
+use Rattle.books.specs.Layout.{status_bytes}
+use Rattle.point.proofs.PartsWritten.{id_length, through-length}
 use Rattle.book_layout.proofs.Laws.{put_right}
 use Rattle.book_layout.proofs.put.put_root.Goals as goal
 

@@ -6,7 +6,7 @@ use mathlib.Core.List.{[], ◌∷◌}
 use Rattle.parts.specs.Bytes.{big_bytes}
 use Rattle.parts.specs.Code.{number}
 use Rattle.point.specs.Code.{through_of}
-use Rattle.books.specs.Layout.{through_bytes}
+use Rattle.point.specs.Written.{through_bytes}
 use Rattle.write.proofs.Laws.{bytes-length, put_put}
 use Rattle.book_layout.proofs.put.put_through.Goals as goal
 use Rattle.book_layout.proofs.put.put_through.Goals.{in-Includes, in-Witness}

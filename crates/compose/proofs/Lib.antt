@@ -1,0 +1,11 @@
+pub mod Fields
+pub mod Tested
+pub mod Rows
+pub mod Written
+pub mod Contents
+pub mod Called
+pub mod Inverse
+pub mod Numbered
+pub mod Again
+pub mod AnyOrder
+pub mod Composed
