@@ -92,10 +92,11 @@ extern "C" {
  * they held. What is lent as const is never written.
  *
  * The caller's part: no pointer is null, not even with the length 0; each has as many bytes after it as its length
- * says, the answer 114; and the peer buffer and the answer overlap neither each other nor the rest.
+ * says, the answer 114, the id 68 and a link 102; and the peer buffer and the answer overlap neither each other nor
+ * the rest.
  *
- * Stack, as measured on x86-64 (docs/RELIABILITY.md) with room added: verifying and converting need at most 4 KB, judging
- * 48 KB, opening 1 KB and an offer 72 KB. A call takes no other memory.
+ * Stack, as measured on x86-64 (docs/RELIABILITY.md) with room added: verifying, converting and writing need at most 4 KB,
+ * judging 48 KB, opening 1 KB and an offer 72 KB. A call takes no other memory.
  *
  * Threads: a call keeps nothing for the next one. Calls may be made from several threads at once, also on separate books
  * and on the same bytes where these are const. One book may be in one call at a time, and is not read by others
@@ -192,6 +193,39 @@ uint8_t wutherdish_pairs_to_columns(const uint8_t *record, size_t record_len,
                                     uint8_t *out, size_t out_len, uint32_t *written);
 uint8_t wutherdish_columns_to_pairs(const uint8_t *record, size_t record_len,
                                     uint8_t *out, size_t out_len, uint32_t *written);
+
+/*
+ * Writes the record of a point that a host composes itself, from its parts. It does not verify: links may name peers that
+ * are in no map, and whatever else makes a point ill-formed is written too. A record whose round and times are inside the
+ * domain, taken apart and handed over, gives the same bytes.
+ *
+ *   id         round (4), digest (32), author (32)
+ *   includes,  n peers (32 each) in any order, and then n digests (32 each), the i-th of the i-th peer; they are written
+ *   witness    by rising peers
+ *   evidence   n peers (32 each) in any order; they are written rising
+ *   proof,     links: kind (0 direct, 1 indirect), map (0 includes, 1 witness), peer (32), and the id of the target (68),
+ *   trigger    which is not read of a direct one
+ *   role       0 regular, 1 proof, 2 trigger, 3 genesis; seq_no and is_last are read of a proof alone
+ *
+ * Writing tests, in this order, each over all that is handed over before the next:
+ *
+ *    3  a map of over 255 rows, or not of whole rows: 64 bytes each in includes and witness, 32 in evidence
+ *    4  the round, time or anchor_time is outside the domain; a link's kind or map is over 1, the role over 3, or is_last
+ *       of a proof over 1
+ *   13  a peer stands twice in a map, also with equal digests
+ *   14  out is shorter than the record, which has 188 to 41,126 bytes
+ *
+ * and returns 0 if the record stands at the front of out. What becomes of out and *written is as with the two calls above,
+ * and so is what they may not overlap: each other, and whatever else is handed over.
+ */
+uint8_t wutherdish_write(const uint8_t id[68], uint32_t payload_len, uint32_t payload_bytes,
+                         const uint8_t *includes, size_t includes_len,
+                         const uint8_t *witness, size_t witness_len,
+                         const uint8_t *evidence, size_t evidence_len,
+                         const uint8_t proof[102], const uint8_t trigger[102],
+                         uint8_t role, uint8_t seq_no, uint8_t is_last,
+                         uint64_t time, uint64_t anchor_time,
+                         uint8_t *out, size_t out_len, uint32_t *written);
 
 /*
  * The WUTHERDISH_VERSION of the linked library. Where it is not this header's in the upper 16 bits, ABI and FORMAT, no

@@ -190,7 +190,7 @@ pub fn convert(file: &OsStr, to: Arrangement, output: Option<&OsStr>) -> Result<
 }
 
 /// Refuses to write bytes to a terminal.
-fn not_for_terminal(what: &str, output: Option<&OsStr>) -> Result<(), Problem> {
+pub fn not_for_terminal(what: &str, output: Option<&OsStr>) -> Result<(), Problem> {
     match output.is_none() && io::stdout().is_terminal() {
         true => Err(Problem::Usage(format!(
             "{what} bytes, not for a terminal: name a file with -o, or send them elsewhere"
@@ -236,7 +236,8 @@ pub fn version() -> Result<(), Problem> {
     print(format!("wutherdish {}\nlibrary {}\n", env!("CARGO_PKG_VERSION"), wutherdish::version()).as_bytes())
 }
 
-fn feed(input: &Input) -> Result<Feed<'_>, Problem> {
+/// The feed that a file is.
+pub fn feed(input: &Input) -> Result<Feed<'_>, Problem> {
     Feed::read(&input.bytes).map_err(|unreadable| match input.kind() {
         Ok(Kind::Book) => Problem::file(&input.name, format!("{unreadable}; it may be a book, which `show` takes")),
         _ => input.bad(unreadable),

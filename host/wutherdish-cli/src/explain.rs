@@ -4,7 +4,8 @@ use std::io::Write;
 
 use wutherdish::{Point, Refusal, Unreadable};
 
-use crate::cases::{Answer, Call, Case, Cases};
+use crate::calls::{Answer, Call};
+use crate::cases::{Case, Cases};
 use crate::feed::Feed;
 use crate::problem::Problem;
 use crate::progress::Progress;
@@ -58,7 +59,7 @@ impl<W: Write> Explain<'_, W> {
         for case in cases {
             match case {
                 Ok(case) => {
-                    let answer = case.answer();
+                    let answer = case.call.answer(case.room);
                     last = self.explain(case.place, &self.case(&case), &answer)?;
                     summary.add(&answer);
                     self.progress.show(case.place, case.end);
@@ -104,14 +105,19 @@ impl<W: Write> Explain<'_, W> {
     }
 
     fn case(&self, case: &Case<'_>) -> String {
+        let unknown = match case.call {
+            Call::Write(_) => "a point of an unknown role",
+            Call::Verify(_) | Call::Judge(..) | Call::Convert(..) => "a record that can't be read",
+        };
         let point = |leader| {
             let said = |point| self.words.point(&point, leader);
-            case.point().map_or_else(|| "a record that can't be read".into(), said)
+            case.call.point().map_or_else(|| unknown.into(), said)
         };
         match &case.call {
             Call::Verify(_) => format!("verify: {}", point(0)),
             Call::Judge(_, judging) => format!("judge: {}, presence {}", point(judging.leader), judging.presence),
-            Call::Convert(to) => format!("convert: {}, from {} to {}", point(0), to.other().name(), to.name()),
+            Call::Write(_) => format!("write: {}", point(0)),
+            Call::Convert(to, _) => format!("convert: {}, from {} to {}", point(0), to.other().name(), to.name()),
         }
     }
 

@@ -49,8 +49,8 @@ impl Ids {
     pub fn of_cases(cases: Cases<'_>) -> Self {
         let mut ids = Self::default();
         for case in cases.flatten() {
-            case.point().iter().for_each(|point| ids.add_point(point));
-            let mut list = case.list();
+            case.call.point().iter().for_each(|point| ids.add_point(point));
+            let mut list = case.call.list();
             while let Some((tag, content, rest)) = field(list) {
                 if let (1 | 17 | 18, Some(id)) = (tag, content.get(4..68)) {
                     ids.0.extend(id.as_chunks::<32>().0);

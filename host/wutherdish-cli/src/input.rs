@@ -10,6 +10,9 @@ use crate::files::Identity;
 use crate::problem::{Problem, shown};
 use crate::streams;
 
+/// The longest text that is read, in bytes: 765 rows with whole ids are a tenth of it.
+const MOST_TEXT: u64 = 1_000_000;
+
 /// A file, read whole.
 pub struct Input {
     /// Its name, for messages.
@@ -28,7 +31,7 @@ pub enum Kind {
     Book,
     /// One point record.
     Record,
-    /// Calls of verifying, judging and converting.
+    /// Calls of verifying, judging, writing and converting.
     Cases,
 }
 
@@ -36,16 +39,29 @@ impl Input {
     /// Reads a file, or standard input where it is named `-`; no further than its front where that is none of a feed,
     /// a book, a point record or a file of cases, since some input never ends.
     pub fn read(name: &OsStr) -> Result<Self, Problem> {
+        Self::read_by(name, |file, bytes| {
+            file.take(SETTINGS as u64 + 1).read_to_end(bytes)?;
+            if kind(bytes).is_some() { file.read_to_end(bytes).map(drop) } else { Ok(()) }
+        })
+    }
+
+    /// Reads a file, or standard input likewise, as text; no further than texts of points go.
+    pub fn read_text(name: &OsStr) -> Result<Self, Problem> {
+        let input = Self::read_by(name, |file, bytes| file.take(MOST_TEXT + 1).read_to_end(bytes).map(drop))?;
+        match input.bytes.len() as u64 > MOST_TEXT {
+            true => Err(Problem::file(&input.name, "over a megabyte, which no text of a point has")),
+            false => Ok(input),
+        }
+    }
+
+    fn read_by(name: &OsStr, read: impl Fn(&mut File, &mut Vec<u8>) -> io::Result<()>) -> Result<Self, Problem> {
         let (name, file) = match name == "-" {
             true => ("standard input".into(), streams::input()),
             false => (shown(name), File::open(name)),
         };
         let read = file.and_then(|mut file| {
             let (mut bytes, found) = (Vec::new(), file.metadata()?);
-            (&mut file).take(SETTINGS as u64 + 1).read_to_end(&mut bytes)?;
-            if kind(&bytes).is_some() {
-                file.read_to_end(&mut bytes)?;
-            }
+            read(&mut file, &mut bytes)?;
             io::Result::Ok((bytes, Identity::of(&found)))
         });
         match read {
@@ -56,7 +72,7 @@ impl Input {
 
     /// What it is.
     pub fn kind(&self) -> Result<Kind, Problem> {
-        let wanted = "a feed or a book (tag 32), a point record (tag 1), or a case (1, 2 or 17)";
+        let wanted = "a feed or a book (tag 32), a point record (tag 1), or a case (1, 2, 16 or 17)";
         kind(&self.bytes).ok_or_else(|| self.bad(Unreadable { at: 0, wanted }))
     }
 
@@ -86,7 +102,7 @@ fn kind(bytes: &[u8]) -> Option<Kind> {
         return Some(Kind::Record);
     }
     match (bytes.first(), bytes.get(SETTINGS)) {
-        (Some(1 | 2 | 17), _) => Some(Kind::Cases),
+        (Some(1 | 2 | 16 | 17), _) => Some(Kind::Cases),
         (Some(32), None | Some(0 | 1)) if bytes.len() >= SETTINGS => Some(Kind::Book),
         (Some(32), _) => Some(Kind::Feed),
         _ => None,

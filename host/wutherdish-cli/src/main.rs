@@ -2,8 +2,10 @@
 
 mod arguments;
 mod arrangement;
+mod calls;
 mod cases;
 mod commands;
+mod compose;
 mod convert;
 mod explain;
 mod feed;
@@ -17,9 +19,11 @@ mod picture;
 mod problem;
 mod progress;
 mod room;
+mod spelling;
 mod streams;
 mod summary;
 mod tally;
+mod text;
 mod usage;
 mod words;
 
@@ -53,6 +57,7 @@ fn run(mut arguments: Arguments) -> Result<(), Problem> {
         Some("explain") => explain(arguments),
         Some("show") => show(arguments),
         Some("tally") => tally(arguments),
+        Some("compose") => compose(arguments),
         Some("convert") => convert(arguments),
         Some("drill") => drill(arguments),
         Some("demo") => demo(arguments),
@@ -87,6 +92,19 @@ fn tally(mut arguments: Arguments) -> Result<(), Problem> {
     let file = arguments.next();
     arguments.done()?;
     commands::tally(file.as_deref().unwrap_or(OsStr::new("-")), progress)
+}
+
+fn compose(mut arguments: Arguments) -> Result<(), Problem> {
+    let (output, feed) = (arguments.value(&usage::OUTPUT), arguments.value(&usage::APPEND));
+    let is_leader = arguments.flag(&usage::LEADER);
+    let file = file(&mut arguments)?;
+    arguments.done()?;
+    match (feed, output) {
+        (None, _) if is_leader => Err(Problem::Usage("--leader is said of an offer, and needs --append".into())),
+        (None, output) => compose::record(&file, output.as_deref()),
+        (Some(feed), None) => compose::offer(&file, &feed, is_leader),
+        (Some(_), Some(_)) => Err(Problem::Usage("-o has no use beside --append".into())),
+    }
 }
 
 fn convert(mut arguments: Arguments) -> Result<(), Problem> {

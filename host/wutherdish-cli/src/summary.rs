@@ -5,13 +5,14 @@ use std::fmt::{self, Display, Formatter};
 
 use wutherdish::{Kept, Refusal};
 
-use crate::cases::Answer;
+use crate::calls::Answer;
 
-/// The answers by `tally`'s letters, in the order of a summary. P and C are none of them: `tally` only judges.
-const KINDS: [(char, &str); 8] = [
+/// The answers by `tally`'s letters, in the order of a summary. P, C and W are none of them: `tally` only judges.
+const KINDS: [(char, &str); 9] = [
     ('V', "valid"),
     ('P', "passed"),
     ('C', "converted"),
+    ('W', "written"),
     ('T', "trans-invalid"),
     ('I', "invalid"),
     ('L', "ill-formed"),
@@ -36,6 +37,7 @@ impl Summary {
         match answer {
             Ok(Answer::Passed) => self.count('P', None),
             Ok(Answer::Converted) => self.count('C', None),
+            Ok(Answer::Written) => self.count('W', None),
             Ok(Answer::Verdict(verdict)) => self.count(verdict.letter(), None),
             Err(refusal) => self.count('-', Some(refusal.number())),
         }

@@ -52,6 +52,15 @@ pub const TO: Opt = Opt {
     what: "what records are converted to: columns, which have the peers of a map first and which\n\
            all other commands read, or pairs of peer and digest, as before format 2",
 };
+/// The feed that a point is appended to.
+pub const APPEND: Opt = Opt {
+    name: "--append",
+    value: Some("FEED"),
+    what: "appends the point to the file FEED, a feed, as an offer, and writes nothing else",
+};
+/// The leader flag of an offer.
+pub const LEADER: Opt =
+    Opt { name: "--leader", value: None, what: "with --append: the point's author leads its round" };
 /// Where the output goes.
 pub const OUTPUT: Opt = Opt { name: "-o", value: Some("FILE"), what: "writes to FILE, not to standard output" };
 /// How it is used.
@@ -60,9 +69,10 @@ pub const HELP: Opt = Opt { name: "--help", value: None, what: "says how the com
 pub const VERSION: Opt =
     Opt { name: "--version", value: None, what: "says which version this is, and which library it uses" };
 
-static OPTIONS: [&Opt; 9] = [&LAST, &ROOM, &BOOK, &FULL_IDS, &PROGRESS, &TO, &OUTPUT, &HELP, &VERSION];
+static OPTIONS: [&Opt; 11] =
+    [&LAST, &ROOM, &BOOK, &FULL_IDS, &PROGRESS, &APPEND, &LEADER, &TO, &OUTPUT, &HELP, &VERSION];
 
-static COMMANDS: [Command; 7] = [
+static COMMANDS: [Command; 8] = [
     Command {
         name: "explain",
         takes: "FILE",
@@ -82,6 +92,12 @@ static COMMANDS: [Command; 7] = [
         options: &[&PROGRESS],
     },
     Command {
+        name: "compose",
+        takes: "FILE",
+        what: "the record of the point that a text tells of, as `explain --full-ids` tells what a record says",
+        options: &[&APPEND, &LEADER, &OUTPUT],
+    },
+    Command {
         name: "convert",
         takes: "--to NAME FILE",
         what: "the bytes of a feed, or of point records one after the other, with each record converted",
@@ -99,7 +115,8 @@ static COMMANDS: [Command; 7] = [
 
 const END: &str = "
 FILE is a file's name, or - for standard input (tally's default). The value of an option stands after
-it, or after = as in --room=4000; after -- there are no options. No command writes over its input.
+it, or after = as in --room=4000; after -- there are no options. No command writes over its input;
+--append adds to FEED.
 
 Exit code: 0 done, whatever the verdicts; 1 a file can't be read or written, or its bytes are not
 what they should be; 2 wrong usage; 141 nobody reads the output any more.

@@ -1,10 +1,11 @@
 //! What is said of a point and of the answer to it. The words on verdicts are the crate wutherdish's.
 
 use wutherdish::{
-    IllFormedNumber, IllFormedReason, InvalidNumber, Point, Refusal, Schedule, Settings, Verdict, Verified,
+    Digest, IllFormedNumber, IllFormedReason, InvalidNumber, PeerId, Point, Refusal, Schedule, Settings, Verdict,
+    Verified,
 };
 
-use crate::cases::Answer;
+use crate::calls::Answer;
 use crate::names::Names;
 
 /// How many unknown peers the words on a verdict name themselves.
@@ -27,20 +28,27 @@ impl Words {
         format!("{}, {}{leader}", self.names.say(&point.id), point.role)
     }
 
-    /// What a point record says, line by line.
-    pub fn record(&self, point: &Point) -> [String; 9] {
+    /// What a point record says, line by line. With whole ids `compose` makes the record of it again.
+    pub fn record(&self, point: &Point) -> Vec<String> {
         let (messages, bytes) = (point.payload_len as usize, point.payload_bytes as usize);
-        [
-            self.point(point, 0),
-            format!("payload: {}, {}", counted(messages, "message"), counted(bytes, "byte")),
-            format!("includes: {}", point.includes.len()),
-            format!("witness: {}", point.witness.len()),
-            format!("evidence: {}", point.evidence.len()),
+        let payload = format!("payload: {}, {}", counted(messages, "message"), counted(bytes, "byte"));
+        let mut lines = vec![self.point(point, 0), payload];
+        for (map, pairs) in [("includes", &point.includes), ("witness", &point.witness)] {
+            lines.push(format!("{map}: {}", pairs.len()));
+            let row = |(peer, digest): (&PeerId, &Digest)| {
+                format!("  {} by {}", self.names.name(&digest.0), self.names.name(&peer.0))
+            };
+            lines.extend(pairs.iter().map(row));
+        }
+        lines.push(format!("evidence: {}", point.evidence.len()));
+        lines.extend(point.evidence.iter().map(|peer| format!("  {}", self.names.name(&peer.0))));
+        lines.extend([
             format!("anchor proof link: {}", self.names.say(&point.anchor_proof)),
             format!("anchor trigger link: {}", self.names.say(&point.anchor_trigger)),
             format!("time: {}", point.time),
             format!("anchor time: {}", point.anchor_time),
-        ]
+        ]);
+        lines
     }
 
     /// The answer to a point, line by line.
@@ -49,6 +57,7 @@ impl Words {
             Ok(Answer::Verdict(verdict)) => verdict,
             Ok(Answer::Passed) => return vec![Verified::Passed.to_string()],
             Ok(Answer::Converted) => return vec!["converted".into()],
+            Ok(Answer::Written) => return vec!["written".into()],
             Err(refusal) => return vec![format!("refused with number {}: {refusal}", refusal.number())],
         };
         let mut lines = vec![self.names.say(verdict)];

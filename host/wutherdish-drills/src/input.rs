@@ -65,6 +65,31 @@ pub fn convert(point: &Point, output: impl Fn(u32) -> u32) -> Input {
     case(17, &[&[0], &record, &output(record.len() as u32).to_le_bytes()])
 }
 
+/// A case of writing a point whose includes name each of their peers twice. The parts that are handed over are what the fields of
+/// its record hold, with zeros where a record has no target, seq_no and is_last.
+pub fn write_twice(point: &Point) -> Input {
+    let record = written(point.to_bytes());
+    let mut parts = contents(&record);
+    let (peers, digests) = parts[2].split_at(parts[2].len() / 2);
+    parts[2] = [peers, peers, digests, digests].concat();
+    for (part, length) in [(5, 102), (6, 102), (7, 3)] {
+        parts[part].resize(length, 0);
+    }
+    let output = (record.len() as u32 + 64).to_le_bytes().to_vec();
+    case(16, &parts.iter().chain([&output]).map(|part| &part[..]).collect::<Vec<_>>())
+}
+
+/// What the fields of a record hold.
+fn contents(record: &[u8]) -> Vec<Vec<u8>> {
+    let (mut contents, mut rest) = (Vec::new(), record);
+    while let [_, low, high, after @ ..] = rest {
+        let (content, next) = after.split_at(u16::from_le_bytes([*low, *high]).into());
+        contents.push(content.to_vec());
+        rest = next;
+    }
+    contents
+}
+
 fn case(kind: u8, blobs: &[&[u8]]) -> Input {
     let mut bytes = vec![kind, blobs.len() as u8];
     for blob in blobs {

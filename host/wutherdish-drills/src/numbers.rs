@@ -3,13 +3,13 @@
 use wutherdish::lent::PEER_BUFFER;
 use wutherdish::{Dependency, Digest, List, PeerId, Point, State};
 
-use crate::input::{Feed, convert, judge, verify, written};
+use crate::input::{Feed, convert, judge, verify, write_twice, written};
 use crate::world::{A, B, GENESIS_ROUND, World, id, second_version, trigger};
 use crate::{Answer, Drill};
 
 pub fn drills() -> Vec<Drill> {
     let mut drills = vec![settings(), schedule(), point_record(), domain(), short(), horizon()];
-    drills.extend([entries(), mismatch(), uncovered(), kept(), full(), output()]);
+    drills.extend([entries(), mismatch(), uncovered(), kept(), full(), twice(), output()]);
     drills
 }
 
@@ -94,6 +94,12 @@ fn full() -> Drill {
     large.witness = everyone.collect();
     let what = "a second large point, for which the first has left no room";
     Feed::new(&world).offer(&large).offer(&second_version(large)).drill("number-12", what, Answer::Number(12))
+}
+
+fn twice() -> Drill {
+    let input = write_twice(&World::of_one().genesis());
+    let what = "a case for writing: the one peer of its includes stands there twice, with the same digest";
+    Drill { name: "number-13", what, input, answer: Answer::Number(13) }
 }
 
 /// With one include the record has the same bytes in both arrangements.

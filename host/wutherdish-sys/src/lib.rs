@@ -105,6 +105,33 @@ unsafe extern "C" {
         written: *mut u32,
     ) -> u8;
 
+    /// Writes the record of a point from its parts.
+    ///
+    /// # Safety
+    ///
+    /// As of [`wutherdish_pairs_to_columns`].
+    pub unsafe fn wutherdish_write(
+        id: *const [u8; 68],
+        payload_len: u32,
+        payload_bytes: u32,
+        includes: *const u8,
+        includes_len: usize,
+        witness: *const u8,
+        witness_len: usize,
+        evidence: *const u8,
+        evidence_len: usize,
+        proof: *const [u8; 102],
+        trigger: *const [u8; 102],
+        role: u8,
+        seq_no: u8,
+        is_last: u8,
+        time: u64,
+        anchor_time: u64,
+        out: *mut u8,
+        out_len: usize,
+        written: *mut u32,
+    ) -> u8;
+
     /// The linked library's ABI, format, major and minor version, a byte each, the ABI in the highest.
     pub safe fn wutherdish_version() -> u32;
 }

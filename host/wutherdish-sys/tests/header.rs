@@ -11,13 +11,14 @@ use wutherdish_sys::{ABI, ANSWER, FORMAT, PEER_BUFFER, wutherdish_version};
 const ROOT: &str = "../..";
 
 /// The calls that give a number.
-const CALLS: [&str; 6] = [
+const CALLS: [&str; 7] = [
     "wutherdish_verify",
     "wutherdish_judge",
     "wutherdish_open",
     "wutherdish_offer",
     "wutherdish_pairs_to_columns",
     "wutherdish_columns_to_pairs",
+    "wutherdish_write",
 ];
 
 /// A file of the repository without comments, its words parted by single spaces.
@@ -39,12 +40,17 @@ fn parameters(code: &str, call: &str) -> Vec<String> {
 /// A parameter of C as Rust declares it.
 fn in_rust(parameter: &str) -> String {
     let (kind, name) = parameter.rsplit_once([' ', '*']).expect("a kind and a name");
+    if let Some((name, length)) = name.strip_suffix(']').and_then(|name| name.split_once('[')) {
+        let pointer = if kind.starts_with("const") { "*const" } else { "*mut" };
+        return format!("{name}: {pointer} [u8; {}]", length.trim_start_matches("WUTHERDISH_"));
+    }
     let kind = match kind.trim() {
-        _ if name == "answer[WUTHERDISH_ANSWER]" => return "answer: *mut [u8; ANSWER]".to_string(),
         "const uint8_t" => "*const u8",
         "uint8_t" if parameter.contains('*') => "*mut u8",
         "uint8_t" => "u8",
         "uint32_t" if parameter.contains('*') => "*mut u32",
+        "uint32_t" => "u32",
+        "uint64_t" => "u64",
         "size_t" => "usize",
         other => panic!("{other} is no kind of the header"),
     };

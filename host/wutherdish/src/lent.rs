@@ -124,3 +124,50 @@ pub fn columns_to_pairs(record: &[u8], out: &mut [u8], written: &mut u32) -> u8 
         wutherdish_sys::wutherdish_columns_to_pairs(record.as_ptr(), record.len(), out.as_mut_ptr(), out.len(), written)
     }
 }
+
+/// Writes the record of a point from its parts, whose maps may have their rows in any order: gives document 01's number, or 0 where
+/// the record stands at the front of the output. `written` is its length then; the rest of the output keeps its bytes.
+/// include/wutherdish.h says what each part is. [`Point::to_bytes`](crate::Point::to_bytes) makes this call for a point.
+#[expect(clippy::too_many_arguments, reason = "those of the call")]
+pub fn write(
+    id: &[u8; 68],
+    payload_len: u32,
+    payload_bytes: u32,
+    includes: &[u8],
+    witness: &[u8],
+    evidence: &[u8],
+    proof: &[u8; 102],
+    trigger: &[u8; 102],
+    role: u8,
+    seq_no: u8,
+    is_last: u8,
+    time: u64,
+    anchor_time: u64,
+    out: &mut [u8],
+    written: &mut u32,
+) -> u8 {
+    // SAFETY: as in `verify`.
+    unsafe {
+        wutherdish_sys::wutherdish_write(
+            id,
+            payload_len,
+            payload_bytes,
+            includes.as_ptr(),
+            includes.len(),
+            witness.as_ptr(),
+            witness.len(),
+            evidence.as_ptr(),
+            evidence.len(),
+            proof,
+            trigger,
+            role,
+            seq_no,
+            is_last,
+            time,
+            anchor_time,
+            out.as_mut_ptr(),
+            out.len(),
+            written,
+        )
+    }
+}

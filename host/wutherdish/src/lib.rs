@@ -9,6 +9,7 @@
 //! | [`verify`] | tests a point by itself |
 //! | [`judge`] | gives the verdict on a point by a list of what the host keeps: its dependencies, its author's points, its links' targets |
 //! | [`Book`] | keeps the points with their verdicts, and judges each new one by them |
+//! | [`Point::to_bytes`] | writes the record of a point that the host composes |
 //! | [`pairs_to_columns`], [`columns_to_pairs`] | convert point records that were stored before format 2, and back |
 //! | [`lent`] | the same calls on buffers of the host, for answers as bytes |
 //! | [`check_version`] | tells whether the linked library is one that this crate is made for |
@@ -116,6 +117,7 @@ mod schedule;
 mod settings;
 mod version;
 mod words;
+mod written;
 
 pub use book::Book;
 pub use build_error::BuildError;

@@ -1,35 +1,14 @@
-//! Document 01's point record: written and read.
+//! Document 01's point record, read.
 
 use std::collections::BTreeMap;
 
-use crate::build_error::BuildError;
-use crate::field::{Content, Fields, Unreadable, field, field_of_rows, join, whole};
+use crate::field::{Content, Fields, Unreadable, whole};
 use crate::id::{Digest, PeerId, PointId};
 use crate::link::{AnchorLink, IndirectLink, Through};
 use crate::point::{Point, PointRole};
-use crate::reasons::PointMap;
 use crate::schedule::rising_peers;
 
 impl Point {
-    /// Document 01's point record. Whether the point is well formed is not tested: a drill may need one that is not.
-    pub fn to_bytes(&self) -> Result<Vec<u8>, BuildError> {
-        let evidence: Vec<[u8; 32]> = self.evidence.iter().map(|peer| peer.0).collect();
-        let payload: [u8; 8] = join(self.payload_len.to_le_bytes(), self.payload_bytes.to_le_bytes());
-        let times: [u8; 16] = join(self.time.to_le_bytes(), self.anchor_time.to_le_bytes());
-        let fields = [
-            field(1, self.id.to_bytes()),
-            field(2, payload),
-            field_of_pairs(3, PointMap::Includes, &self.includes)?,
-            field_of_pairs(4, PointMap::Witness, &self.witness)?,
-            field_of_map(5, PointMap::Evidence, &evidence)?,
-            field_of_link(6, self.anchor_proof),
-            field_of_link(7, self.anchor_trigger),
-            field_of_role(self.role),
-            field(9, times),
-        ];
-        Ok(fields.concat())
-    }
-
     /// The point record at the front of some bytes, and the rest.
     pub fn read(bytes: &[u8]) -> Result<(Self, &[u8]), Unreadable> {
         Self::read_in(&COLUMNS, bytes)
@@ -102,38 +81,6 @@ const PAIRS: Arrangement = Arrangement {
     witness: "a point's witness, tag 4, at most 255 pairs of peer and digest by rising peers",
     read_map: read_pairs,
 };
-
-/// All peers, and then all digests: as many bytes as rows of both would have.
-fn field_of_pairs(tag: u8, map: PointMap, pairs: &BTreeMap<PeerId, Digest>) -> Result<Vec<u8>, BuildError> {
-    let peers = pairs.keys().map(|peer| peer.0);
-    let columns: Vec<[u8; 32]> = peers.chain(pairs.values().map(|digest| digest.0)).collect();
-    let (rows, _) = columns.as_flattened().as_chunks::<64>();
-    field_of_map(tag, map, rows)
-}
-
-fn field_of_map<const N: usize>(tag: u8, map: PointMap, rows: &[[u8; N]]) -> Result<Vec<u8>, BuildError> {
-    field_of_rows(tag, [], rows).map_err(|len| BuildError::Map { map, len })
-}
-
-fn field_of_link(tag: u8, link: AnchorLink) -> Vec<u8> {
-    let (map, peer) = match link.through() {
-        Through::Includes(peer) => (0, peer.0),
-        Through::Witness(peer) => (1, peer.0),
-    };
-    match link {
-        AnchorLink::Direct(_) => field(tag, join::<2, 32, 34>([0, map], peer)),
-        AnchorLink::Indirect(link) => field(tag, join::<34, 68, 102>(join([1, map], peer), link.to.to_bytes())),
-    }
-}
-
-fn field_of_role(role: PointRole) -> Vec<u8> {
-    match role {
-        PointRole::Regular => field(8, [0]),
-        PointRole::AnchorProof { seq_no, is_last } => field(8, [1, seq_no, u8::from(is_last)]),
-        PointRole::AnchorTrigger => field(8, [2]),
-        PointRole::Genesis => field(8, [3]),
-    }
-}
 
 fn read_columns(content: &mut Content<'_>) -> Option<BTreeMap<PeerId, Digest>> {
     let rows = content.rows::<64>()?;

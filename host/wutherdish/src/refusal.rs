@@ -11,9 +11,10 @@ pub enum Refusal {
     Settings,
     /// 2: the schedule is unreadable.
     Schedule,
-    /// 3: the point record is unreadable.
+    /// 3: the point record is unreadable; or, of a point that is to be written, a map has over 255 rows or not whole ones.
     Record,
-    /// 4: the point's round or a time of it, the leader flag or the presence is outside the domain.
+    /// 4: the point's round or a time of it, the leader flag or the presence is outside the domain; or, of a point that is to be
+    /// written, a link, the role or its last flag.
     Domain,
     /// 5: the slice to open a book in is shorter than its settings or longer than a book may be; or, in the calls on
     /// [`lent`](crate::lent) bytes, the peer buffer is too short.
@@ -32,6 +33,8 @@ pub enum Refusal {
     Kept,
     /// 12: the book has no room for the point.
     Full,
+    /// 13: a peer stands twice in a map of the point that is to be written.
+    Twice,
     /// 14: the output is shorter than what is to be written.
     Output,
     /// The library answered what this version of the crate doesn't know, with this number: it is another version's.
@@ -39,7 +42,7 @@ pub enum Refusal {
 }
 
 /// The refusals with a number of document 01.
-const NUMBERED: [Refusal; 13] = [
+const NUMBERED: [Refusal; 14] = [
     Refusal::Settings,
     Refusal::Schedule,
     Refusal::Record,
@@ -52,6 +55,7 @@ const NUMBERED: [Refusal; 13] = [
     Refusal::Book,
     Refusal::Kept,
     Refusal::Full,
+    Refusal::Twice,
     Refusal::Output,
 ];
 
@@ -76,6 +80,7 @@ impl Refusal {
             Self::Book => 10,
             Self::Kept => 11,
             Self::Full => 12,
+            Self::Twice => 13,
             Self::Output => 14,
             Self::Foreign(number) => number,
         }
@@ -87,10 +92,10 @@ impl Display for Refusal {
         f.write_str(match self {
             Self::Settings => "the settings can't be read, or one of them is outside its limits",
             Self::Schedule => "the schedule can't be read",
-            Self::Record => "the point record can't be read",
+            Self::Record => "the point record can't be read, or a map to be written has over 255 rows or a part of one",
             Self::Domain => {
                 "the point's round is not from 4 to 2147483647, a time of it is over 2^63 - 1, the leader flag is \
-                 over 1 or the presence over 3"
+                 over 1, the presence over 3, or a link or a role to be written is unknown"
             }
             Self::Short => {
                 "the slice to open a book in has under 47 or over 16777216 bytes, or a lent peer buffer under 8160"
@@ -102,6 +107,7 @@ impl Display for Refusal {
             Self::Book => "the bytes are no book",
             Self::Kept => "the book keeps the point already",
             Self::Full => "the book keeps 4096 points already, or has no room for the record of this one",
+            Self::Twice => "a peer stands twice in a map",
             Self::Output => "the lent output is too short for the record",
             Self::Foreign(number) => {
                 return write!(f, "the linked library is another version: its number {number} and answer are unknown");

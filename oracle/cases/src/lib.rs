@@ -2,6 +2,7 @@
 
 pub mod bytes;
 pub mod chain;
+pub mod drafts;
 pub mod edges;
 pub mod fault;
 pub mod histogram;

@@ -9,6 +9,7 @@ mod run_feeds;
 mod spread;
 mod store;
 mod store_books;
+mod store_composes;
 mod vectors;
 mod wrong;
 
@@ -34,6 +35,7 @@ const USAGE: &str = "oracle COMMAND
   store FILE             write the stored list
   stored FILE            replay it
   store-books FILE       write the stored books
+  store-composes FILE    write the stored drafts of points
   wrong OUT FILE..       write cases of files, each with a change in what it expects";
 
 fn main() -> ExitCode {
@@ -66,6 +68,7 @@ fn main() -> ExitCode {
         ["store", file] => store::write(file),
         ["stored", file] => store::check(file),
         ["store-books", file] => store_books::write(file),
+        ["store-composes", file] => store_composes::write(file),
         ["wrong", out, ref files @ ..] => wrong::make(out, files),
         _ => Err(USAGE.to_string()),
     };

@@ -3,6 +3,7 @@
 use book::file::{BEGIN, OFFER, OFFER_TO, OPEN};
 use book::replay::FILL;
 use oracle::Answer;
+use oracle::draft::COMPOSE;
 use oracle::file::{Blobs, JUDGE, VERIFY, answer_bytes, blobs, write};
 
 /// The fields of an answer, by where each begins: number, kind, reason, id, map, role, first number, second number,
@@ -36,6 +37,33 @@ const WITH_PEERS: [(u8, Change); 8] = [
     (1, number),
 ];
 
+/// Where the count of a composed record and the record stand in an answer, after the number.
+const COUNT_OF_BYTES: usize = 1;
+const RECORD: usize = 5;
+/// What to expect in place of a composed record, in turn: another number, another count in each of its bytes, the record's
+/// first byte and its last changed, a byte after it, one that is what the output is filled with and counted, a byte less, and a
+/// number, with which nothing that is lent may change.
+const COMPOSED: [Change; 11] = [
+    |answer| raised(answer, 0),
+    |answer| raised(answer, COUNT_OF_BYTES),
+    |answer| raised(answer, COUNT_OF_BYTES + 1),
+    |answer| raised(answer, COUNT_OF_BYTES + 2),
+    |answer| raised(answer, COUNT_OF_BYTES + 3),
+    |answer| raised(answer, RECORD),
+    |answer| raised(answer, answer.len() - 1),
+    |answer| [answer, &[0]].concat(),
+    |answer| [raised(answer, COUNT_OF_BYTES), vec![FILL]].concat(),
+    |answer| answer[..answer.len() - 1].to_vec(),
+    |_| vec![14, 0, 0, 0, 0],
+];
+/// The same of a number: another, a count, and a byte after it.
+const REFUSED: [Change; 4] = [
+    |answer| raised(answer, 0),
+    |answer| raised(answer, COUNT_OF_BYTES),
+    |answer| raised(answer, COUNT_OF_BYTES + 3),
+    |answer| [answer, &[0]].concat(),
+];
+
 /// Cases of the files, each with a change in what it expects.
 pub fn make(path: &str, files: &[&str]) -> Result<(), String> {
     let read = |file: &&str| std::fs::read(file).map_err(|e| format!("{file}: {e}"));
@@ -44,7 +72,8 @@ pub fn make(path: &str, files: &[&str]) -> Result<(), String> {
     let answers = CALLS.into_iter().enumerate().flat_map(|(turn, kind)| answers(&cases, turn, kind));
     let peers = CALLS.into_iter().flat_map(|kind| peers(&cases, kind));
     let openings = openings(&cases).into_iter().chain(first_book(&cases));
-    let chosen: Vec<Changed> = openings.chain(answers).chain(digests(&cases)).chain(peers).collect();
+    let chosen = openings.chain(answers).chain(digests(&cases)).chain(peers).chain(composes(&cases));
+    let chosen: Vec<Changed> = chosen.collect();
     let mut out = Vec::new();
     for (kind, blobs) in &chosen {
         write(*kind, &blobs.iter().map(Vec::as_slice).collect::<Vec<_>>(), &mut out);
@@ -70,6 +99,29 @@ fn peers(cases: &[Blobs<'_>], kind: u8) -> Vec<Changed> {
         Some(with_answer(case, answer))
     };
     WITH_PEERS.iter().filter_map(other).collect()
+}
+
+/// The smallest draft whose record leaves room in the output, and the smallest that is refused, each with other answers.
+fn composes(cases: &[Blobs<'_>]) -> Vec<Changed> {
+    let rising = rising(cases, COMPOSE);
+    let composed = rising.iter().find(|(_, blobs)| leaves_room(blobs));
+    let refused = rising.iter().find(|(_, blobs)| blobs.last().is_some_and(|answer| answer[0] != 0));
+    let changed = |case: &&Blobs<'_>, changes: &[Change]| -> Vec<Changed> {
+        let answer = case.1.last().expect("a case has an answer");
+        changes.iter().map(|change| with_answer(case, change(answer))).collect()
+    };
+    [composed.map(|case| changed(case, &COMPOSED)), refused.map(|case| changed(case, &REFUSED))]
+        .into_iter()
+        .flatten()
+        .flatten()
+        .collect()
+}
+
+/// A case whose record is composed, and shorter than its output.
+fn leaves_room(blobs: &[&[u8]]) -> bool {
+    let [.., room, answer] = blobs else { return false };
+    let room = (*room).try_into().map_or(0, u32::from_le_bytes) as usize;
+    answer[0] == 0 && answer.len() - RECORD < room
 }
 
 /// The cases of a kind, the smallest first.

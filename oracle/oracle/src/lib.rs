@@ -6,6 +6,7 @@
 pub mod answer;
 pub mod arrangement;
 pub mod direct;
+pub mod draft;
 pub mod feed;
 pub mod file;
 pub mod numbers;

@@ -18,7 +18,9 @@ pub const UNCOVERED: u8 = 9;
 pub const BOOK: u8 = 10;
 pub const KEPT: u8 = 11;
 pub const FULL: u8 = 12;
-/// Of the converters alone.
+/// Of the writer of points alone.
+pub const TWICE: u8 = 13;
+/// Of that and of the converters.
 pub const OUTPUT: u8 = 14;
 
 pub const WORDS: [&str; 12] = [

@@ -64,7 +64,7 @@ fn add_record(out: &mut Vec<u8>, arrangement: Arrangement, point: &Point) {
     field(out, 9, &[point.time.to_le_bytes(), point.anchor_time.to_le_bytes()].concat());
 }
 
-fn map(map: &[(Peer, Digest)], arrangement: Arrangement) -> Vec<u8> {
+pub fn map(map: &[(Peer, Digest)], arrangement: Arrangement) -> Vec<u8> {
     let (peers, digests): (Vec<Peer>, Vec<Digest>) = map.iter().copied().unzip();
     match arrangement {
         Arrangement::Pairs => {
@@ -74,7 +74,7 @@ fn map(map: &[(Peer, Digest)], arrangement: Arrangement) -> Vec<u8> {
     }
 }
 
-fn link(link: &AnchorLink) -> Vec<u8> {
+pub fn link(link: &AnchorLink) -> Vec<u8> {
     let mut out = vec![u8::from(link.to.is_some()), u8::from(link.through == Through::Witness)];
     out.extend_from_slice(&link.peer);
     if let Some(to) = &link.to {
@@ -83,7 +83,7 @@ fn link(link: &AnchorLink) -> Vec<u8> {
     out
 }
 
-fn role(role: &PointRole) -> Vec<u8> {
+pub fn role(role: &PointRole) -> Vec<u8> {
     match role {
         PointRole::Regular => vec![0],
         PointRole::AnchorProof { seq_no, is_last } => vec![1, *seq_no, u8::from(*is_last)],

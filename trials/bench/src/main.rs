@@ -1,12 +1,15 @@
 //! The static library's time beside the Rust's and a plain pass, from the same bytes.
 
 mod cold;
+mod comparisons;
+mod compose;
 mod convert;
 mod heap;
 mod judge;
 mod offer;
 mod once;
 mod pass;
+mod plain_writer;
 mod rounds;
 mod tally;
 mod verify;
@@ -23,13 +26,15 @@ Its hash maps are the standard ones under the oracle's hasher, and its metrics c
 processor's. A ratio is the Rust's time divided by the library's in the same round: over 1 the library is faster.
 ";
 
-const USAGE: &str = "bench [verify | judge | offer | convert]   the tables, or one of them
+const USAGE: &str = "bench [verify | judge | offer | convert | compose]   the tables, or one of them
+bench comparisons                  how many rows are compared for the order of a map's rows
 bench cold                         records and books that together are longer than the caches
 bench worst [full]                 the dearest inputs that were found; full: as long as they get
 bench tally PROGRAM                the program tally on feeds
 bench once worst ROW               the call of a row of `bench worst`, for callgrind to count; the first row is 1
 bench once WAY PEERS [ENTRIES]     one call, for callgrind to count: verify, judge, offer, offer-far (a history of 255),
                                    refused, to-columns or to-pairs by the library; copy of a record's bytes;
+                                   rising, falling or shuffled: a point composed by the library; rising-parts and so on: by Rust;
                                    verify-direct, verify-alone, judge-direct or judge-alone by the Rust";
 
 fn main() -> ExitCode {
@@ -43,6 +48,8 @@ fn main() -> ExitCode {
         ["judge"] => judge::table(&PEERS),
         ["offer"] => offer::table(),
         ["convert"] => convert::table(&PEERS),
+        ["compose"] => compose::table(&PEERS),
+        ["comparisons"] => comparisons::table(),
         ["cold"] => cold::table(&PEERS).and_then(|()| convert::cold_table(&PEERS)),
         ["worst"] => worst::table(false),
         ["worst", "full"] => worst::table(true),
@@ -68,5 +75,6 @@ fn tables() -> Result<(), String> {
     verify::table(&PEERS)?;
     judge::table(&PEERS)?;
     offer::table()?;
-    convert::table(&PEERS)
+    convert::table(&PEERS)?;
+    compose::table(&PEERS)
 }

@@ -4,7 +4,7 @@ use inputs::dag::Dag;
 use oracle::numbers::KEPT;
 
 use crate::offer::Offering;
-use crate::{convert, judge, verify};
+use crate::{compose, convert, judge, verify};
 
 /// Makes the call of a way, by the library, or by the Rust.
 pub fn run(way: &str, peers: usize, entries: usize) -> Result<(), String> {
@@ -21,6 +21,12 @@ pub fn run(way: &str, peers: usize, entries: usize) -> Result<(), String> {
         "to-columns" => convert::once(convert::Way::Columns, peers),
         "to-pairs" => convert::once(convert::Way::Pairs, peers),
         "copy" => convert::once(convert::Way::Copy, peers),
+        "rising" => compose::once(compose::Way::Library, compose::Order::Rising, peers)?,
+        "falling" => compose::once(compose::Way::Library, compose::Order::Falling, peers)?,
+        "shuffled" => compose::once(compose::Way::Library, compose::Order::Shuffled, peers)?,
+        "rising-parts" => compose::once(compose::Way::Parts, compose::Order::Rising, peers)?,
+        "falling-parts" => compose::once(compose::Way::Parts, compose::Order::Falling, peers)?,
+        "shuffled-parts" => compose::once(compose::Way::Parts, compose::Order::Shuffled, peers)?,
         _ => return Err(format!("there is no way {way}")),
     };
     if right { Ok(()) } else { Err("the call gave something else than it had to".to_string()) }

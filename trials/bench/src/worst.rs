@@ -5,6 +5,7 @@ use std::time::Duration;
 use cases::random::Random;
 use inputs::call::Call;
 use inputs::clock::timed;
+use inputs::compose::compose;
 use inputs::dear::{Made, Shape};
 use oracle::arrangement::Arrangement;
 use oracle::file::Case;
@@ -107,7 +108,7 @@ impl Lent {
         let book = match call {
             Call::Open { length, .. } => vec![1; *length],
             Call::Offer { book, .. } => book.clone().unwrap_or_default(),
-            Call::Case(_) | Call::Convert { .. } => Vec::new(),
+            Call::Case(_) | Call::Convert { .. } | Call::Compose { .. } => Vec::new(),
         };
         let [peers, output] = [call.peer_buffer(), call.output()].map(|length| vec![0; length.unwrap_or(0)]);
         Self { book, peers, answer: [0; ANSWER], output, count: 0 }
@@ -126,6 +127,7 @@ impl Lent {
             Call::Offer { offer, .. } => lent::offer(book, &offer.schedule, offer.leader, &offer.record, peers, answer),
             Call::Convert { from: Arrangement::Pairs, record, .. } => lent::pairs_to_columns(record, output, count),
             Call::Convert { from: Arrangement::Columns, record, .. } => lent::columns_to_pairs(record, output, count),
+            Call::Compose { draft, .. } => compose(draft, output, count),
         }
     }
 }

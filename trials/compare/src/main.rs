@@ -2,6 +2,7 @@
 
 mod book_file;
 mod certificates;
+mod composes;
 mod converts;
 mod difference;
 mod feeds;
@@ -34,11 +35,13 @@ const USAGE: &str = "compare COMMAND
   books-damaged SEED COUNT [THREADS]   the same offers to damaged copies of their books
   certificates SEED COUNT [THREADS]    feeds for certificates, through the source's own, the plain book and the library
   converts SEED COUNT [THREADS]        their records, damaged too, through both converters and those that read and write
+  composes SEED COUNT [THREADS]        points handed over in parts, through the oracle's writer and reader and the library
   file FILE                            the cases of a file, against the answers in it
   file-pairs FILE                      the same of a file in which maps are pairs, which are moved: those with a book against
                                        the plain book, which has to answer as the file says, and leave its books moved
   file-prev FILE                       the same of such a file in which marks cover the previous point alone
   converts-file FILE                   the converted records of a file, against the records in it
+  composes-file FILE                   the composed records of a file, against the records in it
   joins FILE                           the joins of a file, by the host's crate, against the records in it
   tally PROGRAM SEED COUNT             feeds to the program tally, through the plain book and the program
   tally-file PROGRAM FILE              the standard inputs of a file, against the outputs in it, likewise
@@ -67,10 +70,12 @@ fn main() -> ExitCode {
         ["books-damaged", ref words @ ..] => range(words).and_then(|range| feeds::books_damaged(&range)),
         ["certificates", ref words @ ..] => range(words).and_then(|range| certificates(&range)),
         ["converts", ref words @ ..] => range(words).and_then(|range| converts::generated(&range)),
+        ["composes", ref words @ ..] => range(words).and_then(|range| composes::generated(&range)),
         ["file", path] => file::run(path, Age::Now),
         ["file-pairs", path] => file::run(path, Age::Pairs),
         ["file-prev", path] => file::run(path, Age::Prev),
         ["converts-file", path] => converts::file(path),
+        ["composes-file", path] => composes::file(path),
         ["joins", path] => joins::run(path),
         ["tally", program, ref words @ ..] => {
             range(words).and_then(|range| program::feeds(program, range.seed, range.count))

@@ -8,6 +8,7 @@ use hard_use::fronts::{parts, share_fronts};
 use hard_use::wild::{any, joined};
 use inputs::call::Call;
 use oracle::arrangement::Arrangement;
+use oracle::draft::Draft;
 use oracle::file::Case;
 
 /// No part grows longer, so that a call stays one of microseconds.
@@ -31,6 +32,9 @@ pub fn mutated(random: &mut Random, call: &Call, other: &Call) -> Call {
 }
 
 fn change_part(random: &mut Random, call: &mut Call) {
+    if let Call::Compose { draft, .. } = call {
+        return change_draft(random, draft);
+    }
     let mut parts = parts(call);
     let place = random.below(parts.len());
     let part = &mut parts[place];
@@ -38,6 +42,35 @@ fn change_part(random: &mut Random, call: &mut Call) {
         0 => **part = any(random),
         1..8 => damage_list(random, part),
         _ => damage(random, part),
+    }
+}
+
+/// A map's rows exchanged or repeated, its end cut off or added to; any byte of an id or a link.
+fn change_draft(random: &mut Random, draft: &mut Draft) {
+    let place = random.below(68);
+    let bytes = match random.below(8) {
+        0 => &mut draft.id[..],
+        1 => &mut draft.anchor_proof[..],
+        2 => &mut draft.anchor_trigger[..],
+        _ => return change_map(random, draft),
+    };
+    let place = random.pick(&[0, 1, 2, 3, place]);
+    bytes[place] = flag(random);
+}
+
+fn change_map(random: &mut Random, draft: &mut Draft) {
+    let maps = [&mut draft.includes, &mut draft.witness, &mut draft.evidence];
+    let map = maps.into_iter().nth(random.below(3)).expect("one of three");
+    let bytes = random.pick(&[1, 31, 32, 63, 64]);
+    let (blocks, _) = map.as_chunks_mut::<32>();
+    match random.below(8) {
+        0 => map.truncate(map.len().saturating_sub(bytes)),
+        1 => map.resize(map.len() + bytes, random.number() as u8),
+        2 => map.extend_from_within(..),
+        _ if blocks.is_empty() => *map = any(random),
+        3 | 4 => blocks[random.below(blocks.len())] = blocks[random.below(blocks.len())],
+        5 | 6 => blocks.swap(random.below(blocks.len()), random.below(blocks.len())),
+        _ => blocks[random.below(blocks.len())][random.below(32)] = flag(random),
     }
 }
 
@@ -81,6 +114,12 @@ fn change_numbers(random: &mut Random, call: &mut Call) {
         },
         Call::Open { length, .. } => *length = random.below(200),
         Call::Convert { record, length, .. } => *length = output_length(random, record.len()),
+        Call::Compose { draft, length } => match random.below(4) {
+            0 => *length = output_length(random, draft.composed(usize::MAX).map_or(0, |record| record.len())),
+            1 => draft.role = flag(random),
+            2 => draft.is_last = flag(random),
+            _ => (draft.time, draft.anchor_time) = (random.number() >> random.below(3), random.number() >> 1),
+        },
         Call::Offer { offer, .. } => match random.below(3) {
             0 => offer.peer_buffer = buffer_length(random),
             1 => offer.leader = flag(random),
@@ -90,12 +129,15 @@ fn change_numbers(random: &mut Random, call: &mut Call) {
 }
 
 /// The same bytes to another of the calls. An offer's book is then the case's settings, with some zeros after. A record that is
-/// converted goes to the other converter.
+/// converted goes to the other converter, and one that is composed to either.
 fn another_kind(random: &mut Random, call: Call) -> Call {
     match call {
-        Call::Case(Case::Verify { record, .. }) if random.chance(1, 4) => {
+        Call::Case(Case::Verify { record, .. }) if random.chance(1, 2) => {
             let length = output_length(random, record.len());
-            Call::Convert { from: random.pick(&Arrangement::ALL), record, length }
+            match Draft::of_record(&record).filter(|_| random.chance(1, 2)) {
+                Some(draft) => Call::Compose { draft: Box::new(draft), length },
+                None => Call::Convert { from: random.pick(&Arrangement::ALL), record, length },
+            }
         }
         Call::Case(case @ Case::Verify { .. }) => Call::Case(as_judge(case)),
         Call::Case(case) if random.chance(1, 2) => Call::Case(as_verify(case)),
@@ -106,6 +148,10 @@ fn another_kind(random: &mut Random, call: Call) -> Call {
         }
         Call::Open { settings, length } => Call::Open { settings, length },
         Call::Convert { from, record, length } => Call::Convert { from: from.other(), record, length },
+        Call::Compose { draft, length } => match draft.composed(length) {
+            Ok(record) => Call::Convert { from: random.pick(&Arrangement::ALL), record, length },
+            Err(_) => Call::Compose { draft, length },
+        },
         Call::Offer { book, offer: Offer { schedule, leader, record, peer_buffer } } => {
             let settings = book.unwrap_or_default().into_iter().take(book::SETTINGS).collect();
             Call::Case(Case::Judge { settings, schedule, record, leader, presence: 3, list: Vec::new(), peer_buffer })

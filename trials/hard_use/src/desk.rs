@@ -19,7 +19,7 @@ const ROOM: usize = 32 << 20;
 /// One worker's memory to lend from.
 pub struct Desk {
     /// By the place of `Lent`.
-    buffers: [Buffer; 9],
+    buffers: [Buffer; Lent::ALL.len()],
     /// Made beside every call.
     pub fault: Option<Fault>,
 }
@@ -43,7 +43,7 @@ impl Desk {
             Buffer::new(room, if lent.is_written() { Access::ReadAndWrite } else { Access::Read })
         };
         let buffers: io::Result<Vec<Buffer>> = Lent::ALL.into_iter().map(buffer).collect();
-        let buffers = buffers?.try_into().unwrap_or_else(|_| unreachable!("there are nine"));
+        let buffers = buffers?.try_into().unwrap_or_else(|_| unreachable!("there are as many"));
         Ok(Self { buffers, fault })
     }
 
@@ -100,9 +100,9 @@ impl Desk {
             same("peer buffer", peers, unknown)?;
         }
         if call.output().is_some() {
-            let converted = expected.converted.as_deref().unwrap_or_default();
-            let count = expected.converted.as_ref().map(|record| (record.len() as u32).to_ne_bytes());
-            same("output", self.buffer(Lent::Output), converted)?;
+            let record = expected.written.as_deref().unwrap_or_default();
+            let count = expected.written.as_ref().map(|record| (record.len() as u32).to_ne_bytes());
+            same("output", self.buffer(Lent::Output), record)?;
             same("count", self.buffer(Lent::Count), count.as_ref().map_or(&[], |count| &count[..]))?;
         }
         if let Some(book) = &expected.book {

@@ -3,6 +3,7 @@
 use book::Offer;
 use inputs::call::Call;
 use oracle::arrangement::Arrangement;
+use oracle::draft::{COMPOSE, Draft};
 use oracle::file::{Blobs, Case, JUDGE, VERIFY};
 
 const OPEN: u8 = 3;
@@ -25,6 +26,11 @@ pub fn write(call: &Call) -> Vec<u8> {
             blobs(OFFER_TO, &[book, schedule, &[*leader], record, &number(*peer_buffer)])
         }
         Call::Convert { from, record, length } => blobs(CONVERT, &[&[*from as u8], record, &number(*length as u32)]),
+        Call::Compose { draft, length } => {
+            let (parts, length) = (draft.blobs(), number(*length as u32));
+            let all = parts.iter().map(Vec::as_slice).chain([&length[..]]);
+            blobs(COMPOSE, &all.collect::<Vec<_>>())
+        }
     }
 }
 
@@ -70,6 +76,10 @@ pub fn read((kind, blobs): &Blobs<'_>) -> Option<Call> {
             record: record.to_vec(),
             length: number(length)? as usize,
         },
+        (COMPOSE, blobs) => {
+            let (parts, [length, ..]) = blobs.split_first_chunk()? else { return None };
+            Call::Compose { draft: Box::new(Draft::of_blobs(*parts)?), length: number(length)? as usize }
+        }
         _ => return None,
     })
 }

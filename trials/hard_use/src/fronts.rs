@@ -10,6 +10,13 @@ use oracle::file::Case;
 pub fn share_fronts(random: &mut Random, call: &mut Call) {
     let length = random.pick(&[1, 4, 7, 8, 8, 9, 15, 16, 16, 17, 23, 24, 24, 25, 28, 30]);
     let byte = random.pick(&[0, 0, 1, 127, 128, 255]);
+    if let Call::Compose { draft, .. } = call {
+        let shift = |tag, content: &mut [u8]| shift_all(tag, content, length, byte);
+        shift(1, &mut draft.id);
+        [&mut draft.includes, &mut draft.witness, &mut draft.evidence].into_iter().for_each(|map| shift(3, map));
+        [&mut draft.anchor_proof, &mut draft.anchor_trigger].into_iter().for_each(|link| shift(6, link));
+        return;
+    }
     for part in parts(call) {
         let found = fields(part);
         for field in found {
@@ -19,13 +26,14 @@ pub fn share_fronts(random: &mut Random, call: &mut Call) {
     }
 }
 
-/// All that is lent with fields in it.
+/// All that is lent with fields in it, or the maps of a point in parts.
 pub fn parts(call: &mut Call) -> Vec<&mut Vec<u8>> {
     match call {
         Call::Case(Case::Verify { settings, schedule, record, .. }) => vec![settings, schedule, record],
         Call::Case(Case::Judge { settings, schedule, record, list, .. }) => vec![settings, schedule, record, list],
         Call::Open { settings, .. } => vec![settings],
         Call::Convert { record, .. } => vec![record],
+        Call::Compose { draft, .. } => vec![&mut draft.includes, &mut draft.witness, &mut draft.evidence],
         Call::Offer { book, offer } => vec![book.get_or_insert_default(), &mut offer.schedule, &mut offer.record],
     }
 }

@@ -3,7 +3,7 @@
 use book::{Book, Marks, Offer, spread};
 use inputs::call::Call;
 use oracle::Answer;
-use oracle::arrangement::{Arrangement, converted};
+use oracle::arrangement::converted;
 use oracle::file::Case;
 use oracle::value::Peer;
 use plain::{KNOWN_PANIC, Prepared};
@@ -27,7 +27,7 @@ pub struct Expected {
     /// None if the call is lent none, or one that is compared elsewhere.
     pub book: Option<Vec<u8>>,
     /// At the output's front, with its length in the count; none if both keep their bytes.
-    pub converted: Option<Vec<u8>>,
+    pub written: Option<Vec<u8>>,
     /// The kind of a verdict and its reason.
     pub verdict: Option<(u8, u8)>,
     /// The Rust panicked as is known, and the plain judge stood in.
@@ -44,7 +44,7 @@ impl Expected {
                 answer: Some(verdict.bytes()),
                 unknown: verdict.unknown.clone(),
                 book,
-                converted: None,
+                written: None,
                 verdict: Some((verdict.kind, verdict.reason)),
                 stood_in,
             },
@@ -55,12 +55,13 @@ impl Expected {
     /// A number or 0, and nothing changed.
     fn number(number: u8) -> Self {
         let (unknown, stood_in) = (Vec::new(), false);
-        Self { number, answer: None, unknown, book: None, converted: None, verdict: None, stood_in }
+        Self { number, answer: None, unknown, book: None, written: None, verdict: None, stood_in }
     }
 
-    fn convert(from: Arrangement, record: &[u8], length: usize) -> Self {
-        match converted(record, from, length) {
-            Ok(record) => Self { converted: Some(record), ..Self::number(0) },
+    /// A record, or the number in its place.
+    fn written(record: Result<Vec<u8>, u8>) -> Self {
+        match record {
+            Ok(record) => Self { written: Some(record), ..Self::number(0) },
             Err(number) => Self::number(number),
         }
     }
@@ -80,7 +81,8 @@ impl Model {
                 let slice = book.as_ref().ok_or("an offer to the book of the call before has no model here")?;
                 self.offer(slice, offer)
             }
-            Call::Convert { from, record, length } => Ok(Expected::convert(*from, record, *length)),
+            Call::Convert { from, record, length } => Ok(Expected::written(converted(record, *from, *length))),
+            Call::Compose { draft, length } => Ok(Expected::written(draft.composed(*length))),
         }
     }
 

@@ -3,10 +3,11 @@
 use book::Offer;
 use inputs::call::{Call, Lent};
 use oracle::arrangement::Arrangement;
+use oracle::draft::Draft;
 use oracle::file::Case;
 use wutherdish_sys::{
     ANSWER, wutherdish_columns_to_pairs, wutherdish_judge, wutherdish_offer, wutherdish_open,
-    wutherdish_pairs_to_columns, wutherdish_verify,
+    wutherdish_pairs_to_columns, wutherdish_verify, wutherdish_write,
 };
 
 use crate::desk::Desk;
@@ -18,6 +19,7 @@ pub fn call(desk: &Desk, call: &Call) -> u8 {
         Call::Open { .. } => open(desk),
         Call::Offer { offer: Offer { leader, .. }, .. } => offer(desk, *leader),
         Call::Convert { from, .. } => convert(desk, *from),
+        Call::Compose { draft, .. } => write(desk, draft),
     }
 }
 
@@ -103,4 +105,32 @@ fn convert(desk: &Desk, from: Arrangement) -> u8 {
     let (record, output, count) = (Lent::Record, Lent::Output, at(desk, Lent::Count).cast());
     // SAFETY: as said above; a count touches the start or the end of a page, so that it is aligned.
     unsafe { call(at(desk, record), len(desk, record), at(desk, output), len(desk, output), count) }
+}
+
+/// What has a pointer is that of the desk, the rest that of the draft.
+fn write(desk: &Desk, draft: &Draft) -> u8 {
+    // SAFETY: as said above; a count touches the start or the end of a page, so that it is aligned.
+    unsafe {
+        wutherdish_write(
+            at(desk, Lent::Id).cast(),
+            draft.payload_len,
+            draft.payload_bytes,
+            at(desk, Lent::Includes),
+            len(desk, Lent::Includes),
+            at(desk, Lent::Witness),
+            len(desk, Lent::Witness),
+            at(desk, Lent::Evidence),
+            len(desk, Lent::Evidence),
+            at(desk, Lent::Proof).cast(),
+            at(desk, Lent::Trigger).cast(),
+            draft.role,
+            draft.seq_no,
+            draft.is_last,
+            draft.time,
+            draft.anchor_time,
+            at(desk, Lent::Output),
+            len(desk, Lent::Output),
+            at(desk, Lent::Count).cast(),
+        )
+    }
 }

@@ -1,6 +1,7 @@
 //! Where the bytes of a place's calls come from.
 
 use cases::case;
+use cases::drafts::{Drafted, drafted};
 use cases::random::Random;
 use compare::damage::{damaged, judge_damaged};
 use compare::kind::{as_judge, as_verify};
@@ -26,6 +27,7 @@ pub enum Source {
     SharedFronts,
     Opening,
     Converted,
+    Composed,
     Spliced,
     Wild,
     Dear,
@@ -33,7 +35,7 @@ pub enum Source {
 
 /// Sources with their parts of the places. A feed's place has 200 offers, one for certificates up to 1,400, a permuted one up to 96
 /// calls.
-const PARTS: [(Source, usize); 13] = [
+const PARTS: [(Source, usize); 14] = [
     (Source::Generated, 450),
     (Source::Damaged, 500),
     (Source::Permuted, 250),
@@ -44,6 +46,7 @@ const PARTS: [(Source, usize); 13] = [
     (Source::SharedFronts, 150),
     (Source::Opening, 60),
     (Source::Converted, 100),
+    (Source::Composed, 250),
     (Source::Spliced, 250),
     (Source::Wild, 150),
     (Source::Dear, 4),
@@ -73,6 +76,7 @@ impl Source {
             Self::SharedFronts => "ids alike at their front",
             Self::Opening => "openings",
             Self::Converted => "records converted",
+            Self::Composed => "points in parts",
             Self::Spliced => "spliced cases",
             Self::Wild => "wild bytes",
             Self::Dear => "dear inputs",
@@ -93,10 +97,16 @@ pub fn calls(source: Source, seed: u64, place: u64) -> Vec<Call> {
         Source::SharedFronts => return alike(&mut random, seed, place),
         Source::Opening => return vec![opening::opening(&mut random, seed, place)],
         Source::Converted => return converted::conversions(&mut random, seed, place),
+        Source::Composed => return vec![composed(seed, place)],
         Source::Dear => return vec![dear(&mut random)],
         Source::Feed | Source::Certificates | Source::DamagedBook => unreachable!("their calls depend on one another"),
     };
     cases.into_iter().map(Call::Case).collect()
+}
+
+fn composed(seed: u64, place: u64) -> Call {
+    let Drafted { draft, room, .. } = drafted(seed, place);
+    Call::Compose { draft: Box::new(draft), length: room }
 }
 
 /// A call of any shape; one in four is as long as may be.

@@ -2,6 +2,7 @@
 
 use book::Offer;
 use oracle::arrangement::Arrangement;
+use oracle::draft::Draft;
 use oracle::file::Case;
 
 #[derive(Clone)]
@@ -24,6 +25,11 @@ pub enum Call {
         /// Of the output.
         length: usize,
     },
+    Compose {
+        draft: Box<Draft>,
+        /// Of the output.
+        length: usize,
+    },
 }
 
 /// What a call can be lent.
@@ -38,10 +44,16 @@ pub enum Lent {
     Answer,
     Output,
     Count,
+    Id,
+    Includes,
+    Witness,
+    Evidence,
+    Proof,
+    Trigger,
 }
 
 impl Lent {
-    pub const ALL: [Self; 9] = [
+    pub const ALL: [Self; 15] = [
         Self::Settings,
         Self::Schedule,
         Self::Record,
@@ -51,6 +63,12 @@ impl Lent {
         Self::Answer,
         Self::Output,
         Self::Count,
+        Self::Id,
+        Self::Includes,
+        Self::Witness,
+        Self::Evidence,
+        Self::Proof,
+        Self::Trigger,
     ];
 
     /// Whether a call may write it.
@@ -60,7 +78,7 @@ impl Lent {
 }
 
 impl Call {
-    pub const NAMES: [&str; 6] = ["verify", "judge", "open", "offer", "pairs to columns", "columns to pairs"];
+    pub const NAMES: [&str; 7] = ["verify", "judge", "open", "offer", "pairs to columns", "columns to pairs", "write"];
 
     /// The place of its name.
     pub fn kind(&self) -> usize {
@@ -71,6 +89,7 @@ impl Call {
             Self::Offer { .. } => 3,
             Self::Convert { from: Arrangement::Pairs, .. } => 4,
             Self::Convert { from: Arrangement::Columns, .. } => 5,
+            Self::Compose { .. } => 6,
         }
     }
 
@@ -87,6 +106,14 @@ impl Call {
             Self::Open { settings, .. } => vec![(Lent::Settings, settings)],
             Self::Offer { offer, .. } => vec![(Lent::Schedule, &offer.schedule), (Lent::Record, &offer.record)],
             Self::Convert { record, .. } => vec![(Lent::Record, record)],
+            Self::Compose { draft, .. } => vec![
+                (Lent::Id, &draft.id[..]),
+                (Lent::Includes, &draft.includes),
+                (Lent::Witness, &draft.witness),
+                (Lent::Evidence, &draft.evidence),
+                (Lent::Proof, &draft.anchor_proof),
+                (Lent::Trigger, &draft.anchor_trigger),
+            ],
         }
     }
 
@@ -96,7 +123,7 @@ impl Call {
             Self::Case(Case::Verify { peer_buffer, .. } | Case::Judge { peer_buffer, .. }) => {
                 Some(*peer_buffer as usize)
             }
-            Self::Open { .. } | Self::Convert { .. } => None,
+            Self::Open { .. } | Self::Convert { .. } | Self::Compose { .. } => None,
             Self::Offer { offer, .. } => Some(offer.peer_buffer as usize),
         }
     }
@@ -104,7 +131,7 @@ impl Call {
     /// The length of the output, where there is one, with a count beside it.
     pub fn output(&self) -> Option<usize> {
         match self {
-            Self::Convert { length, .. } => Some(*length),
+            Self::Convert { length, .. } | Self::Compose { length, .. } => Some(*length),
             _ => None,
         }
     }

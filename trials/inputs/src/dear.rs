@@ -1,5 +1,6 @@
 //! Inputs that cost much for their length, of every call, beside typical ones.
 
+mod compose;
 mod convert;
 mod judge;
 mod offer;
@@ -40,7 +41,8 @@ impl Shape {
 
     /// All shapes; those of a call stand together, a typical one first.
     pub fn all() -> Vec<Self> {
-        [&verify::SHAPES[..], &judge::SHAPES, &offer::SHAPES, &spread::SHAPES, &convert::SHAPES].concat()
+        [&verify::SHAPES[..], &judge::SHAPES, &offer::SHAPES, &spread::SHAPES, &convert::SHAPES, &compose::SHAPES]
+            .concat()
     }
 
     /// The call of this shape with a count of entries, or of peers where it has full maps; at most `most`.

@@ -2,6 +2,7 @@
 
 pub mod call;
 pub mod clock;
+pub mod compose;
 pub mod dag;
 pub mod dear;
 pub mod points;

@@ -64,7 +64,7 @@ fn what_stands_before_a_bad_case_is_explained() {
         assert_eq!((ran.code, ran.err), (Some(1), message));
         assert!(ran.out.ends_with("\n\ncases: 1\nverdicts: 1 invalid\n"), "{}", ran.out);
     };
-    let no_case = "a case: 1 for verifying, 2 for judging or 17 for converting, and its blobs";
+    let no_case = "a case: 1 for verifying, 2 for judging, 16 for writing or 17 for converting, and its blobs";
     bad(&[3, 0], 0, no_case);
     bad(&[2], 0, no_case);
     bad(&[1, 1, 0, 0, 0, 0], 0, no_case);
@@ -87,13 +87,49 @@ fn a_peer_buffer_of_any_length() {
 /// A case of converting, with an answer or without.
 fn converting(direction: u8, record: &[u8], output: u32, answer: Option<&[u8]>) -> Vec<u8> {
     let (direction, output) = ([direction], output.to_le_bytes());
-    let blobs = [&direction, record, &output].into_iter().chain(answer);
-    let mut case = vec![17, 3 + u8::from(answer.is_some())];
+    case(17, &[&direction, record, &output].into_iter().chain(answer).collect::<Vec<_>>())
+}
+
+/// A case with these blobs.
+fn case(kind: u8, blobs: &[&[u8]]) -> Vec<u8> {
+    let mut case = vec![kind, blobs.len() as u8];
     for blob in blobs {
         case.extend((blob.len() as u32).to_le_bytes());
-        case.extend(blob);
+        case.extend(*blob);
     }
     case
+}
+
+/// A case of writing a proof without maps, whose links are direct ones.
+fn writing(role: [u8; 3], includes: &[u8], output: u32, answer: &[&[u8]]) -> Vec<u8> {
+    let (id, output) = ([&[9, 0, 0, 0], &[0x44; 32][..], &[0x55; 32]].concat(), output.to_le_bytes());
+    let parts = [&id, &[1; 8][..], includes, &[], &[], &[0; 102], &[0; 102], &role, &[0; 16], &output];
+    case(16, &[&parts[..], answer].concat())
+}
+
+#[test]
+fn writing_is_explained() {
+    let (proof, length) = ([1, 2, 1], 190);
+    let cases = [
+        (writing(proof, &[], length, &[]), "anchor proof 2, the last", "written"),
+        (writing([3, 9, 9], &[], u32::MAX, &[&[]]), "genesis", "written"),
+        (writing(proof, &[1], length, &[]), "anchor proof 2, the last", "refused with number 3: "),
+        (writing([1, 2, 2], &[], length, &[]), "", "refused with number 4: "),
+        (writing(proof, &[0; 128], length, &[]), "anchor proof 2, the last", "refused with number 13: "),
+        (writing(proof, &[], length - 1, &[]), "anchor proof 2, the last", "refused with number 14: "),
+    ];
+    let out = done(&["explain", "-"], &cases.each_ref().map(|(case, _, _)| &case[..]).concat());
+    let explained = explained(&out);
+    assert_eq!(explained.len(), cases.len());
+    for ((_, role, answer), lines) in cases.iter().zip(&explained) {
+        let point = format!("write: point 44444444.. of round 9 by 55555555.., {role}");
+        assert_eq!(lines[0], if role.is_empty() { "write: a point of an unknown role" } else { &point });
+        assert!(lines[1].starts_with(answer), "{lines:?}");
+    }
+    let verdicts = [3, 4, 13, 14].map(|number| format!("1 refused with number {number}")).join(", ");
+    assert!(out.ends_with(&format!("\n\ncases: 6\nverdicts: 2 written, {verdicts}\n")), "{out}");
+    let short = case(16, &[&[0; 67][..], &[1; 8], &[], &[], &[], &[0; 102], &[0; 102], &proof, &[0; 16], &[0; 4]]);
+    assert!(fed(&["explain", "-"], &short).err.contains(": byte 0: expected a case: "));
 }
 
 #[test]

@@ -11,7 +11,7 @@ use crate::run::{Ran, done, drill, fed, scratch, split_front};
 const NOTE: &str = "\n\nnote: a record alone is not judged; a feed or a case has what judging takes\n";
 
 /// A proof with all that a record can say.
-fn proof() -> Point {
+pub fn proof() -> Point {
     let [ada, bea, cy] = [0xa1, 0xb2, 0xc3].map(|byte| PeerId([byte; 32]));
     let old = PointId { round: 4, digest: Digest([0x44; 32]), author: cy };
     Point::new(PointId { round: 9, digest: Digest([0x99; 32]), author: ada }, 1_031, 1_030)
@@ -27,7 +27,7 @@ fn proof() -> Point {
         .role(PointRole::AnchorProof { seq_no: 2, is_last: true })
 }
 
-fn record(point: &Point) -> Vec<u8> {
+pub fn record(point: &Point) -> Vec<u8> {
     point.to_bytes().expect("it can be written")
 }
 
@@ -35,9 +35,9 @@ fn record(point: &Point) -> Vec<u8> {
 fn all_that_it_says() {
     let lines = "point 99999999.. of round 9 by a1a1a1a1.., anchor proof 2, the last\n\
                  payload: 1 message, 412 bytes\n\
-                 includes: 2\n\
-                 witness: 1\n\
-                 evidence: 3\n\
+                 includes: 2\n  88888888.. by a1a1a1a1..\n  87878787.. by b2b2b2b2..\n\
+                 witness: 1\n  77777777.. by c3c3c3c3..\n\
+                 evidence: 3\n  a1a1a1a1..\n  b2b2b2b2..\n  c3c3c3c3..\n\
                  anchor proof link: indirect to the point 44444444.. of round 4 by c3c3c3c3.. through c3c3c3c3.. in its \
                  witness\n\
                  anchor trigger link: direct to the point of b2b2b2b2.. in its includes\n\
@@ -58,7 +58,8 @@ fn a_point_is_named_as_in_its_feed() {
         let (point, after) = Point::read(&rest[1..]).expect("it can be read");
         let out = done(&["explain", "-"], &record(&point));
         assert_eq!(out.lines().next(), Some(lines[0].trim_end_matches(", leader")));
-        assert!(out.ends_with(NOTE) && out.lines().count() == 11, "{out}");
+        let rows = point.includes.len() + point.witness.len() + point.evidence.len();
+        assert!(out.ends_with(NOTE) && out.lines().count() == 11 + rows, "{out}");
         rest = after;
     }
     assert!(rest.is_empty());

@@ -3,6 +3,8 @@
 use std::io::{PipeWriter, Read, Write};
 use std::time::Instant;
 
+use crate::compose::told;
+use crate::record::{proof, record};
 use crate::run::{command, done, drill, fed, scratch, shell, split_front};
 
 /// The genesis point, offered again and again.
@@ -29,21 +31,27 @@ fn assert_closed(arguments: &[&str], out: PipeWriter, input: &[u8]) {
 }
 
 /// The commands that write to standard output.
-const TELLING: [&[&str]; 8] = [
+const TELLING: [&[&str]; 9] = [
     &["explain", "-"],
     &["show", "-"],
     &["tally"],
     &["convert", "--to=pairs", "-"],
+    &["compose", "-"],
     &["demo"],
     &["drill"],
     &["help"],
     &["--version"],
 ];
 
+/// What such a command is fed.
+fn input(arguments: &[&str]) -> Vec<u8> {
+    if arguments[0] == "compose" { told(&record(&proof())).into_bytes() } else { drill("demo") }
+}
+
 #[test]
 fn a_closed_pipe_ends_it_quietly() {
     for arguments in TELLING {
-        assert_closed(arguments, closed_pipe(), &drill("demo"));
+        assert_closed(arguments, closed_pipe(), &input(arguments));
     }
     // one that is closed after its first bytes
     for arguments in [&["explain", "-"][..], &["tally"]] {
@@ -73,7 +81,7 @@ fn output_that_cannot_be_written_is_1() {
     for (redirection, message) in [(">/dev/full", FULL), (">&-", bad), ("1</dev/null", bad)] {
         let script = format!("exec \"$0\" \"$@\" {redirection}");
         for arguments in TELLING {
-            let ran = shell(&script, arguments, &drill("demo"));
+            let ran = shell(&script, arguments, &input(arguments));
             assert_eq!((ran.code, &ran.err[..]), (Some(1), message), "{redirection} {arguments:?}");
         }
         // a command that writes to a file alone needs no other output
@@ -87,7 +95,9 @@ fn output_that_cannot_be_written_is_1() {
 #[test]
 fn input_that_cannot_be_read_is_1() {
     for redirection in ["<&-", "0>/dev/null"] {
-        for arguments in [&["explain", "-"][..], &["show", "-"], &["tally"], &["convert", "--to=pairs", "-"]] {
+        for arguments in
+            [&["explain", "-"][..], &["show", "-"], &["tally"], &["convert", "--to=pairs", "-"], &["compose", "-"]]
+        {
             let ran = shell(&format!("exec \"$0\" \"$@\" {redirection}"), arguments, &[]);
             assert_eq!((ran.code, &ran.out[..]), (Some(1), ""), "{redirection} {arguments:?}");
             assert_eq!(ran.err, "wutherdish: standard input: Bad file descriptor (os error 9)\n");

@@ -47,6 +47,9 @@ fn wrong_usage_is_2() {
         assert_usage(&[&["convert", "-"], to].concat(), wanted);
     }
     assert_usage(&["convert", "--to", "pairs"], "a file is missing");
+    assert_usage(&["compose"], "a file is missing");
+    assert_usage(&["compose", "-", "--leader"], "--leader is said of an offer, and needs --append");
+    assert_usage(&["compose", "-", "--append", "x", "-o", "y"], "-o has no use beside --append");
     assert_usage(&["tally", "--to", "pairs"], "--to is no option here");
     for room in ["46", "16777217", "-1", "many", " 100"] {
         assert_usage(&["explain", "-", "--room", room], "--room needs a number from 47 to 16777216");
@@ -83,11 +86,14 @@ fn after_two_dashes_there_are_no_options() {
 #[test]
 fn help_and_version() {
     let help = done(&["help"], &[]);
-    let commands = ["explain FILE", "show FILE", "tally [FILE]", "convert --to NAME FILE", "drill [NAME", "demo"];
+    let commands =
+        ["explain FILE", "show FILE", "tally [FILE]", "compose FILE", "convert --to NAME FILE", "drill [NAME", "demo"];
     for words in commands.into_iter().chain(["--version", "Exit code"]) {
         assert!(help.contains(words), "{words}");
     }
-    for option in ["--room", "--book", "--full-ids", "--progress", "--to", "-o", "--help", "--version"] {
+    for option in
+        ["--room", "--book", "--full-ids", "--progress", "--append", "--leader", "--to", "-o", "--help", "--version"]
+    {
         assert!(help.contains(&format!("\n  {option} ")), "{option}");
     }
     assert!(help.lines().all(|line| line.chars().count() <= 105), "{help}");
@@ -100,11 +106,12 @@ fn help_and_version() {
 
 #[test]
 fn help_for_one_command() {
-    let options = ["--last", "--room", "--book", "--full-ids", "--progress", "-o"];
+    let options = ["--last", "--room", "--book", "--full-ids", "--progress", "--append", "--leader", "-o"];
     let commands = [
         ("explain", &["--last", "--room", "--book", "--full-ids", "--progress"][..]),
         ("show", &["--room", "--progress", "-o"]),
         ("tally", &["--progress"]),
+        ("compose", &["--append", "--leader", "-o"]),
         ("convert", &["-o"]),
         ("drill", &["-o"]),
         ("demo", &["-o"]),
@@ -143,8 +150,7 @@ fn assert_bad(arguments: &[&str], input: &[u8], wanted: &str) {
 
 #[test]
 fn bad_input_is_1() {
-    let neither =
-        "standard input: byte 0: expected a feed or a book (tag 32), a point record (tag 1), or a case (1, 2 or 17)";
+    let neither = "standard input: byte 0: expected a feed or a book (tag 32), a point record (tag 1), or a case (1, 2, 16 or 17)";
     for command in ["explain", "show"] {
         assert_bad(&[command, "-"], &[], neither);
         assert_bad(&[command, "-"], b"text", neither);

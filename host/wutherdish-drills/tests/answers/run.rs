@@ -101,7 +101,7 @@ pub fn answer(given: &Result<Verdict, Refusal>) -> Answer {
     }
 }
 
-/// What the call of a case gives. No drill is there for a record that is converted.
+/// What the call of a case gives. No drill is there for a record that is written or converted.
 pub fn case_answer(bytes: &[u8]) -> Answer {
     let blobs = blobs(bytes);
     let length = u32::from_le_bytes(blobs[blobs.len() - 1].try_into().expect("four bytes"));
@@ -113,12 +113,39 @@ pub fn case_answer(bytes: &[u8]) -> Answer {
             lent::judge(settings, schedule, record, leader, presence, list, &mut peers, &mut bytes)
         }
         [&[0], record, _] => return Answer::Number(lent::pairs_to_columns(record, &mut peers, &mut 0)),
-        _ => panic!("neither verifying, judging nor converting to columns"),
+        [ref parts @ .., _] if parts.len() == 9 => return Answer::Number(write(parts, &mut peers)),
+        _ => panic!("neither verifying, judging, writing nor converting to columns"),
     };
     match number {
         0 => answer(&Ok(Verdict::read(&bytes, &peers).expect("an answer of judging"))),
         number => Answer::Number(number),
     }
+}
+
+/// The number of a case of writing.
+fn write(parts: &[&[u8]], out: &mut [u8]) -> u8 {
+    let &[id, payload, includes, witness, evidence, proof, trigger, &[role, seq_no, is_last], times] = parts else {
+        panic!("nine parts, three bytes of them the role");
+    };
+    let number = |bytes: &[u8]| bytes.iter().rev().fold(0, |number, byte| number << 8 | u64::from(*byte));
+    let link = |bytes| <&[u8; 102]>::try_from(bytes).expect("102 bytes");
+    lent::write(
+        id.try_into().expect("68 bytes"),
+        number(&payload[..4]) as u32,
+        number(&payload[4..]) as u32,
+        includes,
+        witness,
+        evidence,
+        link(proof),
+        link(trigger),
+        role,
+        seq_no,
+        is_last,
+        number(&times[..8]),
+        number(&times[8..]),
+        out,
+        &mut 0,
+    )
 }
 
 /// The blobs of a case, which has nothing after them and as many as its kind asks for.
@@ -132,7 +159,7 @@ pub fn blobs(bytes: &[u8]) -> Vec<&[u8]> {
     }
     assert!(rest.is_empty());
     assert_eq!(blobs.len(), usize::from(head[1]));
-    let counts = [(1, 4), (2, 6), (17, 3)];
+    let counts = [(1, 4), (2, 6), (16, 10), (17, 3)];
     assert!(counts.iter().any(|(kind, count)| head[0] == *kind && blobs.len() == *count), "{head:?}");
     blobs
 }

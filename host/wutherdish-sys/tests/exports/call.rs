@@ -1,7 +1,8 @@
 //! A call, as its source declares it.
 
 /// What a parameter may be. Under another name, or with a lifetime, one that is lent would not be seen as such.
-const KINDS: [&str; 5] = ["u8", "&[u8]", "&mut [u8]", "&mut [u8; 114]", "&mut u32"];
+const KINDS: [&str; 9] =
+    ["u8", "u32", "u64", "&[u8]", "&[u8; 68]", "&[u8; 102]", "&mut [u8]", "&mut [u8; 114]", "&mut u32"];
 
 #[derive(Debug)]
 pub struct Call {
@@ -47,7 +48,8 @@ impl Call {
     /// Whether it ensures an equation that begins so, whose other side is a definition of what was there at entry.
     fn ensures(&self, left: &str) -> bool {
         let ensured = self.clauses.iter().filter(|(word, _)| word == "ensures");
-        let mut rights = ensured.filter_map(|(_, clause)| clause.strip_prefix(left));
+        let mut rights =
+            ensured.flat_map(|(_, clause)| equations(clause)).filter_map(|equation| equation.strip_prefix(left));
         rights.any(is_of_entry)
     }
 }
@@ -58,6 +60,19 @@ fn is_of_entry(right: &str) -> bool {
     let is_plain = |c: char| c.is_ascii_alphanumeric() || " ()._".contains(c);
     let is_of_exit = right.contains(".new") || right.split([' ', '(', ')', '.']).any(|word| word == "result");
     right.chars().all(is_plain) && !is_of_exit && !right.contains("Unit")
+}
+
+/// The equations of a clause: that which it is, or those that it joins by `×`, after names for what was there at entry (`let`).
+fn equations(clause: &str) -> Vec<&str> {
+    let mut rest = clause;
+    while let Some((name, after)) = rest.strip_prefix("let ").and_then(|rest| rest.split_once(" in ")) {
+        if !name.split_once(" = ").is_some_and(|(_, value)| is_of_entry(value)) {
+            return vec![clause];
+        }
+        rest = after;
+    }
+    let joined = rest.strip_prefix('(').and_then(|rest| rest.strip_suffix(')'));
+    joined.map_or(vec![rest], |equations| equations.split(") × (").collect())
 }
 
 /// The clauses between a call's result and its body.

@@ -81,6 +81,18 @@ fn a_lent_count_or_output_of_which_nothing_is_said() {
 }
 
 #[test]
+fn equations_that_are_joined() {
+    let given = "(result ≡ filled_number given)";
+    let exports = changed(given, "(Unit)");
+    assert_eq!(exports.faults(), ["wutherdish_write says nothing of its result"]);
+    let exports = changed(&format!("{given} ×"), &format!("{given} ⊎"));
+    assert_eq!(exports.faults().first().map(String::as_str), Some("wutherdish_write says nothing of its result"));
+    let exports = changed("let given = composition d (length out.old) in", "let given = same out.new in");
+    let unsaid = ["its result", "out", "written"].map(|name| format!("wutherdish_write says nothing of {name}"));
+    assert_eq!(exports.faults(), unsaid);
+}
+
+#[test]
 fn what_is_said_of_itself() {
     let exports = changed("answer.new ≡ verify_answer", "answer.new ≡ same answer.new");
     assert_eq!(exports.faults(), ["wutherdish_verify says nothing of answer"]);

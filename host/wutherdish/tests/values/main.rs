@@ -7,4 +7,6 @@ mod halves;
 mod inverse;
 mod lists;
 mod network;
+mod parts;
 mod random;
+mod write;

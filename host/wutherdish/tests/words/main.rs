@@ -177,7 +177,7 @@ fn refusals_and_errors() {
     for number in 0..=255 {
         let refusal = Refusal::new(number);
         assert_eq!(refusal.number(), number);
-        assert_eq!(refusal == Refusal::Foreign(number), !matches!(number, 1..=12 | 14));
+        assert_eq!(refusal == Refusal::Foreign(number), !(1..=14).contains(&number));
         assert_error(&refusal, &[]);
     }
     all_different((1..=15).map(|number| Refusal::new(number).to_string()));
