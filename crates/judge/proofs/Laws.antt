@@ -5,12 +5,12 @@ use native.Mathlib.Omega.{arith}
 use mathlib.Core.Path.{◌≡◌, refl, ap, sym, ◌∙◌}
 use mathlib.Core.Bool.{Bool, true, false, not, ◌&&◌}
 use mathlib.Core.List.{List}
-use lib.Dec.{eqb}
+use lib.Dec.{ltb, eqb}
 use borrow.Author.Tests.{ne_eqb, lt-ltb, le-ltb}
 use Rattle.base.specs.Base.{pick, is_empty}
 use Rattle.base.proofs.Impossible.{impossible}
 use Rattle.parts.specs.Limits.{peers_room}
-use Rattle.point.specs.Point.{PointInfo, in_domain, prev_id}
+use Rattle.point.specs.Point.{PointInfo, prev_id}
 use Rattle.point.proofs.Said.{said_read}
 use Rattle.point.specs.declared.data.PointMap.TheVariants as case-map
 use Rattle.schedule.specs.Settings.{Settings}
@@ -22,7 +22,7 @@ use Rattle.reasons.specs.declared.ill_formed.VerifyError.{VerifyError}
 use Rattle.rules.specs.Verify.{scheduled, verify, buffer_with}
 use Rattle.rules.specs.DagPoint.{Entry, IndirectEntry}
 use Rattle.rules.specs.Validate.{over_lists, validate}
-use Rattle.rules.specs.Judge.{Input, Tested, refused, admitted, tested_with, verify_buffer, JudgeAnswer, Given, Before, answered, needed, before_with, before, judge_from, over_list, judge_with, judge_with_in}
+use Rattle.rules.specs.Judge.{Input, Tested, refused, admitted, verify_buffer, JudgeAnswer, Given, Before, answered, needed, before_with, before, judge_from, over_list, judge_with, judge_with_in}
 use Rattle.rules.specs.CheckIllFormed.{wave_checked}
 use Rattle.rules.specs.List.{Listed, directs, indirects}
 use Rattle.rules.specs.Mismatch.{mismatch, uncovered}
@@ -113,12 +113,13 @@ module _ (c : Settings) (s : Schedule) (leader : Bool) (p : PointInfo) (o : Opti
 
 -- ---- the call's answer and the buffer, from what its input was tested for
 
-module _ (c : Settings) (s : Schedule) (p : PointInfo) (others : Bool) (size : ℕ) (h : (in_domain p && others) ≡ true) where
-  pub tested-short : size < peers_room → tested_with (Some c) (Some s) (Some p) others size ≡ refused 5
-  tested-short g = rw (h, lt-ltb size peers_room g)
+-- of what numbers 1 to 4 admitted, by the size of the peer buffer
+module _ (t : Tested) (i : Input) (size : ℕ) (e : pick (ltb size peers_room) (refused 5) (admitted i) ≡ t) where
+  pub tested-short : size < peers_room → t ≡ refused 5
+  tested-short g = sym e ∙ ap (λ (b : Bool). pick b (refused 5) (admitted i)) (lt-ltb size peers_room g)
 
-  pub tested-admitted : peers_room ≤ size → tested_with (Some c) (Some s) (Some p) others size ≡ admitted (record { settings = c; schedule = s; point = p })
-  tested-admitted g = rw (h, le-ltb size peers_room g)
+  pub tested-admitted : peers_room ≤ size → t ≡ admitted i
+  tested-admitted g = sym e ∙ ap (λ (b : Bool). pick b (refused 5) (admitted i)) (le-ltb size peers_room g)
 
 module _ (leader presence : ℕ) (list : List ℕ) where
   -- the answer stands for what was found, and the buffer holds what it should

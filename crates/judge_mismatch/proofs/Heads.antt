@@ -294,7 +294,7 @@ pub indirects-here : (x : Listed) (l : List Listed) (g : AnchorStageRole) → x.
 unfolding indirects
 indirects-here x l g e = rw e
 
-indirects-after : (x : Listed) (l : List Listed) → x.aim ≡ None → indirects (x ∷ l) ≡ indirects l
+pub indirects-after : (x : Listed) (l : List Listed) → x.aim ≡ None → indirects (x ∷ l) ≡ indirects l
 unfolding indirects
 indirects-after x l e = rw e
 
@@ -384,7 +384,7 @@ next_of s h g =
     let t = drop f.0.size s in
     (f.0, next_with s t l.0 f.1 f.0 refl l.1 (read-list t ∙ f.4) f.2 f.3 f.5)
 
-listed-end : (s : List ℕ) → length s ≡ 0 → listed s ≡ []
+pub listed-end : (s : List ℕ) → length s ≡ 0 → listed s ≡ []
 listed-end s h =
     let more = and_then (read_entry s) (list_then (list_from 65534) false s) in
     listed-is s [] (read-list s ∙ (list_suc 65534 false s ∙ ap (λ (b : Bool). pick b (Some []) more) (eq-eqb (length s) 0 h)))

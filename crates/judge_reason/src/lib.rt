@@ -49,7 +49,7 @@ pub fn how_taken(p: &PointView, id: PointId) -> Taken
 
 // What a dependency gives of reasons whose point is not there.
 #[tactic(auto, unfolding(rules::specs::Validate::dependency_trail, base::specs::Base::last_of))]
-fn absent_reason(state: &DagPoint) -> Option<InvalidReason>
+pub fn absent_reason(state: &DagPoint) -> Option<InvalidReason>
     ensures { AbsentReason state.now result }
 {
     match *state {

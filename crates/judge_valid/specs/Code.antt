@@ -1,13 +1,15 @@
 -- What the code's values stand for, and what its functions promise each other.
-use Rattle.std.specs.Prelude.{ℕ, ◌-◌, ◌/◌, ◌^◌, ◌≡◌, Bool, false, List, [], Some, option_map}
-use Rattle.base.specs.Base.{concat}
+use Rattle.std.specs.Prelude.{ℕ, ◌-◌, ◌/◌, ◌^◌, ◌≡◌, Bool, false, not, List, [], Some, option_map}
+use Rattle.base.specs.Base.{when, concat}
 use Rattle.parts.specs.Code.{number}
-use Rattle.point.specs.Point.{PointInfo, top}
+use Rattle.point.specs.Point.{PointInfo, top, same_id}
 use Rattle.point.specs.Reading.{read_point}
 use Rattle.point.specs.Code.{point_id_of}
+use Rattle.point.specs.declared.data.AnchorStageRole.{AnchorStageRole}
 use Rattle.point.specs.declared.data.AnchorStageRole.TheVariants.{Proof, Trigger}
 use Rattle.schedule.specs.Settings.{Settings}
-use Rattle.rules.specs.DagPoint.{is_by, LinkIds, PointView, DepView, dep_view}
+use Rattle.reasons.specs.Invalid.{InvalidReason, AnchorLinkBadPath}
+use Rattle.rules.specs.DagPoint.{is_by, LinkIds, PointView, links_in, DepView, dep_view, top_in}
 use Rattle.rules.specs.Validate.{point_rows}
 use Rattle.judge_valid.specs.declared.brief.Brief as code-brief
 use Rattle.judge_valid.specs.declared.quick.Quick as code-quick
@@ -40,6 +42,14 @@ dep_view_of q =
       proof_top = point_id_of q.proof_top;
       trigger_top = point_id_of q.trigger_top;
     }
+
+-- ---- the two parts of `source_row`: whether a dependency is a link's source, and what its top gives of one
+
+abbrev pub is_source : AnchorStageRole → PointView → DepView → Bool
+is_source g p q = same_id q.id (links_in g p).source
+
+abbrev pub path_row : AnchorStageRole → PointView → DepView → List InvalidReason
+path_row g p q = when (not (same_id (top_in g q) (links_in g p).target)) (AnchorLinkBadPath g q.id)
 
 -- ---- the quick test
 

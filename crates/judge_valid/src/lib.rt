@@ -7,5 +7,8 @@ mod rows;
 mod view;
 
 pub use quick::{Quick, is_quick};
-pub use rows::{check_dependency, check_indirect};
+pub use rows::{
+    check_carried, check_dependency, check_indirect, check_inherited, check_newer, check_path,
+    check_proof, check_target, check_time, is_source,
+};
 pub use view::{By, DepView, LinkIds, PointView};

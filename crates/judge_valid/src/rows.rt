@@ -10,7 +10,7 @@ ghost use Rattle.schedule.specs.Code.{settings_of};
 ghost use Rattle.rules.specs.Validate.{is_open, not_trigger, ends_too_soon, proof_row, trigger_proof_row, time_row, newer_row};
 ghost use Rattle.rules.specs.Validate.{seq_no, follows, sticky_row, reached_row, target_row, anchor_time_row, carried_row};
 ghost use Rattle.rules.specs.Validate.{source_row, anchor_rows, point_rows, indirect_row, indirect_point_rows};
-ghost use Rattle.judge_valid.specs.Code.{point_view_of, dep_view_of};
+ghost use Rattle.judge_valid.specs.Code.{point_view_of, dep_view_of, path_row, is_source};
 
 use crate::quick::is_late;
 use crate::view::{By, DepView, PointView};
@@ -41,7 +41,7 @@ fn ends_too_soon(required: bool, own: PointRole, proven: PointRole) -> bool
 
 // is_proof_ok of verifier.rs, of the previous point.
 #[tactic(auto, unfolding(rules::specs::Validate::proof_row, base::specs::Base::last_of), using(crate::proofs::Laws::told))]
-fn check_proof(required: bool, p: &PointView, q: &DepView) -> Option<InvalidReason>
+pub fn check_proof(required: bool, p: &PointView, q: &DepView) -> Option<InvalidReason>
     ensures { option_map reason_of result ≡ last_of (proof_row required (point_view_of p.now) (dep_view_of q.now)) }
 {
     if is_not_trigger(required, p.role, q.role) {
@@ -75,7 +75,7 @@ fn check_trigger_proof(p: &PointView, q: &DepView, is_target: bool) -> Option<In
 
 // The dependency's time may exceed the point's by the clock skew only.
 #[tactic(auto, unfolding(rules::specs::Validate::time_row), using(crate::proofs::Laws::told))]
-fn check_time(conf: &Settings, p: &PointView, q: &DepView) -> Option<InvalidReason>
+pub fn check_time(conf: &Settings, p: &PointView, q: &DepView) -> Option<InvalidReason>
     ensures { option_map reason_of result ≡ last_of (time_row (settings_of conf.now) (point_view_of p.now) (dep_view_of q.now)) }
 {
     is_late(p.time, conf.clock_skew_millis as u64, q.time).then_some(
@@ -84,7 +84,7 @@ fn check_time(conf: &Settings, p: &PointView, q: &DepView) -> Option<InvalidReas
 }
 
 #[tactic(auto, unfolding(rules::specs::Validate::newer_row), using(crate::proofs::Laws::told))]
-fn check_newer(role: AnchorStageRole, p: &PointView, q: &DepView) -> Option<InvalidReason>
+pub fn check_newer(role: AnchorStageRole, p: &PointView, q: &DepView) -> Option<InvalidReason>
     ensures { option_map reason_of result ≡ last_of (newer_row role (point_view_of p.now) (dep_view_of q.now)) }
 {
     (p.links(role).target.round < q.top(role).round).then_some(
@@ -148,7 +148,7 @@ fn check_reached(
 }
 
 #[tactic(auto, unfolding(rules::specs::Validate::target_row, base::specs::Base::last_of))]
-fn check_target(
+pub fn check_target(
     conf: &Settings,
     role: AnchorStageRole,
     p: &PointView,
@@ -179,7 +179,7 @@ fn check_anchor_time(p: &PointView, q: &DepView) -> Option<InvalidReason>
 
 // Of a link's source: what the link carries on.
 #[tactic(auto, unfolding(rules::specs::Validate::carried_row, base::specs::Base::last_of))]
-fn check_carried(role: AnchorStageRole, p: &PointView, q: &DepView) -> Option<InvalidReason>
+pub fn check_carried(role: AnchorStageRole, p: &PointView, q: &DepView) -> Option<InvalidReason>
     ensures { option_map reason_of result ≡ last_of (carried_row role (point_view_of p.now) (dep_view_of q.now)) }
 {
     match role {
@@ -193,19 +193,34 @@ fn check_carried(role: AnchorStageRole, p: &PointView, q: &DepView) -> Option<In
     }
 }
 
+// Of a link's source: that its top is the link's target.
+#[tactic(auto, using(crate::proofs::Laws::told))]
+pub fn check_path(role: AnchorStageRole, p: &PointView, q: &DepView) -> Option<InvalidReason>
+    ensures { option_map reason_of result ≡ last_of (path_row role (point_view_of p.now) (dep_view_of q.now)) }
+{
+    (!point::is_same_id(q.top(role), p.links(role).target)).then_some(
+        InvalidReason::AnchorLinkBadPath {
+            role,
+            dependency: q.id,
+        },
+    )
+}
+
+// Whether a dependency is a link's source.
+pub fn is_source(role: AnchorStageRole, p: &PointView, q: &DepView) -> bool
+    ensures { result ≡ is_source role (point_view_of p.now) (dep_view_of q.now) }
+{
+    point::is_same_id(q.id, p.links(role).source)
+}
+
 #[tactic(auto, unfolding(rules::specs::Validate::source_row), using(crate::proofs::Laws::source_told))]
 fn check_source(role: AnchorStageRole, p: &PointView, q: &DepView) -> Option<InvalidReason>
     ensures { option_map reason_of result ≡ last_of (source_row role (point_view_of p.now) (dep_view_of q.now)) }
 {
-    let links = p.links(role);
-    if !point::is_same_id(q.id, links.source) {
+    if !is_source(role, p, q) {
         return None;
     }
-    let bad_path = !point::is_same_id(q.top(role), links.target);
-    check_carried(role, p, q).or(bad_path.then_some(InvalidReason::AnchorLinkBadPath {
-        role,
-        dependency: q.id,
-    }))
+    check_carried(role, p, q).or(check_path(role, p, q))
 }
 
 // The rules on the sources of both links.
@@ -256,7 +271,7 @@ pub fn check_dependency(by: &By, is_prev_point: bool, q: &DepView) -> Option<Inv
 }
 
 // Of an indirect link's target that has the role.
-fn check_inherited(role: AnchorStageRole, p: &PointView, q: &DepView) -> Option<InvalidReason>
+pub fn check_inherited(role: AnchorStageRole, p: &PointView, q: &DepView) -> Option<InvalidReason>
     ensures { option_map reason_of result ≡ last_of (indirect_row role (point_view_of p.now) (dep_view_of q.now)) }
 {
     match role {

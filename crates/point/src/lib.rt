@@ -10,6 +10,8 @@ mod read;
 
 pub use data::{AnchorStageRole, PointMap, PointRole, StickyAnchors};
 pub use front::{is_point, is_point_in, is_record_in_domain};
-pub use info::{AnchorView, INCLUDES, NO_POINT, Point, PointId, PointInfo, are_in_domain, is_same_id, pair_id};
+pub use info::{
+    AnchorView, INCLUDES, NO_POINT, Point, PointId, PointInfo, are_in_domain, is_same_id, pair_id,
+};
 pub use link::{AnchorLink, IndirectLink, Through};
 pub use read::{known_point, point_id_at, read_point, read_shaped, through_at};

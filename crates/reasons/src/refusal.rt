@@ -19,6 +19,7 @@ pub enum Refusal {
     Full = 12,
     Twice = 13,
     Output = 14,
+    Trail = 15,
 }
 
 impl Refusal {

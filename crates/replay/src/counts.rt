@@ -13,6 +13,7 @@ pub struct Counts {
     open: u64,
     offer: u64,
     compose: u64,
+    trail: u64,
     other: u64,
     different: u64,
     no_room: u64,
@@ -28,6 +29,7 @@ impl Counts {
             Kind::Open | Kind::OpenApart => &mut self.open,
             Kind::Offer | Kind::OfferToGiven => &mut self.offer,
             Kind::Compose => &mut self.compose,
+            Kind::Trail => &mut self.trail,
             Kind::Other => &mut self.other,
         };
         *count = count.wrapping_add(1);
@@ -59,6 +61,7 @@ impl Display for Counts {
         writeln!(f, "openings {}", self.open)?;
         writeln!(f, "offers {}", self.offer)?;
         writeln!(f, "composed points {}", self.compose)?;
+        writeln!(f, "trails {}", self.trail)?;
         writeln!(f, "other cases {}", self.other)?;
         writeln!(f, "no room {}", self.no_room)?;
         write!(f, "different {} of {}", self.different, self.place)

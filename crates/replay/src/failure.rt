@@ -3,14 +3,15 @@ use crate::call_answer::Answer;
 use crate::hex_bytes::Hex;
 use std::io;
 
-// What a call did otherwise: its answer, the bytes that it left of a book, the number or the bytes of an opening, or the number, the
-// count or the bytes of a record.
+// What a call did otherwise: its answer, the bytes that it left of a book, the number or the bytes of an opening, the number, the
+// count or the bytes of a record, or the rows of a trail.
 #[derive(Drop)]
 pub enum Difference<'a> {
     Answer { want: &'a [u8], answer: Answer<'a> },
     Book,
     Opening,
     Record,
+    Trail,
 }
 
 // With no room for a case, or a blob of a length that its call doesn't take, no call was made, so nothing was found different.
@@ -33,6 +34,7 @@ impl Difference<'_> {
             Difference::Book => eprintln!(rt; "first difference: the book's bytes in case {place}"),
             Difference::Opening => eprintln!(rt; "first difference: opening in case {place}"),
             Difference::Record => eprintln!(rt; "first difference: the record in case {place}"),
+            Difference::Trail => eprintln!(rt; "first difference: the trail in case {place}"),
         }
     }
 }

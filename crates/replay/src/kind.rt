@@ -10,6 +10,7 @@ pub enum Kind {
     // To the book that is the first blob.
     OfferToGiven,
     Compose,
+    Trail,
     Other,
 }
 
@@ -24,6 +25,7 @@ impl From<u8> for Kind {
             5 => Kind::Offer,
             6 => Kind::OfferToGiven,
             16 => Kind::Compose,
+            18 => Kind::Trail,
             _ => Kind::Other,
         }
     }

@@ -3,9 +3,10 @@
 // data/judge.bin is a sample of the 6,437 judge cases among the vectors: the two smallest of each outcome (a number, or a
 // verdict with its reason) at each pair of flags, and of each outcome with the same map, role, issue, flag and root's reason.
 // data/books.bin has openings and offers, with the answers and the bytes of the plain book in Rust, and data/composes.bin points
-// that are handed over in parts, with the records of the oracle's writer. Of data/wrong_on_purpose.bin each case has a change in
-// what it expects, so all of them must be found different.
-// oracle/README.md says how the three are made. Of no file may there be a case for which there is no room.
+// that are handed over in parts, with the records of the oracle's writer; data/trails.bin has points that are judged with a trail, with
+// all reasons that the Rust sets. Of data/wrong_on_purpose.bin each case has a change in what it expects, so all of them must be found
+// different.
+// oracle/README.md says how the four are made. Of no file may there be a case for which there is no room.
 #![tactic(auto)]
 
 ghost use Rattle.std.specs.Prelude.{◌≤◌, length, IfOk};
@@ -23,6 +24,7 @@ mod lent;
 mod offer_case;
 mod open_case;
 mod sha256;
+mod trail_case;
 mod verify_case;
 
 use file::Room;

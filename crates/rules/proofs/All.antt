@@ -6,6 +6,8 @@ use mathlib.Core.List.Memᴰ
 use mathlib.Core.List.{List, [], ◌∷◌, ◌++◌, Memᴰ}
 use Rattle.base.specs.Base.{pick, when, concat, first_of, last_of}
 use Rattle.base.proofs.Option.{IfSome}
+use Rattle.reasons.specs.Invalid.{InvalidReason}
+use Rattle.rules.specs.Validate.{first_only}
 
 abbrev pub All : {A : Type 0} → (A → Type 0) → List A → Type 0
 All P [] = Unit
@@ -49,3 +51,8 @@ module _ {A : Type 0} (P : A → Type 0) where
   last-of-all [] h = tt
   last-of-all (x ∷ []) h = h.0
   last-of-all (x ∷ y ∷ l) h = last-of-all (y ∷ l) h.1
+
+-- of the first reason alone, as is_proof_ok returns it
+pub all-first_only : (P : InvalidReason → Type 0) (l : List InvalidReason) → All P l → All P (first_only l)
+all-first_only P [] h = tt
+all-first_only P (x ∷ l) h = (h.0, tt)

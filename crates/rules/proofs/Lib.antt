@@ -26,3 +26,9 @@ pub mod Told
 pub mod Edges
 pub mod ConvertedPieces
 pub mod Converted
+pub mod Rows
+pub mod RowsSplit
+pub mod RowsNext
+pub mod RowsWithin
+pub mod EntryReasons
+pub mod Fired

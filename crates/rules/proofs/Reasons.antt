@@ -18,9 +18,9 @@ use Rattle.reasons.specs.Invalid.{NotTrigger, TerminalTriggerBeforeLastProof, Ti
 use Rattle.reasons.specs.Invalid.{InvalidReason, NoRoundInDag, MustHaveReferencedPrevPoint, AnchorLink, AnchorLinkRole, AnchorLinkBadPath, DependencyRoundDropped, InvalidDependency, named, prev_seq_no, invalid_answer}
 use Rattle.reasons.specs.Verdict as verdict
 use Rattle.rules.specs.DagPoint.{DagPoint, Valid, TransInvalid, Invalid, IllFormed, NotFound, Dropped, Entry, IndirectEntry, entry_id, is_dropped, PointView, point_view, links_in, DepView, dep_view, top_in}
-use Rattle.rules.specs.Validate.{not_trigger, ends_too_soon, Findings, Taken, as_dependency, as_prev_point, as_version, aside, taken, direct_through, version_trail, dependency_trail, is_newer, join, dependency, findings_as, entry_findings, indirect_row, indirect_point_rows, indirect_findings, result_with, over_lists, validate, first_only, proof_row, trigger_proof_row, time_row, newer_row, seq_no, sticky_row, reached_row, target_row, anchor_time_row, carried_row, source_row, anchor_rows, point_rows}
+use Rattle.rules.specs.Validate.{not_trigger, ends_too_soon, Findings, Taken, as_dependency, as_prev_point, as_version, aside, taken, direct_through, version_trail, dependency_trail, is_newer, join, dependency, findings_as, entry_findings, indirect_row, indirect_point_rows, indirect_findings, result_with, over_lists, validate, proof_row, trigger_proof_row, time_row, newer_row, seq_no, sticky_row, reached_row, target_row, anchor_time_row, carried_row, source_row, anchor_rows, point_rows}
 use Rattle.point.proofs.Fits.{IdFits, RoleFits, PointFits}
-use Rattle.rules.proofs.All.{All, all_append, all-pick, all-when, all-concat, last-of-all}
+use Rattle.rules.proofs.All.{All, all-first_only, all_append, all-pick, all-when, all-concat, last-of-all}
 use Rattle.rules.proofs.AnswerBytes.{AnswerFits}
 use Rattle.rules.proofs.Decoded.{PrevFits, named_prev, verdict_prev}
 use Rattle.rules.specs.Answer.{verdict_answer}
@@ -37,10 +37,6 @@ named-fits n i m g a b h x y = record { id = h; first = x; second = y; peer = no
 -- of a reason that names a point and no number
 plain : (n : ℕ) (i : PointId) (m g : ℕ) → IdFits i → AnswerFits (named n i m g 0 0) × Unit {0}
 plain n i m g h = (named-fits n i m g 0 0 h (none-fits 4) (none-fits 4), tt)
-
-first-only : (l : List InvalidReason) → All ReasonFits l → All ReasonFits (first_only l)
-first-only [] h = tt
-first-only (x ∷ l) h = (h.0, tt)
 
 -- the previous seq_no
 prev-fits : (o : Option Sticky) → IfSome (λ (k : Sticky). k.seq_no < 256) o → (prev_seq_no (seq_no o) < 256 ^ 4) × PrevFits (seq_no o)
@@ -60,7 +56,7 @@ module _ (c : Settings) (required : Bool) (p : PointView) (own : RoleFits p.role
       let d : All ReasonFits time = search (all-when, plain) in
       let e : All ReasonFits anchor = search (all-when, plain) in
       let rows = trigger ∷ terminal ∷ time ∷ anchor ∷ [] in
-      first-only (concat rows) (all-concat ReasonFits rows (a, (b, (d, (e, tt)))))
+      all-first_only ReasonFits (concat rows) (all-concat ReasonFits rows (a, (b, (d, (e, tt)))))
 
   trigger-fits : (is_target : Bool) → All ReasonFits (trigger_proof_row p q is_target)
   unfolding trigger_proof_row

@@ -13,3 +13,5 @@ pub mod Edges
 pub mod Joined
 pub mod AnyOrder
 pub mod Converted
+pub mod Trail
+pub mod Fired

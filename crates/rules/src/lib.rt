@@ -5,6 +5,7 @@ ghost use Rattle.rules.specs.Told.{Told};
 ghost use Rattle.rules.specs.Joined.{Joined};
 ghost use Rattle.rules.specs.AnyOrder.{AnyOrder};
 ghost use Rattle.rules.specs.Converted.{RecordsConverted};
+ghost use Rattle.rules.specs.Fired.{RulesFired};
 
 // That an answer's number and bytes tell it, as a promise: without its proof this crate is not proved, nor any that uses it.
 pub fn answers_told()
@@ -24,4 +25,9 @@ pub fn any_order()
 // Likewise ticket U5's statement on verifying and judging converted records.
 pub fn records_converted()
     ensures { RecordsConverted }
+{}
+
+// Likewise ticket U2's statement on the rows of a judgement.
+pub fn rules_fired()
+    ensures { RulesFired }
 {}

@@ -11,6 +11,8 @@ ghost use Rattle.rules.specs.Judge.{tested, verify_with, verify_buffer, flags_ok
 ghost use Rattle.books.specs.Calls.{open_number, open_bytes, offer_bytes};
 ghost use Rattle.books.specs.Offer.{offer_of};
 ghost use Rattle.rules.specs.Answer.{verify_number, verify_answer, judge_number, judge_answer};
+ghost use Rattle.rules.specs.Trail.{trail_with, rows_told, trail_told};
+ghost use Rattle.trail.specs.Call.{trail_answer};
 ghost use Rattle.reasons.specs.Refusal.{numbered, filled_number, filled_count};
 ghost use Rattle.wutherdish.specs.Version.{version};
 
@@ -68,6 +70,55 @@ pub fn wutherdish_judge(
         Err(refusal) => refusal.number(),
         Ok(judged) => {
             answer::put_answer(answer, judged.into());
+            0
+        }
+    }
+}
+
+// Judges as wutherdish_judge does, and writes a row of eight bytes for each reason that it set, in the order of judging, into the front of
+// `trail`, their count into `rows`. Number 15, after judging's, if `trail` has space for fewer.
+pub fn wutherdish_trail(
+    settings: &[u8],
+    schedule: &[u8],
+    rec: &[u8],
+    leader: u8,
+    presence: u8,
+    list: &[u8],
+    peers: &mut [u8],
+    trail: &mut [u8],
+    rows: &mut u32,
+    answer: &mut [u8; 114],
+) -> u8
+    ensures number { result ≡ judge_number
+        (trail_answer leader presence list.now
+        (tested settings.now schedule.now rec.now (flags_ok leader presence) (length peers.old)) (length trail.old)) }
+    ensures told { answer.new ≡ judge_answer
+        (trail_answer leader presence list.now
+        (tested settings.now schedule.now rec.now (flags_ok leader presence) (length peers.old)) (length trail.old))
+        answer.old }
+    ensures buffer { peers.new ≡ verify_buffer
+        (tested settings.now schedule.now rec.now (flags_ok leader presence) (length peers.old))
+        peers.old }
+    ensures count { rows.new ≡ rows_told
+        (trail_answer leader presence list.now
+        (tested settings.now schedule.now rec.now (flags_ok leader presence) (length peers.old)) (length trail.old))
+        (trail_with leader presence list.now
+        (tested settings.now schedule.now rec.now (flags_ok leader presence) (length peers.old)))
+        rows.old }
+    ensures filled { trail.new ≡ trail_told
+        (trail_answer leader presence list.now
+        (tested settings.now schedule.now rec.now (flags_ok leader presence) (length peers.old)) (length trail.old))
+        (trail_with leader presence list.now
+        (tested settings.now schedule.now rec.now (flags_ok leader presence) (length peers.old)))
+        trail.old }
+{
+    match trail::judge_with_trail(
+        settings, schedule, rec, leader, presence, list, peers, trail,
+    ) {
+        Err(refusal) => refusal.number(),
+        Ok(trailed) => {
+            *rows = trailed.rows;
+            answer::put_answer(answer, trailed.verdict.into());
             0
         }
     }

@@ -12,6 +12,8 @@ ghost use Rattle.rules.specs.Judge.{tested, verify_with, verify_buffer, flags_ok
 ghost use Rattle.books.specs.Calls.{open_number, open_bytes, offer_bytes};
 ghost use Rattle.books.specs.Offer.{offer_of};
 ghost use Rattle.rules.specs.Answer.{verify_number, verify_answer, judge_number, judge_answer};
+ghost use Rattle.rules.specs.Trail.{trail_with, rows_told, trail_told};
+ghost use Rattle.trail.specs.Call.{trail_answer};
 ghost use Rattle.wutherdish.specs.Version.{version};
 
 // Verifies a point. Answers document 01's number, or 0 with the verdict in `answer` and the unknown peers in `peers`; with a
@@ -59,6 +61,49 @@ pub extern "C" fn wutherdish_judge(
 {
     wutherdish::wutherdish_judge(
         settings, schedule, rec, leader, presence, list, peers, answer,
+    )
+}
+
+// Judges as wutherdish_judge does, and writes a row of eight bytes for each reason that it set, in the order of judging, into the front of
+// `trail`, their count into `rows`. Number 15, after judging's, if `trail` has space for fewer.
+#[unsafe(no_mangle)]
+pub extern "C" fn wutherdish_trail(
+    settings: &[u8],
+    schedule: &[u8],
+    rec: &[u8],
+    leader: u8,
+    presence: u8,
+    list: &[u8],
+    peers: &mut [u8],
+    trail: &mut [u8],
+    rows: &mut u32,
+    answer: &mut [u8; 114],
+) -> u8
+    ensures number { result ≡ judge_number
+        (trail_answer leader presence list.now
+        (tested settings.now schedule.now rec.now (flags_ok leader presence) (length peers.old)) (length trail.old)) }
+    ensures told { answer.new ≡ judge_answer
+        (trail_answer leader presence list.now
+        (tested settings.now schedule.now rec.now (flags_ok leader presence) (length peers.old)) (length trail.old))
+        answer.old }
+    ensures buffer { peers.new ≡ verify_buffer
+        (tested settings.now schedule.now rec.now (flags_ok leader presence) (length peers.old))
+        peers.old }
+    ensures count { rows.new ≡ rows_told
+        (trail_answer leader presence list.now
+        (tested settings.now schedule.now rec.now (flags_ok leader presence) (length peers.old)) (length trail.old))
+        (trail_with leader presence list.now
+        (tested settings.now schedule.now rec.now (flags_ok leader presence) (length peers.old)))
+        rows.old }
+    ensures filled { trail.new ≡ trail_told
+        (trail_answer leader presence list.now
+        (tested settings.now schedule.now rec.now (flags_ok leader presence) (length peers.old)) (length trail.old))
+        (trail_with leader presence list.now
+        (tested settings.now schedule.now rec.now (flags_ok leader presence) (length peers.old)))
+        trail.old }
+{
+    wutherdish::wutherdish_trail(
+        settings, schedule, rec, leader, presence, list, peers, trail, rows, answer,
     )
 }
 

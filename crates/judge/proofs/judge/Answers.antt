@@ -4,39 +4,22 @@ use native.Mathlib.Omega.{arith}
 use mathlib.Core.Path.{◌≡◌, refl, ap, sym, ◌∙◌}
 use Rattle.std.specs.Prelude.{Ok, Some}
 use lib.ListN.{length}
-use Rattle.point.specs.Said.{said}
-use Rattle.schedule.specs.Code.{settings_of}
-use Rattle.schedule.specs.PeerSchedule.{peer_schedule_of}
 use Rattle.reasons.specs.declared.refusal.Refusal.TheVariants.{Short}
-use Rattle.rules.specs.Judge.{admitted, tested_with, tested, flags_ok}
-use Rattle.verify.proofs.Laws.{read_all}
+use Rattle.rules.specs.Judge.{admitted, tested, flags_ok}
 use Rattle.judge.specs.Code.{before_of}
+use Rattle.judge.specs.Input.{input_of, tested_of}
 use Rattle.judge.proofs.Laws.{tested-short, tested-admitted, answer-number, answer-taken}
 use Rattle.judge.proofs.judge.Goals as goal
-use Rattle.judge.proofs.judge.Goals.{After-are_in_domain, Else-peers-lt-PEERS_ROOM}
-
--- what the input was tested for
-read : (c : After-are_in_domain) →
-    let a = c.args in
-    tested a.settings.now a.schedule.now a.rec.now (flags_ok a.leader a.presence) (length a.peers.now)
-    ≡ tested_with (Some (settings_of c.in_ok-conf.conf)) (Some (peer_schedule_of c.in_ok-schedule.schedule)) (Some (said c.in_ok-point.point)) (flags_ok a.leader a.presence) (length a.peers.now)
-read c = read_all _ _ _ _ _ _ _ _ _ _ _ c.read_settings.ensures c.in_ok-conf.ensures.ok_part c.read_peer_schedule.ensures c.in_ok-schedule.ensures.ok_part c.read_point.ensures c.in_ok-point.ensures.ok_part
+use Rattle.judge.proofs.judge.Goals.{Else-peers-lt-PEERS_ROOM}
 
 taken : (c : Else-peers-lt-PEERS_ROOM) →
     let a = c.args in
-    tested a.settings.now a.schedule.now a.rec.now (flags_ok a.leader a.presence) (length a.peers.now)
-    ≡ admitted (record {
-      settings = settings_of c.in_ok-conf.conf;
-      schedule = peer_schedule_of c.in_ok-schedule.schedule;
-      point = said c.in_ok-point.point;
-    })
-taken c =
-    read_all _ _ _ _ _ _ _ _ _ _ _ c.read_settings.ensures c.in_ok-conf.ensures.ok_part c.read_peer_schedule.ensures c.in_ok-schedule.ensures.ok_part c.read_point.ensures c.in_ok-point.ensures.ok_part
-    ∙ tested-admitted _ _ _ _ _ (sym c.are_in_domain.ensures ∙ c.if-not-are_in_domain.false) c.if-peers-lt-PEERS_ROOM.false
+    tested a.settings.now a.schedule.now a.rec.now (flags_ok a.leader a.presence) (length a.peers.now) ≡ admitted (input_of c.in_ok-input.input)
+taken c = tested-admitted _ _ _ (c.in_ok-input.ensures _) c.if-peers-lt-PEERS_ROOM.false
 
 pub returns-then-peers-lt-PEERS_ROOM : goal.returns-then-peers-lt-PEERS_ROOM
 returns-then-peers-lt-PEERS_ROOM c =
-    let h = answer-number _ _ _ _ Short _ (read (goal.at.returns-then-peers-lt-PEERS_ROOM c).After-are_in_domain ∙ tested-short _ _ _ _ _ (sym c.are_in_domain.ensures ∙ c.if-not-are_in_domain.false) c.if-peers-lt-PEERS_ROOM.true) in
+    let h = answer-number _ _ _ _ Short _ (tested-short _ _ _ (c.in_ok-input.ensures _) c.if-peers-lt-PEERS_ROOM.true) in
     record { same = h.0; buffer = h.1 }
 
 pub returns-in_err-verdict : goal.returns-in_err-verdict

@@ -1,0 +1,4 @@
+mod Laws
+mod WalkLaws
+mod Reasons
+mod CallLaws
