@@ -142,6 +142,38 @@ uint8_t wutherdish_judge(const uint8_t *settings, size_t settings_len,
                          uint8_t answer[WUTHERDISH_ANSWER]);
 
 /*
+ * Judges a point as above, and says all reasons that judging sets where an answer has the last one alone: the trail, a row of eight
+ * bytes for each reason, in the order in which they are set.
+ *
+ *   at  bytes  what
+ *    0      1  the list of the entry that set it: 1 direct, 2 indirect; 0 if it was a presence rule (reason 2), and no entry
+ *    1      2  the entry's place in that list, from 0: direct and indirect entries are each counted by themselves; list 0: 0
+ *    3      1  the reason's number, 2 to 19
+ *    4      1  the role that it names: 0 proof, 1 trigger, 255 none
+ *    5      3  zeros
+ *
+ * Only an invalid point has rows, and then the last one has the reason of the answer. Reason 2 stands alone. A dropped entry has a
+ * row if it is direct and no entry before it has one, and ends the list; indirect entries have rows only where no direct one has.
+ *
+ * It tests what judging tests, in the same order, and at last
+ *
+ *   15  the trail has less than 8 bytes for each row
+ *
+ * A trail of list_len + 8 bytes has room for all rows: an entry that can set more than one reason sets at most ten, and its record
+ * alone has 188 bytes. With 0 the answer and the peer buffer are as judging sets them, *rows is how many rows there are, and they
+ * stand at the front of the trail, whose bytes after them keep what they held. With a number *rows and all of the trail keep what
+ * they held too. As above, trail and *rows overlap neither each other nor the rest; rows is aligned as a uint32_t.
+ */
+uint8_t wutherdish_trail(const uint8_t *settings, size_t settings_len,
+                         const uint8_t *schedule, size_t schedule_len,
+                         const uint8_t *record, size_t record_len,
+                         uint8_t leader, uint8_t presence,
+                         const uint8_t *list, size_t list_len,
+                         uint8_t *peers, size_t peers_len,
+                         uint8_t *trail, size_t trail_len, uint32_t *rows,
+                         uint8_t answer[WUTHERDISH_ANSWER]);
+
+/*
  * A book keeps points with their verdicts in a slice of 47 to 16,777,216 bytes: settings, at most 4,096 entries, zeros.
  * Opening sets every byte of the slice. It tests, in this order:
  *

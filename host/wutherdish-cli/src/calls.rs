@@ -1,12 +1,15 @@
 //! The calls that a case makes.
 
 use wutherdish::lent::{self, ANSWER};
-use wutherdish::{Digest, PeerId, Point, PointId, PointRole, Refusal, Verdict, Verified, VerifyError};
+use wutherdish::{Digest, Fault, FaultOf, PeerId, Point, PointId, PointRole, Refusal, Verdict, Verified, VerifyError};
 
 use crate::arrangement::Arrangement;
+use crate::entries::Entries;
 
 /// No call writes more to what it is lent: the longest record.
 const MOST_ROOM: usize = 41_126;
+/// How many bytes a row of a trail has.
+const ROW: usize = 8;
 
 /// A call, with what it is lent but for what it writes to.
 pub enum Call<'a> {
@@ -34,6 +37,8 @@ pub struct Judging<'a> {
     /// How many rounds are in the DAG.
     pub presence: u8,
     list: &'a [u8],
+    /// How many bytes a trail is lent, if one is.
+    trail: Option<usize>,
 }
 
 /// A point, as it is handed over to be written.
@@ -54,6 +59,8 @@ pub enum Answer {
     Passed,
     /// A verdict; verifying gives some of them.
     Verdict(Verdict),
+    /// A verdict, and all faults that judging found.
+    Trail(Verdict, Vec<FaultOf>),
     /// The record was converted.
     Converted,
     /// The record was written.
@@ -77,11 +84,7 @@ impl<'a> Call<'a> {
             (1, &[settings, schedule, record, room] | &[settings, schedule, record, room, _]) => {
                 (Self::Verify(Network { settings, schedule, record }), room)
             }
-            (
-                2,
-                &[settings, schedule, record, &[leader, presence], list, room]
-                | &[settings, schedule, record, &[leader, presence], list, room, _],
-            ) => (Self::Judge(Network { settings, schedule, record }, Judging { leader, presence, list }), room),
+            (2, [parts @ .., room] | [parts @ .., room, _]) if parts.len() == 5 => (Self::judge(parts, None)?, room),
             (16, [parts @ .., room] | [parts @ .., room, _]) if parts.len() == 9 => {
                 (Self::Write(Parts::read(parts)?), room)
             }
@@ -89,8 +92,24 @@ impl<'a> Call<'a> {
                 (Self::Convert(Arrangement::Columns, record), room)
             }
             (17, &[&[1], record, room] | &[&[1], record, room, _]) => (Self::Convert(Arrangement::Pairs, record), room),
+            (18, [parts @ .., room, trail] | [parts @ .., room, trail, _]) if parts.len() == 5 => {
+                let length = u32::from_le_bytes((*trail).try_into().ok()?);
+                (Self::judge(parts, Some(length.try_into().ok()?))?, room)
+            }
             _ => return None,
         })
+    }
+
+    fn judge(parts: &[&'a [u8]], trail: Option<usize>) -> Option<Self> {
+        let &[settings, schedule, record, &[leader, presence], list] = parts else { return None };
+        Some(Self::Judge(Network { settings, schedule, record }, Judging { leader, presence, list, trail }))
+    }
+
+    /// Lends it a trail that is long enough, if it judges and its case has none.
+    pub fn lend_trail(&mut self) {
+        if let Self::Judge(_, judging) = self {
+            judging.trail.get_or_insert(usize::MAX);
+        }
     }
 
     /// The bytes of its list; none where it doesn't judge.
@@ -116,10 +135,15 @@ impl<'a> Call<'a> {
         // more of them make no difference, and a case may name 4 GiB
         let mut room = vec![0; room.min(MOST_ROOM)];
         let mut answer = [0; ANSWER];
-        let number = self.number(&mut room, &mut answer);
+        let mut trail = self.trail();
+        let mut rows = 0;
+        let number = self.number(&mut room, trail.as_deref_mut().map(|trail| (trail, &mut rows)), &mut answer);
         let read = match (number, self) {
             (0, Self::Verify(_)) => Verified::read(&answer, &room).map(Answer::from),
-            (0, Self::Judge(..)) => Verdict::read(&answer, &room).map(Answer::Verdict),
+            (0, Self::Judge(_, judging)) => Verdict::read(&answer, &room).and_then(|verdict| match &trail {
+                None => Some(Answer::Verdict(verdict)),
+                Some(trail) => Some(Answer::Trail(verdict, judging.faults(trail, rows)?)),
+            }),
             (0, Self::Convert(..)) => Some(Answer::Converted),
             (0, Self::Write(_)) => Some(Answer::Written),
             (number, _) => return Err(Refusal::new(number)),
@@ -127,19 +151,42 @@ impl<'a> Call<'a> {
         read.ok_or(Refusal::Foreign(0))
     }
 
+    /// The trail that it is lent, if it is lent one. More bytes than a row's over its list make no difference.
+    fn trail(&self) -> Option<Vec<u8>> {
+        match self {
+            Self::Judge(_, Judging { list, trail, .. }) => trail.map(|length| vec![0; length.min(list.len() + ROW)]),
+            Self::Verify(_) | Self::Convert(..) | Self::Write(_) => None,
+        }
+    }
+
     /// The number that the call gives, 0 for none.
-    fn number(&self, room: &mut [u8], answer: &mut [u8; ANSWER]) -> u8 {
+    fn number(&self, room: &mut [u8], trail: Option<(&mut [u8], &mut u32)>, answer: &mut [u8; ANSWER]) -> u8 {
         match self {
             Self::Verify(Network { settings, schedule, record }) => {
                 lent::verify(settings, schedule, record, room, answer)
             }
-            Self::Judge(Network { settings, schedule, record }, Judging { leader, presence, list }) => {
-                lent::judge(settings, schedule, record, *leader, *presence, list, room, answer)
+            Self::Judge(Network { settings, schedule, record }, Judging { leader, presence, list, .. }) => {
+                match trail {
+                    None => lent::judge(settings, schedule, record, *leader, *presence, list, room, answer),
+                    Some((trail, rows)) => {
+                        lent::trail(settings, schedule, record, *leader, *presence, list, room, trail, rows, answer)
+                    }
+                }
             }
             Self::Convert(Arrangement::Columns, record) => lent::pairs_to_columns(record, room, &mut 0),
             Self::Convert(Arrangement::Pairs, record) => lent::columns_to_pairs(record, room, &mut 0),
             Self::Write(parts) => parts.write(room),
         }
+    }
+}
+
+impl Judging<'_> {
+    /// What the rows of a trail say, with the ids of the entries.
+    fn faults(&self, trail: &[u8], rows: u32) -> Option<Vec<FaultOf>> {
+        let entries = Entries::of(self.list);
+        let rows = trail.as_chunks::<ROW>().0.get(..rows.try_into().ok()?)?;
+        let faults = rows.iter().map(Fault::read);
+        faults.map(|fault| fault.map(|fault| FaultOf(fault, entries.id(fault.set_by)))).collect()
     }
 }
 

@@ -34,6 +34,8 @@ pub struct Explaining {
     pub full_ids: bool,
     /// Whether the last point alone is explained.
     pub last: bool,
+    /// Whether all faults are said that judging finds.
+    pub trail: bool,
     /// Whether progress is shown in any case.
     pub progress: bool,
 }
@@ -43,10 +45,14 @@ pub fn explain(file: &OsStr, options: &Explaining) -> Result<(), Problem> {
     let mut out = Output::new(options.book.is_some())?;
     let input = Input::read(file)?;
     keep_apart(&input, options.book.as_deref())?;
-    let bad = match (input.kind()?, &options.book) {
+    let kind = input.kind()?;
+    if options.trail && kind != Kind::Cases {
+        return Err(Problem::Usage(format!("{} is no file of cases, and --trail is for cases of judging", input.name)));
+    }
+    let bad = match (kind, &options.book) {
         (Kind::Cases, None) => {
             let ids = || Ids::of_cases(Cases::new(&input.bytes));
-            explaining(&input, options, ids, &mut out).cases(Cases::new(&input.bytes))?
+            explaining(&input, options, ids, &mut out).cases(Cases::new(&input.bytes), options.trail)?
         }
         (Kind::Record, None) => {
             let point = Point::try_from(&input.bytes[..]).map_err(|unreadable| input.bad(unreadable))?;

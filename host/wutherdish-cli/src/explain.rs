@@ -49,8 +49,8 @@ impl<W: Write> Explain<'_, W> {
         Ok(bad)
     }
 
-    /// Makes the calls of a file of cases and explains the answers, likewise.
-    pub fn cases(&mut self, cases: Cases<'_>) -> Result<Option<Unreadable>, Problem> {
+    /// Makes the calls of a file of cases and explains the answers, likewise; with a trail for each that judges, if that is wanted.
+    pub fn cases(&mut self, cases: Cases<'_>, with_trail: bool) -> Result<Option<Unreadable>, Problem> {
         if !self.last {
             self.note_names()?;
         }
@@ -58,7 +58,10 @@ impl<W: Write> Explain<'_, W> {
         let (mut bad, mut last) = (None, None);
         for case in cases {
             match case {
-                Ok(case) => {
+                Ok(mut case) => {
+                    if with_trail {
+                        case.call.lend_trail();
+                    }
                     let answer = case.call.answer(case.room);
                     last = self.explain(case.place, &self.case(&case), &answer)?;
                     summary.add(&answer);

@@ -5,6 +5,7 @@ use std::collections::BTreeSet;
 use wutherdish::{AnchorLink, InvalidDependency, Kept, PeerId, Point, PointId, Schedule, Settings, Status};
 
 use crate::cases::Cases;
+use crate::entries::fields;
 use crate::feed::Feed;
 
 /// A peer's id or a point's digest.
@@ -50,12 +51,10 @@ impl Ids {
         let mut ids = Self::default();
         for case in cases.flatten() {
             case.call.point().iter().for_each(|point| ids.add_point(point));
-            let mut list = case.call.list();
-            while let Some((tag, content, rest)) = field(list) {
+            for (tag, content) in fields(case.call.list()) {
                 if let (1 | 17 | 18, Some(id)) = (tag, content.get(4..68)) {
                     ids.0.extend(id.as_chunks::<32>().0);
                 }
-                list = rest;
             }
         }
         ids
@@ -89,11 +88,4 @@ impl Ids {
             }
         }
     }
-}
-
-/// The field at the front of a list: its tag, its content, and what follows it.
-fn field(bytes: &[u8]) -> Option<(u8, &[u8], &[u8])> {
-    let (&[tag, low, high], rest) = bytes.split_first_chunk()?;
-    let (content, rest) = rest.split_at_checked(u16::from_le_bytes([low, high]).into())?;
-    Some((tag, content, rest))
 }

@@ -7,6 +7,7 @@ mod cases;
 mod commands;
 mod compose;
 mod convert;
+mod entries;
 mod explain;
 mod feed;
 mod files;
@@ -72,6 +73,7 @@ fn explain(mut arguments: Arguments) -> Result<(), Problem> {
         book: arguments.value(&usage::BOOK),
         full_ids: arguments.flag(&usage::FULL_IDS),
         last: arguments.flag(&usage::LAST),
+        trail: arguments.flag(&usage::TRAIL),
         progress: arguments.flag(&usage::PROGRESS),
     };
     let file = file(&mut arguments)?;

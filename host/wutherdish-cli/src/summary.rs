@@ -38,7 +38,7 @@ impl Summary {
             Ok(Answer::Passed) => self.count('P', None),
             Ok(Answer::Converted) => self.count('C', None),
             Ok(Answer::Written) => self.count('W', None),
-            Ok(Answer::Verdict(verdict)) => self.count(verdict.letter(), None),
+            Ok(Answer::Verdict(verdict) | Answer::Trail(verdict, _)) => self.count(verdict.letter(), None),
             Err(refusal) => self.count('-', Some(refusal.number())),
         }
     }

@@ -23,6 +23,13 @@ pub struct Command {
 
 /// Explains the last point alone.
 pub const LAST: Opt = Opt { name: "--last", value: None, what: "explains the last point alone" };
+/// Says all faults.
+pub const TRAIL: Opt = Opt {
+    name: "--trail",
+    value: None,
+    what: "of cases of judging: says all faults of a point, in the order in which the rules fired,\n\
+           each with the entry of the list that set it",
+};
 /// The book's size.
 pub const ROOM: Opt = Opt {
     name: "--room",
@@ -69,15 +76,15 @@ pub const HELP: Opt = Opt { name: "--help", value: None, what: "says how the com
 pub const VERSION: Opt =
     Opt { name: "--version", value: None, what: "says which version this is, and which library it uses" };
 
-static OPTIONS: [&Opt; 11] =
-    [&LAST, &ROOM, &BOOK, &FULL_IDS, &PROGRESS, &APPEND, &LEADER, &TO, &OUTPUT, &HELP, &VERSION];
+static OPTIONS: [&Opt; 12] =
+    [&LAST, &TRAIL, &ROOM, &BOOK, &FULL_IDS, &PROGRESS, &APPEND, &LEADER, &TO, &OUTPUT, &HELP, &VERSION];
 
 static COMMANDS: [Command; 8] = [
     Command {
         name: "explain",
         takes: "FILE",
         what: "what each point of a feed or case of a file is found to be, and why; or what a point record says",
-        options: &[&LAST, &ROOM, &BOOK, &FULL_IDS, &PROGRESS],
+        options: &[&LAST, &TRAIL, &ROOM, &BOOK, &FULL_IDS, &PROGRESS],
     },
     Command {
         name: "show",

@@ -53,8 +53,9 @@ impl Words {
 
     /// The answer to a point, line by line.
     pub fn answer(&self, answer: &Result<Answer, Refusal>) -> Vec<String> {
-        let verdict = match answer {
-            Ok(Answer::Verdict(verdict)) => verdict,
+        let (verdict, faults) = match answer {
+            Ok(Answer::Verdict(verdict)) => (verdict, &[][..]),
+            Ok(Answer::Trail(verdict, faults)) => (verdict, &faults[..]),
             Ok(Answer::Passed) => return vec![Verified::Passed.to_string()],
             Ok(Answer::Converted) => return vec!["converted".into()],
             Ok(Answer::Written) => return vec!["written".into()],
@@ -65,6 +66,10 @@ impl Words {
         if let Verdict::IllFormed(IllFormedReason::UnknownPeers { peers, .. }) = verdict {
             let more = peers.iter().skip(NAMED);
             lines.extend(more.map(|peer| format!("unknown too: {}", self.names.say(peer))));
+        }
+        if !faults.is_empty() {
+            lines.push(format!("{}, in the order in which the rules fired:", counted(faults.len(), "fault")));
+            lines.extend(faults.iter().map(|fault| format!("  {}", self.names.say(fault))));
         }
         lines
     }

@@ -54,9 +54,19 @@ pub fn verify(world: &World, point: &Point, peer_buffer: u32) -> Input {
 
 /// A case of judging, where n of the point's rounds are in the DAG; its author does not lead its round.
 pub fn judge(world: &World, point: &Point, presence: u8, list: &[u8]) -> Input {
-    let (schedule, record) = (written(world.schedule.to_bytes()), written(point.to_bytes()));
-    let peer_buffer = (PEER_BUFFER as u32).to_le_bytes();
-    case(2, &[&world.settings.to_bytes(), &schedule, &record, &[0, presence], list, &peer_buffer])
+    judging(2, world, point, presence, list, &[])
+}
+
+/// The same with a trail of this many bytes.
+pub fn judge_with_trail(world: &World, point: &Point, presence: u8, list: &[u8], trail: u32) -> Input {
+    judging(18, world, point, presence, list, &[&trail.to_le_bytes()])
+}
+
+fn judging(kind: u8, world: &World, point: &Point, presence: u8, list: &[u8], more: &[&[u8]]) -> Input {
+    let (settings, schedule) = (world.settings.to_bytes(), written(world.schedule.to_bytes()));
+    let (record, peer_buffer) = (written(point.to_bytes()), (PEER_BUFFER as u32).to_le_bytes());
+    let blobs = [&settings[..], &schedule, &record, &[0, presence], list, &peer_buffer];
+    case(kind, &[&blobs, more].concat())
 }
 
 /// A case of converting a point's record from pairs to columns with an output of this length.

@@ -25,11 +25,11 @@ pub enum Input {
     /// What `tally` reads: settings, a schedule, then leader byte and record of each point. Its points are offered to a
     /// book of 65,536 bytes.
     Feed(Vec<u8>),
-    /// One call: kind (1 verify, 2 judge, 16 write, 17 convert), the number of blobs (1), then each blob as its length (4, little-endian)
-    /// and its bytes. Verifying: settings, schedule, record, the peer buffer's length (4). Judging: settings, schedule, record,
-    /// leader and presence (2), list, the peer buffer's length (4). Writing: id (68), payload (8), includes, witness, evidence,
-    /// proof link (102), trigger link (102), role, seq_no and is_last (3), times (16), the output's length (4). Converting: 0
-    /// from pairs to columns or 1 back (1), record, the output's length (4).
+    /// One call: kind (1 verify, 2 judge, 16 write, 17 convert, 18 judge with a trail), the number of blobs (1), then each blob as its
+    /// length (4, little-endian) and its bytes. Verifying: settings, schedule, record, the peer buffer's length (4). Judging: settings,
+    /// schedule, record, leader and presence (2), list, the peer buffer's length (4), and with a trail its length (4). Writing: id (68),
+    /// payload (8), includes, witness, evidence, proof link (102), trigger link (102), role, seq_no and is_last (3), times (16), the
+    /// output's length (4). Converting: 0 from pairs to columns or 1 back (1), record, the output's length (4).
     Case(Vec<u8>),
 }
 

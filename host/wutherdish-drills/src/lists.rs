@@ -1,4 +1,4 @@
-//! Cases for judging, in pairs that are told apart by one thing in their lists.
+//! Cases for judging: pairs that are told apart by one thing in their lists, and a point with several faults.
 
 use wutherdish::AnchorStageRole::{Proof, Trigger};
 use wutherdish::{Dependency, List, PeerId, Point, State};
@@ -12,7 +12,7 @@ use crate::{Answer, Drill};
 pub fn drills() -> Vec<Drill> {
     let mut drills = vec![with_version(), without_version(), with_target(), without_target()];
     drills.extend([flag_of_judging(), flag_of_arrival(), tie_first(), tie_second()]);
-    drills.extend([two_reasons(), two_reasons_reversed()]);
+    drills.extend([two_reasons(), two_reasons_reversed(), four_faults()]);
     drills
 }
 
@@ -152,4 +152,20 @@ fn two_reasons_reversed() -> Drill {
     let (world, point, list) = with_two_reasons(false);
     let what = "the case of two-reasons, the two entries in the other order: invalid as well, for the other reason";
     case("two-reasons-reversed", what, &world, &point, &list, invalid(19))
+}
+
+/// B's point of round 12 has the time of its previous point and an anchor time of its own; A's of round 11, through which its links
+/// lead, is too late, and C's was not found.
+fn four_faults() -> Drill {
+    let world = World::new(E, &[A, B, C]);
+    let links = world.to_genesis(A);
+    let point = world.above_all(12, B).link(Proof, links).link(Trigger, links);
+    let point = Point { anchor_time: WRONG_ANCHOR_TIME, ..point };
+    let previous = Point { time: point.time, ..world.first(B) };
+    let late = Point { time: point.time + 501, ..world.first(A) };
+    let list = List::new().direct(valid(&previous).certified()).direct(valid(&late));
+    let list = list.direct(Dependency::new(State::NotFound { id: id(11, C) }));
+    let list = with_targets(list, &valid(&world.genesis()));
+    let what = "a case for judging: three entries give four reasons, of which the verdict names the last";
+    case("four-faults", what, &world, &point, &list, invalid(19))
 }

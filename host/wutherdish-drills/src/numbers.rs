@@ -3,13 +3,13 @@
 use wutherdish::lent::PEER_BUFFER;
 use wutherdish::{Dependency, Digest, List, PeerId, Point, State};
 
-use crate::input::{Feed, convert, judge, verify, write_twice, written};
+use crate::input::{Feed, convert, judge, judge_with_trail, verify, write_twice, written};
 use crate::world::{A, B, GENESIS_ROUND, World, id, second_version, trigger};
 use crate::{Answer, Drill};
 
 pub fn drills() -> Vec<Drill> {
     let mut drills = vec![settings(), schedule(), point_record(), domain(), short(), horizon()];
-    drills.extend([entries(), mismatch(), uncovered(), kept(), full(), twice(), output()]);
+    drills.extend([entries(), mismatch(), uncovered(), kept(), full(), twice(), output(), trail()]);
     drills
 }
 
@@ -107,4 +107,12 @@ fn output() -> Drill {
     let input = convert(&World::of_one().genesis(), |length| length - 1);
     let what = "a case for converting: the output is one byte shorter than the record";
     Drill { name: "number-14", what, input, answer: Answer::Number(14) }
+}
+
+/// The row of invalid 2 has eight bytes.
+fn trail() -> Drill {
+    let world = World::of_three();
+    let input = judge_with_trail(&world, &world.first(B), 0, &[], 7);
+    let what = "a case for judging with a trail: it is one byte too short for its one row";
+    Drill { name: "number-15", what, input, answer: Answer::Number(15) }
 }

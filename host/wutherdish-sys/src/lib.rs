@@ -54,6 +54,30 @@ unsafe extern "C" {
         answer: *mut [u8; ANSWER],
     ) -> u8;
 
+    /// Judges a point by a list, and says all reasons that are set.
+    ///
+    /// # Safety
+    ///
+    /// As of [`wutherdish_verify`]; the trail and the count are written too, and the count's pointer is aligned.
+    pub unsafe fn wutherdish_trail(
+        settings: *const u8,
+        settings_len: usize,
+        schedule: *const u8,
+        schedule_len: usize,
+        record: *const u8,
+        record_len: usize,
+        leader: u8,
+        presence: u8,
+        list: *const u8,
+        list_len: usize,
+        peers: *mut u8,
+        peers_len: usize,
+        trail: *mut u8,
+        trail_len: usize,
+        rows: *mut u32,
+        answer: *mut [u8; ANSWER],
+    ) -> u8;
+
     /// Opens a book in a slice.
     ///
     /// # Safety

@@ -1,5 +1,6 @@
 //! Verifying and judging, with their answers as enums.
 
+use crate::fault::{Fault, ROW};
 use crate::lent::{self, ANSWER, PEER_BUFFER};
 use crate::reasons::{Verdict, Verified};
 use crate::refusal::Refusal;
@@ -77,6 +78,63 @@ pub fn judge(
     answered(Verdict::read, |peers, answer| {
         lent::judge(settings, schedule, record, leader, presence, list, peers, answer)
     })
+}
+
+/// Judges a point as [`judge`] does, and says every reason that judging set, in the order in which they were set; the verdict has the
+/// last of them alone. Only an invalid point has any.
+///
+/// ```
+/// use wutherdish::{Dependency, Digest, List, PeerId, Point, PointId, Schedule, SetBy, Settings, State, judge_with_trail};
+/// # use wutherdish::AnchorStageRole::{Proof, Trigger};
+/// # use wutherdish::{AnchorLink, PointRole, Through};
+///
+/// # let settings = Settings {
+/// #     genesis_round: 11,
+/// #     genesis_digest: Digest([9; 32]),
+/// #     payload_batch_bytes: 1_000,
+/// #     sticky_anchors: 0,
+/// #     clock_skew_millis: 5_000,
+/// #     commit_history_rounds: 20,
+/// # };
+/// # let [founder, ada, bea, cy] = [1, 2, 3, 4].map(|byte| PeerId([byte; 32]));
+/// # let schedule = Schedule::new(1_000).span(11, [founder]).span(12, [ada, bea, cy]).to_bytes()?;
+/// # let id = PointId { round: 11, digest: settings.genesis_digest, author: founder };
+/// # let genesis = Point::new(id, 80_000, 80_000).include(founder, Digest([0; 32])).role(PointRole::Genesis);
+/// # let link = AnchorLink::Direct(Through::Includes(founder));
+/// # let point = Point::new(PointId { round: 12, digest: Digest([10; 32]), author: ada }, 70_001, 70_000)
+/// #     .include(founder, genesis.id.digest)
+/// #     .link(Proof, link)
+/// #     .link(Trigger, link);
+/// // a point above genesis, which is later than it and has another anchor time
+/// let list = List::new().direct(Dependency::new(State::Valid { record: genesis.to_bytes()? }));
+/// let (settings, record, list) = (settings.to_bytes(), point.to_bytes()?, list.to_bytes()?);
+/// let (verdict, faults) = judge_with_trail(&settings, &schedule, &record, 0, 3, &list)?;
+/// assert_eq!(verdict.reason_number(), 8);
+/// let said: Vec<(SetBy, u8)> = faults.iter().map(|fault| (fault.set_by, fault.reason.0)).collect();
+/// assert_eq!(said, [(SetBy::Direct(0), 11), (SetBy::Direct(0), 8)]);
+/// assert_eq!(
+///     faults[1].to_string(),
+///     "direct entry 0: AnchorTimeNotInheritedFromProof (8), its anchor time is not that of a point which its proof link \
+///      goes through or leads to"
+/// );
+/// # Ok::<(), Box<dyn std::error::Error>>(())
+/// ```
+pub fn judge_with_trail(
+    settings: &[u8],
+    schedule: &[u8],
+    record: &[u8],
+    leader: u8,
+    presence: u8,
+    list: &[u8],
+) -> Result<(Verdict, Vec<Fault>), Refusal> {
+    // room for all rows, as include/wutherdish.h says: so the point is judged once, and never refused with 15
+    let (mut trail, mut rows) = (vec![0; list.len() + ROW], 0);
+    let verdict = answered(Verdict::read, |peers, answer| {
+        lent::trail(settings, schedule, record, leader, presence, list, peers, &mut trail, &mut rows, answer)
+    })?;
+    let rows = usize::try_from(rows).ok().and_then(|count| trail.as_chunks::<ROW>().0.get(..count));
+    let faults = rows.and_then(|rows| rows.iter().map(Fault::read).collect());
+    faults.map(|faults| (verdict, faults)).ok_or(Refusal::Foreign(0))
 }
 
 /// Lends a call its peer buffer and its answer, and reads what it says.

@@ -76,6 +76,45 @@ pub fn judge(
     }
 }
 
+/// Judges a point, likewise, and says all reasons that are set: where the answer is set, their rows of 8 bytes stand at the front of
+/// the trail. `rows` is how many there are then; the rest of the trail keeps its bytes. One that is 8 bytes longer than the list has
+/// room for all rows, and [`Fault::read`](crate::Fault::read) says what a row says.
+#[expect(clippy::too_many_arguments, reason = "those of the call")]
+pub fn trail(
+    settings: &[u8],
+    schedule: &[u8],
+    record: &[u8],
+    leader: u8,
+    presence: u8,
+    list: &[u8],
+    peers: &mut [u8],
+    trail: &mut [u8],
+    rows: &mut u32,
+    answer: &mut [u8; ANSWER],
+) -> u8 {
+    // SAFETY: as in `verify`.
+    unsafe {
+        wutherdish_sys::wutherdish_trail(
+            settings.as_ptr(),
+            settings.len(),
+            schedule.as_ptr(),
+            schedule.len(),
+            record.as_ptr(),
+            record.len(),
+            leader,
+            presence,
+            list.as_ptr(),
+            list.len(),
+            peers.as_mut_ptr(),
+            peers.len(),
+            trail.as_mut_ptr(),
+            trail.len(),
+            rows,
+            answer,
+        )
+    }
+}
+
 /// Opens a book in a slice: gives document 01's number, or 0 where it is opened.
 pub fn open(book: &mut [u8], settings: &[u8]) -> u8 {
     // SAFETY: as in `verify`.

@@ -125,8 +125,8 @@ fn row(rows: &[Row], number: u8) -> Option<&Row> {
     rows.get(usize::from(number).checked_sub(1)?)
 }
 
-/// The name, the number and the sentence, without what a reason carries.
-fn write_row(f: &mut Formatter<'_>, name: Option<&str>, number: u8, sentence: &str) -> fmt::Result {
+/// The name, the number and the sentence, without what a reason carries where that is not filled in.
+pub(crate) fn write_row(f: &mut Formatter<'_>, name: Option<&str>, number: u8, sentence: &str) -> fmt::Result {
     let sentence = sentence.replace("its {map} map", "one of its maps").replace("{role}", "proof or trigger");
     let sentence = sentence.replace("the {point},", "a point").replace("{point}", "point");
     let sentence = sentence.replace("{way}", "leads to or goes through");

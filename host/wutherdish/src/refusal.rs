@@ -37,12 +37,14 @@ pub enum Refusal {
     Twice,
     /// 14: the output is shorter than what is to be written.
     Output,
+    /// 15: the lent trail is too short for the rows. [`judge_with_trail`](crate::judge_with_trail) never gives it.
+    Trail,
     /// The library answered what this version of the crate doesn't know, with this number: it is another version's.
     Foreign(u8),
 }
 
 /// The refusals with a number of document 01.
-const NUMBERED: [Refusal; 14] = [
+const NUMBERED: [Refusal; 15] = [
     Refusal::Settings,
     Refusal::Schedule,
     Refusal::Record,
@@ -57,6 +59,7 @@ const NUMBERED: [Refusal; 14] = [
     Refusal::Full,
     Refusal::Twice,
     Refusal::Output,
+    Refusal::Trail,
 ];
 
 impl Refusal {
@@ -82,6 +85,7 @@ impl Refusal {
             Self::Full => 12,
             Self::Twice => 13,
             Self::Output => 14,
+            Self::Trail => 15,
             Self::Foreign(number) => number,
         }
     }
@@ -109,6 +113,7 @@ impl Display for Refusal {
             Self::Full => "the book keeps 4096 points already, or has no room for the record of this one",
             Self::Twice => "a peer stands twice in a map",
             Self::Output => "the lent output is too short for the record",
+            Self::Trail => "the lent trail has under 8 bytes for each reason that is set",
             Self::Foreign(number) => {
                 return write!(f, "the linked library is another version: its number {number} and answer are unknown");
             }

@@ -6,6 +6,7 @@ pub mod drafts;
 pub mod edges;
 pub mod fault;
 pub mod histogram;
+pub mod many;
 pub mod random;
 pub mod scene;
 

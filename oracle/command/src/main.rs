@@ -10,6 +10,8 @@ mod spread;
 mod store;
 mod store_books;
 mod store_composes;
+mod store_trails;
+mod trails;
 mod vectors;
 mod wrong;
 
@@ -23,6 +25,7 @@ const USAGE: &str = "oracle COMMAND
   histogram SEED COUNT   run generated cases and print how often each answer appears
   sharpness SEED COUNT   run them through the plain judge too, with each mistake in it
   agree SEED COUNT       run them through the oracle and the plain judge alone
+  trails SEED COUNT      run generated cases with all reasons: those of the noting copy of the source and of the plain judge
   spread SEED COUNT      how far the source's certificates spread, by depth and on feeds
   feeds SEED COUNT       run feeds of 200 offers through the plain book and print how often each answer appears
   books-damaged SEED COUNT   offer the points of feeds to damaged copies of their books
@@ -36,6 +39,7 @@ const USAGE: &str = "oracle COMMAND
   stored FILE            replay it
   store-books FILE       write the stored books
   store-composes FILE    write the stored drafts of points
+  store-trails FILE      write the stored trails
   wrong OUT FILE..       write cases of files, each with a change in what it expects";
 
 fn main() -> ExitCode {
@@ -54,6 +58,7 @@ fn main() -> ExitCode {
             two_numbers(seed, count).and_then(|(seed, count)| run_cases::sharpness(seed, count))
         }
         ["agree", seed, count] => two_numbers(seed, count).and_then(|(seed, count)| run_cases::agree(seed, count)),
+        ["trails", seed, count] => two_numbers(seed, count).and_then(|(seed, count)| trails::run(seed, count)),
         ["spread", seed, feeds] => two_numbers(seed, feeds).and_then(|(seed, feeds)| spread::run(seed, feeds)),
         ["feeds", seed, count] => two_numbers(seed, count).and_then(|(seed, count)| run_feeds::feeds(seed, count)),
         ["books-damaged", seed, count] => {
@@ -69,6 +74,7 @@ fn main() -> ExitCode {
         ["stored", file] => store::check(file),
         ["store-books", file] => store_books::write(file),
         ["store-composes", file] => store_composes::write(file),
+        ["store-trails", file] => store_trails::write(file),
         ["wrong", out, ref files @ ..] => wrong::make(out, files),
         _ => Err(USAGE.to_string()),
     };

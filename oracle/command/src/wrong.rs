@@ -5,6 +5,8 @@ use book::replay::FILL;
 use oracle::Answer;
 use oracle::draft::COMPOSE;
 use oracle::file::{Blobs, JUDGE, VERIFY, answer_bytes, blobs, write};
+use oracle::numbers;
+use trail::{ROW, TRAIL};
 
 /// The fields of an answer, by where each begins: number, kind, reason, id, map, role, first number, second number,
 /// root's reason, peer, zeros, count of unknown peers, the first of them; and where that one ends.
@@ -64,6 +66,46 @@ const REFUSED: [Change; 4] = [
     |answer| [answer, &[0]].concat(),
 ];
 
+/// Where the rows of a trail stand in an answer, after their count, and how long one is.
+const ROWS: usize = 4;
+/// What to expect in place of a trail of two rows or more, in turn: another count in each of its bytes; each byte of the first row
+/// changed, and the last of the last row; a row less; one more, whose bytes are what the trail is filled with; the answer's number,
+/// its kind and the last byte of the answer changed; and number 15, with which nothing that is lent may change.
+const TRAILED: [Change; 19] = [
+    |answer| raised(answer, 0),
+    |answer| raised(answer, 1),
+    |answer| raised(answer, 2),
+    |answer| raised(answer, 3),
+    |answer| raised(answer, ROWS),
+    |answer| raised(answer, ROWS + 1),
+    |answer| raised(answer, ROWS + 2),
+    |answer| raised(answer, ROWS + 3),
+    |answer| raised(answer, ROWS + 4),
+    |answer| raised(answer, ROWS + 5),
+    |answer| raised(answer, ROWS + 6),
+    |answer| raised(answer, ROWS + 7),
+    |answer| raised(answer, end_of_rows(answer) - 1),
+    |answer| [&[answer[0] - 1], &answer[1..ROWS], &answer[ROWS + ROW..]].concat(),
+    |answer| {
+        let (rows, rest) = answer.split_at(end_of_rows(answer));
+        [&[rows[0] + 1], &rows[1..], &[FILL; ROW], rest].concat()
+    },
+    |answer| raised(answer, end_of_rows(answer)),
+    |answer| raised(answer, end_of_rows(answer) + 1),
+    |answer| raised(answer, answer.len() - 1),
+    |_| [&[0; ROWS][..], &number_answer(numbers::ROWS)].concat(),
+];
+/// The same of a number: another, a count, and a row of what the trail is filled with.
+const UNTRAILED: [Change; 3] = [
+    |answer| raised(answer, ROWS),
+    |answer| raised(answer, 0),
+    |answer| [&[1, 0, 0, 0][..], &[FILL; ROW], &answer[ROWS..]].concat(),
+];
+
+fn end_of_rows(answer: &[u8]) -> usize {
+    ROWS + ROW * usize::from(answer[0])
+}
+
 /// Cases of the files, each with a change in what it expects.
 pub fn make(path: &str, files: &[&str]) -> Result<(), String> {
     let read = |file: &&str| std::fs::read(file).map_err(|e| format!("{file}: {e}"));
@@ -72,7 +114,8 @@ pub fn make(path: &str, files: &[&str]) -> Result<(), String> {
     let answers = CALLS.into_iter().enumerate().flat_map(|(turn, kind)| answers(&cases, turn, kind));
     let peers = CALLS.into_iter().flat_map(|kind| peers(&cases, kind));
     let openings = openings(&cases).into_iter().chain(first_book(&cases));
-    let chosen = openings.chain(answers).chain(digests(&cases)).chain(peers).chain(composes(&cases));
+    let chosen =
+        openings.chain(answers).chain(digests(&cases)).chain(peers).chain(composes(&cases)).chain(trails(&cases));
     let chosen: Vec<Changed> = chosen.collect();
     let mut out = Vec::new();
     for (kind, blobs) in &chosen {
@@ -99,6 +142,25 @@ fn peers(cases: &[Blobs<'_>], kind: u8) -> Vec<Changed> {
         Some(with_answer(case, answer))
     };
     WITH_PEERS.iter().filter_map(other).collect()
+}
+
+/// The smallest case of two rows or more whose trail has room for another, and the smallest that is refused by 15, each with other
+/// answers.
+fn trails(cases: &[Blobs<'_>]) -> Vec<Changed> {
+    let rising = rising(cases, TRAIL);
+    let has_room = |blobs: &[&[u8]]| {
+        let [.., room, answer] = blobs else { return false };
+        let room = (*room).try_into().map_or(0, u32::from_le_bytes) as usize;
+        answer[0] > 1 && ROWS + room >= end_of_rows(answer) + ROW
+    };
+    let trailed = rising.iter().find(|(_, blobs)| has_room(blobs)).map(|case| (*case, &TRAILED[..]));
+    let refused = rising.iter().find(|(_, blobs)| blobs.last().is_some_and(|answer| answer[ROWS] == numbers::ROWS));
+    let all = [trailed, refused.map(|case| (*case, &UNTRAILED[..]))].into_iter().flatten();
+    let changed = |(case, changes): (&Blobs<'_>, &[Change])| {
+        let answer = case.1.last().expect("a case has an answer").to_vec();
+        changes.iter().map(|change| with_answer(case, change(&answer))).collect::<Vec<_>>()
+    };
+    all.flat_map(changed).collect()
 }
 
 /// The smallest draft whose record leaves room in the output, and the smallest that is refused, each with other answers.
@@ -149,7 +211,11 @@ fn none(answer: &[u8]) -> Vec<u8> {
 }
 
 fn number(_: &[u8]) -> Vec<u8> {
-    answer_bytes(&Answer::Number(5)).expect("a number is no panic")
+    number_answer(5)
+}
+
+fn number_answer(number: u8) -> Vec<u8> {
+    answer_bytes(&Answer::Number(number)).expect("a number is no panic")
 }
 
 /// The smallest offer to a given book, once for each byte of the digest.

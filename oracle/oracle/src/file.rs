@@ -43,7 +43,8 @@ impl Case {
         self.blobs().1.iter().map(Vec::len).sum()
     }
 
-    fn blobs(&self) -> (u8, Vec<Vec<u8>>) {
+    /// Its kind, and its inputs as the file holds them.
+    pub fn blobs(&self) -> (u8, Vec<Vec<u8>>) {
         match self.clone() {
             Self::Verify { settings, schedule, record, peer_buffer } => {
                 (VERIFY, vec![settings, schedule, record, peer_buffer.to_le_bytes().to_vec()])

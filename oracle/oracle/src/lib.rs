@@ -9,8 +9,11 @@ pub mod direct;
 pub mod draft;
 pub mod feed;
 pub mod file;
+#[cfg(feature = "noted")]
+pub mod noted;
 pub mod numbers;
 pub mod read;
+pub mod row;
 mod run;
 pub mod sha256;
 pub mod steps;

@@ -22,8 +22,10 @@ pub const FULL: u8 = 12;
 pub const TWICE: u8 = 13;
 /// Of that and of the converters.
 pub const OUTPUT: u8 = 14;
+/// Of judging with a trail.
+pub const ROWS: u8 = 15;
 
-pub const WORDS: [&str; 12] = [
+pub const WORDS: [&str; 15] = [
     "settings",
     "schedule",
     "record",
@@ -36,6 +38,9 @@ pub const WORDS: [&str; 12] = [
     "book",
     "kept",
     "full",
+    "twice",
+    "output",
+    "rows",
 ];
 
 /// What stands before any list is read.

@@ -8,7 +8,7 @@ use std::sync::atomic::{AtomicBool, Ordering};
 use std::sync::{Arc, Once};
 use std::task::{Context, Poll, Wake, Waker};
 
-use tycho::dag::dag_point_future::{DagPointFuture, Turns};
+use tycho::dag::dag_point_future::{DagPointFuture, INDIRECT, Turns};
 use tycho::dag::{
     BasicVerifier, DagRound, IndirectSlot, InvalidReason, RoundParts, ValidateResult, Verifier, WeakDagRound,
 };
@@ -216,7 +216,7 @@ impl<'a> Node<'a> {
     pub fn listed_round(&self, leader: bool, presence: u8, listed: &[Listed]) -> Result<DagRound, Arrivals> {
         let (direct, indirect) = listed.split_at(listed.partition_point(|listed| listed.entry.indirect.is_none()));
         let arrivals = Arrivals::new(&self.read.point, presence, direct);
-        if arrivals.spare_drop {
+        if arrivals.spare_drop.is_some() {
             return Err(arrivals);
         }
         Ok(self.round(leader, Some(arrivals.prev), self.indirect_slots(indirect)))
@@ -228,13 +228,17 @@ impl<'a> Node<'a> {
         let slots = self.indirect_slots(&[]);
         match self.validate(Some(self.round(leader, Some(arrivals.prev), slots)), Cert::default()) {
             ValidateResult::Invalid(reason) => ValidateResult::Invalid(reason),
-            _ => ValidateResult::Invalid(InvalidReason::DependencyRoundDropped),
+            _ => {
+                #[cfg(feature = "noted")]
+                crate::noted::note_drop(arrivals.spare_drop);
+                ValidateResult::Invalid(InvalidReason::DependencyRoundDropped)
+            }
         }
     }
 
     /// One slot for each indirect link, proof first. One that isn't listed is seen to be gone at once.
     fn indirect_slots(&self, indirect: &[Listed]) -> Vec<IndirectSlot> {
-        let turns = Turns::new(indirect.len());
+        let turns = Turns::new(INDIRECT, indirect.len());
         let slot = |role: AnchorStageRole| {
             let id = point_id(self.read.point.link(role).to.as_ref()?);
             let place = indirect.iter().position(|listed| listed.entry.indirect == Some(role));

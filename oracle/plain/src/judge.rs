@@ -3,6 +3,7 @@
 use oracle::Verdict;
 use oracle::answer::{EVIDENCE, INCLUDES, INVALID, TRANS_INVALID, VALID, WITNESS};
 use oracle::numbers::{HORIZON, is_version, split};
+use oracle::row::{DIRECT, INDIRECT, NO_LIST, Row, row};
 use oracle::value::{AnchorStageRole, Entry, Id, Peer, Point, PointRole, State, Through};
 
 use crate::anchor::{is_proof, sequence, source, target};
@@ -25,10 +26,15 @@ struct Found {
     reason: Option<Verdict>,
     record: Option<Record>,
     first_stays: bool,
+    /// The entry that is judged: its list, and its place there.
+    entry: (u8, usize),
+    rows: Vec<Row>,
 }
 
 impl Found {
     fn set(&mut self, verdict: Verdict) {
+        let (list, place) = self.entry;
+        self.rows.push(row(list, place, verdict.reason, verdict.role));
         if !(self.first_stays && self.reason.is_some()) {
             self.reason = Some(verdict);
         }
@@ -51,8 +57,14 @@ fn no_round(map: u8) -> Verdict {
     Verdict { map, ..invalid(2) }
 }
 
+/// The row of a presence rule's reason.
+fn rule_row(verdict: &Verdict) -> Vec<Row> {
+    vec![row(NO_LIST, 0, verdict.reason, verdict.role)]
+}
+
 impl Rules<'_> {
-    pub(crate) fn judge(&self, judged: &Judged) -> Result<Verdict, Refused> {
+    /// The verdict, and the rows of its trail.
+    pub(crate) fn judge(&self, judged: &Judged) -> Result<(Verdict, Vec<Row>), Refused> {
         let round = self.read.point.id.round;
         let at_genesis = round == self.read.settings.genesis_round;
         if self.made(Mistake::HorizonFirst) && !at_genesis {
@@ -60,18 +72,21 @@ impl Rules<'_> {
         }
         self.verify().map_err(Refused::Verdict)?;
         if at_genesis {
-            return Ok(Verdict::new(VALID, 0));
+            return Ok((Verdict::new(VALID, 0), Vec::new()));
         }
         self.check_horizon()?;
         let regular_required = self.regular_required();
         if let Some(verdict) = self.check_ill_formed(judged.leader, regular_required) {
-            return Ok(verdict);
+            return Ok((verdict, Vec::new()));
         }
-        match judged.presence {
-            0 if self.made(Mistake::PresenceZeroIncludes) => return Ok(no_round(INCLUDES)),
-            0 => return Ok(no_round(EVIDENCE)),
-            1 => return Ok(no_round(INCLUDES)),
-            _ => {}
+        let absent = match judged.presence {
+            0 if self.made(Mistake::PresenceZeroIncludes) => Some(no_round(INCLUDES)),
+            0 => Some(no_round(EVIDENCE)),
+            1 => Some(no_round(INCLUDES)),
+            _ => None,
+        };
+        if let Some(verdict) = absent {
+            return Ok((verdict.clone(), rule_row(&verdict)));
         }
         let entries = judged.entries.as_ref().map_err(|number| Refused::Number(*number))?;
         self.check_list(judged.presence, entries).map_err(Refused::Number)?;
@@ -111,7 +126,7 @@ impl Rules<'_> {
         (!good).then(|| Verdict { first: u32::from(leader), ..ill_formed(16) })
     }
 
-    fn judge_entries(&self, presence: u8, entries: &[Entry], regular_required: bool) -> Verdict {
+    fn judge_entries(&self, presence: u8, entries: &[Entry], regular_required: bool) -> (Verdict, Vec<Row>) {
         let (direct, indirect) = split(entries);
         let mut found = Found { first_stays: self.made(Mistake::FirstReason), ..Found::default() };
         self.check_valid(direct, regular_required, &mut found);
@@ -120,18 +135,21 @@ impl Rules<'_> {
         }
         let missing = presence == 2 && !self.read.point.witness.is_empty();
         if missing && !(self.made(Mistake::EntriesBeforeRound) && found.reason.is_some()) {
-            return no_round(WITNESS);
+            let verdict = no_round(WITNESS);
+            return (verdict.clone(), rule_row(&verdict));
         }
-        match (found.reason, found.record) {
+        let verdict = match (found.reason, found.record) {
             (Some(_), Some(record)) if self.made(Mistake::RecordWins) => trans_invalid(record),
             (Some(reason), _) => reason,
             (None, Some(record)) => trans_invalid(record),
             (None, None) => Verdict::new(VALID, 0),
-        }
+        };
+        (verdict, found.rows)
     }
 
     fn check_valid(&self, direct: &[Entry], regular_required: bool, found: &mut Found) {
-        for entry in direct {
+        for (place, entry) in direct.iter().enumerate() {
+            found.entry = (DIRECT, place);
             let Some(id) = entry.state.id() else {
                 if self.made(Mistake::DropIsNotFound) {
                     found.set(named(19, self.read.point.id));
@@ -313,7 +331,8 @@ impl Rules<'_> {
     }
 
     fn check_indirect_links(&self, indirect: &[Entry], found: &mut Found) {
-        for entry in indirect {
+        for (place, entry) in indirect.iter().enumerate() {
+            found.entry = (INDIRECT, place);
             let Some(role) = entry.indirect else { continue };
             if entry.state == State::Dropped {
                 if self.made(Mistake::IndirectDropEnds) {

@@ -12,6 +12,7 @@ pub use mistake::Mistake;
 
 use oracle::file::Case;
 use oracle::numbers::{self, Read};
+use oracle::row::Row;
 use oracle::value::Entry;
 use oracle::{Answer, Verdict};
 
@@ -48,20 +49,30 @@ impl Prepared {
 
     /// The answer, with a mistake made on the way.
     pub fn answer(&self, mistake: Option<Mistake>) -> Answer {
+        self.trail(mistake).0
+    }
+
+    /// The answer and the rows of its trail, likewise. Verifying has none.
+    pub fn trail(&self, mistake: Option<Mistake>) -> (Answer, Vec<Row>) {
         let read = match &self.read {
             Ok(read) => read,
-            Err(number) => return Answer::Number(*number),
+            Err(number) => return (Answer::Number(*number), Vec::new()),
         };
         let rules = Rules { read, mistake };
-        let verdict = match &self.judged {
+        let given = match &self.judged {
             Some(judged) => rules.judge(judged),
-            None => rules.verify().map(|()| Verdict::new(oracle::answer::PASSED, 0)).map_err(Refused::Verdict),
+            None => rules.verify().map(|()| (passed(), Vec::new())).map_err(Refused::Verdict),
         };
-        match verdict {
-            Ok(verdict) | Err(Refused::Verdict(verdict)) => verdict.into(),
-            Err(Refused::Number(number)) => Answer::Number(number),
+        match given {
+            Ok((verdict, rows)) => (verdict.into(), rows),
+            Err(Refused::Verdict(verdict)) => (verdict.into(), Vec::new()),
+            Err(Refused::Number(number)) => (Answer::Number(number), Vec::new()),
         }
     }
+}
+
+fn passed() -> Verdict {
+    Verdict::new(oracle::answer::PASSED, 0)
 }
 
 /// Why judging ends before its end.

@@ -6,6 +6,8 @@ pub mod effects;
 pub mod engine;
 pub mod intercom;
 pub mod models;
+#[cfg(feature = "noted")]
+pub mod notes;
 pub mod storage;
 
 pub use rand::set_next as set_leader_place;

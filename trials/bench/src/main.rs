@@ -12,6 +12,7 @@ mod pass;
 mod plain_writer;
 mod rounds;
 mod tally;
+mod trail;
 mod verify;
 mod worst;
 
@@ -26,7 +27,7 @@ Its hash maps are the standard ones under the oracle's hasher, and its metrics c
 processor's. A ratio is the Rust's time divided by the library's in the same round: over 1 the library is faster.
 ";
 
-const USAGE: &str = "bench [verify | judge | offer | convert | compose]   the tables, or one of them
+const USAGE: &str = "bench [verify | judge | trail | offer | convert | compose]   the tables, or one of them
 bench comparisons                  how many rows are compared for the order of a map's rows
 bench cold                         records and books that together are longer than the caches
 bench worst [full]                 the dearest inputs that were found; full: as long as they get
@@ -46,6 +47,7 @@ fn main() -> ExitCode {
         [] => tables(),
         ["verify"] => verify::table(&PEERS),
         ["judge"] => judge::table(&PEERS),
+        ["trail"] => trail::table(&PEERS),
         ["offer"] => offer::table(),
         ["convert"] => convert::table(&PEERS),
         ["compose"] => compose::table(&PEERS),
@@ -74,6 +76,7 @@ fn tables() -> Result<(), String> {
     println!("{WORDS}");
     verify::table(&PEERS)?;
     judge::table(&PEERS)?;
+    trail::table(&PEERS)?;
     offer::table()?;
     convert::table(&PEERS)?;
     compose::table(&PEERS)

@@ -108,7 +108,7 @@ impl Lent {
         let book = match call {
             Call::Open { length, .. } => vec![1; *length],
             Call::Offer { book, .. } => book.clone().unwrap_or_default(),
-            Call::Case(_) | Call::Convert { .. } | Call::Compose { .. } => Vec::new(),
+            Call::Case(_) | Call::Convert { .. } | Call::Compose { .. } | Call::Trail { .. } => Vec::new(),
         };
         let [peers, output] = [call.peer_buffer(), call.output()].map(|length| vec![0; length.unwrap_or(0)]);
         Self { book, peers, answer: [0; ANSWER], output, count: 0 }
@@ -128,6 +128,10 @@ impl Lent {
             Call::Convert { from: Arrangement::Pairs, record, .. } => lent::pairs_to_columns(record, output, count),
             Call::Convert { from: Arrangement::Columns, record, .. } => lent::columns_to_pairs(record, output, count),
             Call::Compose { draft, .. } => compose(draft, output, count),
+            Call::Trail { case: Case::Judge { settings, schedule, record, leader, presence, list, .. }, .. } => {
+                lent::trail(settings, schedule, record, *leader, *presence, list, peers, output, count, answer)
+            }
+            Call::Trail { case: Case::Verify { .. }, .. } => unreachable!("a case that is judged"),
         }
     }
 }

@@ -14,6 +14,7 @@ mod program;
 mod report;
 mod run_cases;
 mod tally;
+mod trails;
 
 use std::process::ExitCode;
 
@@ -36,12 +37,14 @@ const USAGE: &str = "compare COMMAND
   certificates SEED COUNT [THREADS]    feeds for certificates, through the source's own, the plain book and the library
   converts SEED COUNT [THREADS]        their records, damaged too, through both converters and those that read and write
   composes SEED COUNT [THREADS]        points handed over in parts, through the oracle's writer and reader and the library
+  trails SEED COUNT [THREADS]          judge cases whose lists give many reasons, all of which are compared with the source's
   file FILE                            the cases of a file, against the answers in it
   file-pairs FILE                      the same of a file in which maps are pairs, which are moved: those with a book against
                                        the plain book, which has to answer as the file says, and leave its books moved
   file-prev FILE                       the same of such a file in which marks cover the previous point alone
   converts-file FILE                   the converted records of a file, against the records in it
   composes-file FILE                   the composed records of a file, against the records in it
+  trails-file FILE                     the cases of a file that are judged with a trail, against the rows and answers in it
   joins FILE                           the joins of a file, by the host's crate, against the records in it
   tally PROGRAM SEED COUNT             feeds to the program tally, through the plain book and the program
   tally-file PROGRAM FILE              the standard inputs of a file, against the outputs in it, likewise
@@ -71,11 +74,13 @@ fn main() -> ExitCode {
         ["certificates", ref words @ ..] => range(words).and_then(|range| certificates(&range)),
         ["converts", ref words @ ..] => range(words).and_then(|range| converts::generated(&range)),
         ["composes", ref words @ ..] => range(words).and_then(|range| composes::generated(&range)),
+        ["trails", ref words @ ..] => range(words).and_then(|range| trails::generated(&range)),
         ["file", path] => file::run(path, Age::Now),
         ["file-pairs", path] => file::run(path, Age::Pairs),
         ["file-prev", path] => file::run(path, Age::Prev),
         ["converts-file", path] => converts::file(path),
         ["composes-file", path] => composes::file(path),
+        ["trails-file", path] => trails::file(path),
         ["joins", path] => joins::run(path),
         ["tally", program, ref words @ ..] => {
             range(words).and_then(|range| program::feeds(program, range.seed, range.count))

@@ -48,6 +48,11 @@ fn answers(heading: &str, expected: Option<&Expected>, lent: &Lent) -> Vec<Strin
     lines
 }
 
+/// The case in hex.
+pub fn hex_inputs(case: &Case) -> String {
+    inputs(case).join("\n")
+}
+
 fn inputs(case: &Case) -> Vec<String> {
     let (Case::Verify { settings, schedule, record, peer_buffer }
     | Case::Judge { settings, schedule, record, peer_buffer, .. }) = case;

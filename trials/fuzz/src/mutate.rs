@@ -105,8 +105,12 @@ fn copy_within(random: &mut Random, call: &mut Call) {
 
 fn change_numbers(random: &mut Random, call: &mut Call) {
     match call {
-        Call::Case(Case::Verify { peer_buffer, .. }) => *peer_buffer = buffer_length(random),
-        Call::Case(Case::Judge { leader, presence, peer_buffer, .. }) => match random.below(4) {
+        Call::Case(Case::Verify { peer_buffer, .. }) | Call::Trail { case: Case::Verify { peer_buffer, .. }, .. } => {
+            *peer_buffer = buffer_length(random);
+        }
+        Call::Trail { length, .. } if random.chance(1, 2) => *length = random.below(64),
+        Call::Case(Case::Judge { leader, presence, peer_buffer, .. })
+        | Call::Trail { case: Case::Judge { leader, presence, peer_buffer, .. }, .. } => match random.below(4) {
             0 => *peer_buffer = buffer_length(random),
             1 => *leader = flag(random),
             2 => *leader ^= 1,
@@ -140,6 +144,8 @@ fn another_kind(random: &mut Random, call: Call) -> Call {
             }
         }
         Call::Case(case @ Case::Verify { .. }) => Call::Case(as_judge(case)),
+        Call::Case(case @ Case::Judge { .. }) if random.chance(1, 3) => Call::Trail { case, length: random.below(64) },
+        Call::Trail { case, .. } => Call::Case(case),
         Call::Case(case) if random.chance(1, 2) => Call::Case(as_verify(case)),
         Call::Case(Case::Judge { settings, schedule, record, leader, peer_buffer, .. }) => {
             let mut book = settings;

@@ -100,9 +100,9 @@ impl Desk {
             same("peer buffer", peers, unknown)?;
         }
         if call.output().is_some() {
-            let record = expected.written.as_deref().unwrap_or_default();
-            let count = expected.written.as_ref().map(|record| (record.len() as u32).to_ne_bytes());
-            same("output", self.buffer(Lent::Output), record)?;
+            let written = expected.written.as_deref().unwrap_or_default();
+            let count = expected.written.as_ref().map(|written| ((written.len() / call.unit()) as u32).to_ne_bytes());
+            same("output", self.buffer(Lent::Output), written)?;
             same("count", self.buffer(Lent::Count), count.as_ref().map_or(&[], |count| &count[..]))?;
         }
         if let Some(book) = &expected.book {

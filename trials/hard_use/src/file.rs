@@ -5,10 +5,13 @@ use inputs::call::Call;
 use oracle::arrangement::Arrangement;
 use oracle::draft::{COMPOSE, Draft};
 use oracle::file::{Blobs, Case, JUDGE, VERIFY};
+use trail::TRAIL;
 
 const OPEN: u8 = 3;
 const OFFER_TO: u8 = 6;
 const CONVERT: u8 = 17;
+/// Blobs of a judge case, without its answer.
+const JUDGED: usize = 6;
 
 /// The bytes of a call; an offer needs its book.
 pub fn write(call: &Call) -> Vec<u8> {
@@ -30,6 +33,11 @@ pub fn write(call: &Call) -> Vec<u8> {
             let (parts, length) = (draft.blobs(), number(*length as u32));
             let all = parts.iter().map(Vec::as_slice).chain([&length[..]]);
             blobs(COMPOSE, &all.collect::<Vec<_>>())
+        }
+        Call::Trail { case, length } => {
+            let ((_, inputs), length) = (case.blobs(), number(*length as u32));
+            let all = inputs.iter().map(Vec::as_slice).chain([&length[..]]);
+            blobs(TRAIL, &all.collect::<Vec<_>>())
         }
     }
 }
@@ -61,6 +69,10 @@ pub fn read((kind, blobs): &Blobs<'_>) -> Option<Call> {
             list: list.to_vec(),
             peer_buffer: number(peer_buffer)?,
         }),
+        (TRAIL, [judged @ .., length, _]) | (TRAIL, [judged @ .., length]) if judged.len() == JUDGED => {
+            let Call::Case(case) = read(&(JUDGE, judged.to_vec()))? else { return None };
+            Call::Trail { case, length: number(length)? as usize }
+        }
         (OPEN, [settings, length, ..]) => Call::Open { settings: settings.to_vec(), length: number(length)? as usize },
         (OFFER_TO, [book, schedule, [leader], record, peer_buffer, ..]) => Call::Offer {
             book: Some(book.to_vec()),

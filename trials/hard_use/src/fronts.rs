@@ -29,8 +29,10 @@ pub fn share_fronts(random: &mut Random, call: &mut Call) {
 /// All that is lent with fields in it, or the maps of a point in parts.
 pub fn parts(call: &mut Call) -> Vec<&mut Vec<u8>> {
     match call {
-        Call::Case(Case::Verify { settings, schedule, record, .. }) => vec![settings, schedule, record],
-        Call::Case(Case::Judge { settings, schedule, record, list, .. }) => vec![settings, schedule, record, list],
+        Call::Case(case) | Call::Trail { case, .. } => match case {
+            Case::Verify { settings, schedule, record, .. } => vec![settings, schedule, record],
+            Case::Judge { settings, schedule, record, list, .. } => vec![settings, schedule, record, list],
+        },
         Call::Open { settings, .. } => vec![settings],
         Call::Convert { record, .. } => vec![record],
         Call::Compose { draft, .. } => vec![&mut draft.includes, &mut draft.witness, &mut draft.evidence],

@@ -7,6 +7,7 @@ use oracle::arrangement::converted;
 use oracle::file::Case;
 use oracle::value::Peer;
 use plain::{KNOWN_PANIC, Prepared};
+use trail::Trail;
 
 /// The model; for the self-test with one of its mistakes made in it.
 #[derive(Clone, Copy, Default)]
@@ -26,7 +27,7 @@ pub struct Expected {
     pub unknown: Vec<Peer>,
     /// None if the call is lent none, or one that is compared elsewhere.
     pub book: Option<Vec<u8>>,
-    /// At the output's front, with its length in the count; none if both keep their bytes.
+    /// At the output's front, with how many bytes or rows these are in the count; none if both keep their bytes.
     pub written: Option<Vec<u8>>,
     /// The kind of a verdict and its reason.
     pub verdict: Option<(u8, u8)>,
@@ -83,7 +84,23 @@ impl Model {
             }
             Call::Convert { from, record, length } => Ok(Expected::written(converted(record, *from, *length))),
             Call::Compose { draft, length } => Ok(Expected::written(draft.composed(*length))),
+            Call::Trail { case, length } => self.trail(case, *length),
         }
+    }
+
+    /// The rows of a trail stand in the output.
+    fn trail(&self, case: &Case, length: usize) -> Result<Expected, String> {
+        let trail = match self.judge_mistake {
+            None => trail::trail(case)?,
+            mistake => {
+                let (answer, rows) = Prepared::new(case).trail(mistake);
+                Trail { answer, rows, by_plain: false }
+            }
+        };
+        let Trail { answer, rows, by_plain } = trail.in_room(length);
+        let expected = Expected::new(&answer, None, by_plain)?;
+        let written = (expected.number == 0).then(|| rows.into_flattened());
+        Ok(Expected { written, ..expected })
     }
 
     fn case(&self, case: &Case) -> Result<Expected, String> {

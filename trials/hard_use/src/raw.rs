@@ -7,7 +7,7 @@ use oracle::draft::Draft;
 use oracle::file::Case;
 use wutherdish_sys::{
     ANSWER, wutherdish_columns_to_pairs, wutherdish_judge, wutherdish_offer, wutherdish_open,
-    wutherdish_pairs_to_columns, wutherdish_verify, wutherdish_write,
+    wutherdish_pairs_to_columns, wutherdish_trail, wutherdish_verify, wutherdish_write,
 };
 
 use crate::desk::Desk;
@@ -20,6 +20,8 @@ pub fn call(desk: &Desk, call: &Call) -> u8 {
         Call::Offer { offer: Offer { leader, .. }, .. } => offer(desk, *leader),
         Call::Convert { from, .. } => convert(desk, *from),
         Call::Compose { draft, .. } => write(desk, draft),
+        Call::Trail { case: Case::Judge { leader, presence, .. }, .. } => trail(desk, *leader, *presence),
+        Call::Trail { case: Case::Verify { .. }, .. } => unreachable!("a case that is judged"),
     }
 }
 
@@ -68,6 +70,30 @@ fn judge(desk: &Desk, leader: u8, presence: u8) -> u8 {
             len(desk, Lent::List),
             at(desk, Lent::Peers),
             len(desk, Lent::Peers),
+            answer(desk),
+        )
+    }
+}
+
+fn trail(desk: &Desk, leader: u8, presence: u8) -> u8 {
+    // SAFETY: as said above; a count touches the start or the end of a page, so that it is aligned.
+    unsafe {
+        wutherdish_trail(
+            at(desk, Lent::Settings),
+            len(desk, Lent::Settings),
+            at(desk, Lent::Schedule),
+            len(desk, Lent::Schedule),
+            at(desk, Lent::Record),
+            len(desk, Lent::Record),
+            leader,
+            presence,
+            at(desk, Lent::List),
+            len(desk, Lent::List),
+            at(desk, Lent::Peers),
+            len(desk, Lent::Peers),
+            at(desk, Lent::Output),
+            len(desk, Lent::Output),
+            at(desk, Lent::Count).cast(),
             answer(desk),
         )
     }

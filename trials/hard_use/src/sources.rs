@@ -2,12 +2,15 @@
 
 use cases::case;
 use cases::drafts::{Drafted, drafted};
+use cases::many;
 use cases::random::Random;
 use compare::damage::{damaged, judge_damaged};
 use compare::kind::{as_judge, as_verify};
 use compare::permute::permuted;
 use inputs::call::Call;
 use inputs::dear::Shape;
+use plain::Prepared;
+use trail::rooms;
 
 use crate::fronts::share_fronts;
 use crate::{converted, opening, small_book, wild};
@@ -28,6 +31,7 @@ pub enum Source {
     Opening,
     Converted,
     Composed,
+    Trailed,
     Spliced,
     Wild,
     Dear,
@@ -35,7 +39,7 @@ pub enum Source {
 
 /// Sources with their parts of the places. A feed's place has 200 offers, one for certificates up to 1,400, a permuted one up to 96
 /// calls.
-const PARTS: [(Source, usize); 14] = [
+const PARTS: [(Source, usize); 15] = [
     (Source::Generated, 450),
     (Source::Damaged, 500),
     (Source::Permuted, 250),
@@ -47,6 +51,7 @@ const PARTS: [(Source, usize); 14] = [
     (Source::Opening, 60),
     (Source::Converted, 100),
     (Source::Composed, 250),
+    (Source::Trailed, 300),
     (Source::Spliced, 250),
     (Source::Wild, 150),
     (Source::Dear, 4),
@@ -77,6 +82,7 @@ impl Source {
             Self::Opening => "openings",
             Self::Converted => "records converted",
             Self::Composed => "points in parts",
+            Self::Trailed => "many reasons",
             Self::Spliced => "spliced cases",
             Self::Wild => "wild bytes",
             Self::Dear => "dear inputs",
@@ -98,6 +104,7 @@ pub fn calls(source: Source, seed: u64, place: u64) -> Vec<Call> {
         Source::Opening => return vec![opening::opening(&mut random, seed, place)],
         Source::Converted => return converted::conversions(&mut random, seed, place),
         Source::Composed => return vec![composed(seed, place)],
+        Source::Trailed => return vec![trailed(&mut random, seed, place)],
         Source::Dear => return vec![dear(&mut random)],
         Source::Feed | Source::Certificates | Source::DamagedBook => unreachable!("their calls depend on one another"),
     };
@@ -107,6 +114,14 @@ pub fn calls(source: Source, seed: u64, place: u64) -> Vec<Call> {
 fn composed(seed: u64, place: u64) -> Call {
     let Drafted { draft, room, .. } = drafted(seed, place);
     Call::Compose { draft: Box::new(draft), length: room }
+}
+
+/// Mostly with a trail that ends with the rows or is a little longer or shorter, else with one of any length.
+fn trailed(random: &mut Random, seed: u64, place: u64) -> Call {
+    let case = if random.chance(1, 4) { judge_damaged(seed, place) } else { many::case(seed, place) };
+    let rooms = rooms(Prepared::new(&case).trail(None).1.len());
+    let length = if random.chance(1, 8) { random.below(1_000) } else { random.pick(&rooms) };
+    Call::Trail { case, length }
 }
 
 /// A call of any shape; one in four is as long as may be.

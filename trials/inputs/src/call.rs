@@ -4,6 +4,7 @@ use book::Offer;
 use oracle::arrangement::Arrangement;
 use oracle::draft::Draft;
 use oracle::file::Case;
+use oracle::row::Row;
 
 #[derive(Clone)]
 pub enum Call {
@@ -28,6 +29,13 @@ pub enum Call {
     Compose {
         draft: Box<Draft>,
         /// Of the output.
+        length: usize,
+    },
+    /// Judging with a trail, which is its output.
+    Trail {
+        /// To be judged.
+        case: Case,
+        /// Of the trail, in bytes.
         length: usize,
     },
 }
@@ -78,7 +86,8 @@ impl Lent {
 }
 
 impl Call {
-    pub const NAMES: [&str; 7] = ["verify", "judge", "open", "offer", "pairs to columns", "columns to pairs", "write"];
+    pub const NAMES: [&str; 8] =
+        ["verify", "judge", "open", "offer", "pairs to columns", "columns to pairs", "write", "trail"];
 
     /// The place of its name.
     pub fn kind(&self) -> usize {
@@ -90,16 +99,19 @@ impl Call {
             Self::Convert { from: Arrangement::Pairs, .. } => 4,
             Self::Convert { from: Arrangement::Columns, .. } => 5,
             Self::Compose { .. } => 6,
+            Self::Trail { .. } => 7,
         }
     }
 
     /// What it is lent to read.
     pub fn inputs(&self) -> Vec<(Lent, &[u8])> {
         match self {
-            Self::Case(Case::Verify { settings, schedule, record, .. }) => {
+            Self::Case(Case::Verify { settings, schedule, record, .. })
+            | Self::Trail { case: Case::Verify { settings, schedule, record, .. }, .. } => {
                 vec![(Lent::Settings, settings), (Lent::Schedule, schedule), (Lent::Record, record)]
             }
-            Self::Case(Case::Judge { settings, schedule, record, list, .. }) => {
+            Self::Case(Case::Judge { settings, schedule, record, list, .. })
+            | Self::Trail { case: Case::Judge { settings, schedule, record, list, .. }, .. } => {
                 let inputs: [&[u8]; 4] = [settings, schedule, record, list];
                 Lent::ALL.into_iter().zip(inputs).collect()
             }
@@ -120,7 +132,8 @@ impl Call {
     /// The length of the peer buffer, where there is one.
     pub fn peer_buffer(&self) -> Option<usize> {
         match self {
-            Self::Case(Case::Verify { peer_buffer, .. } | Case::Judge { peer_buffer, .. }) => {
+            Self::Case(case) | Self::Trail { case, .. } => {
+                let (Case::Verify { peer_buffer, .. } | Case::Judge { peer_buffer, .. }) = case;
                 Some(*peer_buffer as usize)
             }
             Self::Open { .. } | Self::Convert { .. } | Self::Compose { .. } => None,
@@ -131,9 +144,14 @@ impl Call {
     /// The length of the output, where there is one, with a count beside it.
     pub fn output(&self) -> Option<usize> {
         match self {
-            Self::Convert { length, .. } | Self::Compose { length, .. } => Some(*length),
+            Self::Convert { length, .. } | Self::Compose { length, .. } | Self::Trail { length, .. } => Some(*length),
             _ => None,
         }
+    }
+
+    /// How many bytes of the output the count counts as one.
+    pub fn unit(&self) -> usize {
+        if matches!(self, Self::Trail { .. }) { size_of::<Row>() } else { 1 }
     }
 
     /// What it is lent.

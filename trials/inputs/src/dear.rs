@@ -6,6 +6,7 @@ mod judge;
 mod offer;
 mod spread;
 pub mod tally;
+mod trail;
 mod verify;
 
 use cases::random::Random;
@@ -41,8 +42,9 @@ impl Shape {
 
     /// All shapes; those of a call stand together, a typical one first.
     pub fn all() -> Vec<Self> {
-        [&verify::SHAPES[..], &judge::SHAPES, &offer::SHAPES, &spread::SHAPES, &convert::SHAPES, &compose::SHAPES]
-            .concat()
+        let judging = [&verify::SHAPES[..], &judge::SHAPES, &trail::SHAPES].concat();
+        let offering = [&offer::SHAPES[..], &spread::SHAPES].concat();
+        [judging, offering, convert::SHAPES.to_vec(), compose::SHAPES.to_vec()].concat()
     }
 
     /// The call of this shape with a count of entries, or of peers where it has full maps; at most `most`.

@@ -5,4 +5,5 @@ pub mod clock;
 pub mod compose;
 pub mod dag;
 pub mod dear;
+pub mod faults;
 pub mod points;

@@ -13,5 +13,6 @@ mod run;
 mod show;
 mod streams;
 mod tally;
+mod trail;
 mod usage;
 mod xml;

@@ -91,9 +91,19 @@ fn help_and_version() {
     for words in commands.into_iter().chain(["--version", "Exit code"]) {
         assert!(help.contains(words), "{words}");
     }
-    for option in
-        ["--room", "--book", "--full-ids", "--progress", "--append", "--leader", "--to", "-o", "--help", "--version"]
-    {
+    for option in [
+        "--trail",
+        "--room",
+        "--book",
+        "--full-ids",
+        "--progress",
+        "--append",
+        "--leader",
+        "--to",
+        "-o",
+        "--help",
+        "--version",
+    ] {
         assert!(help.contains(&format!("\n  {option} ")), "{option}");
     }
     assert!(help.lines().all(|line| line.chars().count() <= 105), "{help}");
@@ -106,9 +116,9 @@ fn help_and_version() {
 
 #[test]
 fn help_for_one_command() {
-    let options = ["--last", "--room", "--book", "--full-ids", "--progress", "--append", "--leader", "-o"];
+    let options = ["--last", "--trail", "--room", "--book", "--full-ids", "--progress", "--append", "--leader", "-o"];
     let commands = [
-        ("explain", &["--last", "--room", "--book", "--full-ids", "--progress"][..]),
+        ("explain", &["--last", "--trail", "--room", "--book", "--full-ids", "--progress"][..]),
         ("show", &["--room", "--progress", "-o"]),
         ("tally", &["--progress"]),
         ("compose", &["--append", "--leader", "-o"]),
@@ -150,7 +160,7 @@ fn assert_bad(arguments: &[&str], input: &[u8], wanted: &str) {
 
 #[test]
 fn bad_input_is_1() {
-    let neither = "standard input: byte 0: expected a feed or a book (tag 32), a point record (tag 1), or a case (1, 2, 16 or 17)";
+    let neither = "standard input: byte 0: expected a feed or a book (tag 32), a point record (tag 1), or a case (1, 2 or 16 to 18)";
     for command in ["explain", "show"] {
         assert_bad(&[command, "-"], &[], neither);
         assert_bad(&[command, "-"], b"text", neither);

@@ -1,6 +1,6 @@
-//! The two cases of a pair differ in their lists alone.
+//! The two cases of a pair differ in their lists alone; and what a case with several faults gives.
 
-use wutherdish::{PeerId, Verdict, judge};
+use wutherdish::{InvalidReason, PeerId, SetBy, Verdict, judge, judge_with_trail};
 use wutherdish_drills::Input;
 
 use crate::run::{blobs, drill};
@@ -76,4 +76,15 @@ fn a_tie_is_decided_by_the_order() {
 #[test]
 fn two_reasons_in_two_orders() {
     assert_swapped(["two-reasons", "two-reasons-reversed"]);
+}
+
+/// Three entries give them, and the verdict names the last.
+#[test]
+fn four_faults() {
+    let (blobs, list) = parts("four-faults");
+    let [settings, schedule, record, flags, _] = &blobs[..] else { panic!("a case of judging has six blobs") };
+    let (verdict, faults) = judge_with_trail(settings, schedule, record, flags[0], flags[1], &list).expect("a verdict");
+    let said: Vec<(SetBy, u8)> = faults.iter().map(|fault| (fault.set_by, fault.reason.0)).collect();
+    assert_eq!(said, [(0, 6), (1, 11), (1, 8), (2, 19)].map(|(place, reason)| (SetBy::Direct(place), reason)));
+    assert!(matches!(verdict, Verdict::Invalid(InvalidReason::DepNotFound { .. })), "{verdict}");
 }

@@ -7,7 +7,7 @@ use wutherdish_drills::{Answer, Input, all, named};
 
 use crate::run::{Feed, STORIES};
 
-const LISTS: [&str; 10] = [
+const LISTS: [&str; 11] = [
     "list-with-version",
     "list-without-version",
     "list-with-target",
@@ -18,6 +18,7 @@ const LISTS: [&str; 10] = [
     "tie-second",
     "two-reasons",
     "two-reasons-reversed",
+    "four-faults",
 ];
 
 const STRUCTURE: [&str; 7] = [
@@ -35,7 +36,7 @@ fn expected() -> BTreeSet<String> {
     let ill_formed = (3..=16).filter(|number| *number != 7).map(|number| format!("ill-formed-{number:02}"));
     let structure = STRUCTURE.iter().map(|issue| format!("ill-formed-07-{issue}"));
     let invalid = (2..=19).map(|number| format!("invalid-{number:02}"));
-    let numbers = (1..=14).filter(|number| *number != 10).map(|number| format!("number-{number:02}"));
+    let numbers = (1..=15).filter(|number| *number != 10).map(|number| format!("number-{number:02}"));
     let verdicts = ["valid", "trans-invalid", "fail"];
     let others = verdicts.iter().chain(&STORIES).chain(&LISTS).map(|name| name.to_string());
     ill_formed.chain(structure).chain(invalid).chain(numbers).chain(others).collect()
@@ -85,8 +86,17 @@ fn each_structure_issue_has_its_drill() {
 fn only_what_no_feed_can_give_is_a_case() {
     let cases: Vec<&str> =
         all().iter().filter(|drill| matches!(drill.input, Input::Case(_))).map(|drill| drill.name).collect();
-    let answers =
-        ["invalid-02", "invalid-03", "number-05", "number-07", "number-08", "number-09", "number-13", "number-14"];
+    let answers = [
+        "invalid-02",
+        "invalid-03",
+        "number-05",
+        "number-07",
+        "number-08",
+        "number-09",
+        "number-13",
+        "number-14",
+        "number-15",
+    ];
     assert_eq!(cases, [&answers[..], &LISTS].concat());
 }
 

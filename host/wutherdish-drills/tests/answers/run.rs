@@ -104,20 +104,25 @@ pub fn answer(given: &Result<Verdict, Refusal>) -> Answer {
 /// What the call of a case gives. No drill is there for a record that is written or converted.
 pub fn case_answer(bytes: &[u8]) -> Answer {
     let blobs = blobs(bytes);
-    let length = u32::from_le_bytes(blobs[blobs.len() - 1].try_into().expect("four bytes"));
-    let mut peers = vec![0xa5; length as usize];
+    let length = |bytes: &[u8]| u32::from_le_bytes(bytes.try_into().expect("four bytes")) as usize;
+    let mut room = vec![0xa5; length(blobs[blobs.len() - 1])];
     let mut bytes = [0; ANSWER];
     let number = match *blobs {
-        [settings, schedule, record, _] => lent::verify(settings, schedule, record, &mut peers, &mut bytes),
+        [settings, schedule, record, _] => lent::verify(settings, schedule, record, &mut room, &mut bytes),
         [settings, schedule, record, &[leader, presence], list, _] => {
-            lent::judge(settings, schedule, record, leader, presence, list, &mut peers, &mut bytes)
+            lent::judge(settings, schedule, record, leader, presence, list, &mut room, &mut bytes)
         }
-        [&[0], record, _] => return Answer::Number(lent::pairs_to_columns(record, &mut peers, &mut 0)),
-        [ref parts @ .., _] if parts.len() == 9 => return Answer::Number(write(parts, &mut peers)),
+        [settings, schedule, record, &[leader, presence], list, peers, _] => {
+            let mut trail = std::mem::replace(&mut room, vec![0xa5; length(peers)]);
+            let (room, trail) = (&mut room, &mut trail);
+            lent::trail(settings, schedule, record, leader, presence, list, room, trail, &mut 0, &mut bytes)
+        }
+        [&[0], record, _] => return Answer::Number(lent::pairs_to_columns(record, &mut room, &mut 0)),
+        [ref parts @ .., _] if parts.len() == 9 => return Answer::Number(write(parts, &mut room)),
         _ => panic!("neither verifying, judging, writing nor converting to columns"),
     };
     match number {
-        0 => answer(&Ok(Verdict::read(&bytes, &peers).expect("an answer of judging"))),
+        0 => answer(&Ok(Verdict::read(&bytes, &room).expect("an answer of judging"))),
         number => Answer::Number(number),
     }
 }
@@ -159,7 +164,7 @@ pub fn blobs(bytes: &[u8]) -> Vec<&[u8]> {
     }
     assert!(rest.is_empty());
     assert_eq!(blobs.len(), usize::from(head[1]));
-    let counts = [(1, 4), (2, 6), (16, 10), (17, 3)];
+    let counts = [(1, 4), (2, 6), (16, 10), (17, 3), (18, 7)];
     assert!(counts.iter().any(|(kind, count)| head[0] == *kind && blobs.len() == *count), "{head:?}");
     blobs
 }

@@ -13,7 +13,7 @@ fn judged(point: &Point, list: &List) -> Result<Verdict, Refusal> {
     judge(&settings().to_bytes(), &schedule(), &record(point), 0, 3, &list)
 }
 
-fn valid(point: &Point) -> Dependency {
+pub fn valid(point: &Point) -> Dependency {
     Dependency::new(State::Valid { record: record(point) }).first_valid()
 }
 
@@ -49,7 +49,7 @@ fn an_indirect_entry_is_of_its_links_role() {
 }
 
 /// A dependency in any state, with any reason that the state may have.
-fn any_dependency(random: &mut Random, point: &Point) -> Dependency {
+pub fn any_dependency(random: &mut Random, point: &Point) -> Dependency {
     let (record, id) = (record(point), point.id);
     let (invalid, ill_formed) = (1 + random.below(20) as u8, 1 + random.below(16) as u8);
     let state = match random.below(6) {

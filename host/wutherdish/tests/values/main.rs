@@ -9,4 +9,5 @@ mod lists;
 mod network;
 mod parts;
 mod random;
+mod trail;
 mod write;

@@ -7,9 +7,9 @@ use std::error::Error;
 
 use wutherdish::PointMap::{Includes, Witness};
 use wutherdish::{
-    AnchorLink, BuildError, IllFormedNumber, IllFormedReason, IndirectLink, InvalidDependency, InvalidNumber,
-    InvalidReason, Kept, Point, PointRole, Refusal, Status, Through, UninitVset, Unreadable, Verdict, Verified,
-    VerifyError,
+    AnchorLink, BuildError, Fault, FaultOf, IllFormedNumber, IllFormedReason, IndirectLink, InvalidDependency,
+    InvalidNumber, InvalidReason, Kept, Point, PointRole, Refusal, SetBy, Status, Through, UninitVset, Unreadable,
+    Verdict, Verified, VerifyError,
 };
 
 use crate::tables::{ID, PEER, ill_formed, invalid, issues};
@@ -104,6 +104,42 @@ fn reasons_by_number() {
     all_different((1..=20).map(|number| InvalidNumber(number).to_string()));
 }
 
+/// A fault says what the verdict says of the same reason, but for what a row lacks: a map, seq_nos, the way and an ill-formed number.
+#[test]
+fn faults() {
+    let places = [
+        (SetBy::Presence, "the rounds that are present: "),
+        (SetBy::Direct(258), "direct entry 258: "),
+        (SetBy::Indirect(1), "indirect entry 1: "),
+    ];
+    for (reason, _) in invalid() {
+        let number = InvalidNumber(reason.number());
+        let role = match reason {
+            InvalidReason::NewerAnchorInDependency { role, .. }
+            | InvalidReason::AnchorLink { role, .. }
+            | InvalidReason::AnchorLinkRole { role, .. }
+            | InvalidReason::AnchorLinkBadPath { role, .. } => Some(role),
+            _ => None,
+        };
+        for (set_by, place) in places {
+            let fault = Fault { set_by, reason: number, role };
+            let named = FaultOf(fault, reason.id());
+            let front = format!("{place}{} ({}), ", number.name().expect("a name"), number.0);
+            [fault.to_string(), named.to_string()].iter().for_each(|line| {
+                assert_line(line, &[]);
+                assert!(line.starts_with(&front), "{line}");
+            });
+            if reason.id().is_some() {
+                assert_names_point(&named.to_string(), &format!("{named:#}"));
+            }
+            if !matches!(number.0, 2 | 16..=18) {
+                assert_eq!(named.to_string(), format!("{front}{reason}"));
+            }
+            assert_eq!(FaultOf(fault, None).to_string(), fault.to_string());
+        }
+    }
+}
+
 #[test]
 fn verdicts_and_entries() {
     let vset = UninitVset { len: 2, round: 70_000, map: Witness };
@@ -177,10 +213,10 @@ fn refusals_and_errors() {
     for number in 0..=255 {
         let refusal = Refusal::new(number);
         assert_eq!(refusal.number(), number);
-        assert_eq!(refusal == Refusal::Foreign(number), !(1..=14).contains(&number));
+        assert_eq!(refusal == Refusal::Foreign(number), !(1..=15).contains(&number));
         assert_error(&refusal, &[]);
     }
-    all_different((1..=15).map(|number| Refusal::new(number).to_string()));
+    all_different((1..=16).map(|number| Refusal::new(number).to_string()));
     assert_error(&Unreadable { at: 4_711, wanted: "something" }, &["byte 4711", "something"]);
     let errors = [
         (BuildError::Map { map: Witness, len: 256 }, vec!["witness", "256"]),

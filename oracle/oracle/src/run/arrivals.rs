@@ -4,7 +4,7 @@ use std::collections::HashMap;
 use std::rc::Rc;
 
 use tycho::dag::dag_location::DagLocation;
-use tycho::dag::dag_point_future::{DagPointFuture, Turns};
+use tycho::dag::dag_point_future::{DIRECT, DagPointFuture, Turns};
 use tycho::dag::{DagRound, RequireRegularPoints, RoundParts};
 use tycho::models::{Cert, Digest, Round};
 use tycho::{FastHashMap, PeerId};
@@ -22,15 +22,15 @@ pub fn arrival(listed: &Listed, turns: &Rc<Turns>, turn: usize) -> (DagPointFutu
 pub struct Arrivals {
     /// r-1, and r-2 after it where it is there.
     pub prev: DagRound,
-    /// A dropped entry stands in the list, and no dependency is left to carry it.
-    pub spare_drop: bool,
+    /// The place of a dropped entry in the list where no dependency is left to carry it.
+    pub spare_drop: Option<usize>,
 }
 
 type Dependencies = FastHashMap<(PeerId, Digest), (DagPointFuture, Cert)>;
 
 impl Arrivals {
     pub fn new(point: &Point, presence: u8, direct: &[Listed]) -> Self {
-        let turns = Turns::new(direct.len());
+        let turns = Turns::new(DIRECT, direct.len());
         let mut dropped = Dropped::new(point, presence, direct);
         let prev = (presence == 3).then(|| {
             let witness = dropped.dependencies(point, Through::Witness, direct, &turns);
@@ -38,7 +38,7 @@ impl Arrivals {
         });
         let includes = dropped.dependencies(point, Through::Includes, direct, &turns);
         let versions = dropped.versions(point, direct, &turns);
-        Self { prev: round_of(point, Through::Includes, prev, includes, versions), spare_drop: dropped.turn.is_some() }
+        Self { prev: round_of(point, Through::Includes, prev, includes, versions), spare_drop: dropped.turn }
     }
 }
 

@@ -257,7 +257,7 @@ fn structure(issue: StructureIssue, verdict: &mut Verdict) {
     }
 }
 
-fn invalid(reason: &InvalidReason) -> Verdict {
+pub fn invalid(reason: &InvalidReason) -> Verdict {
     use InvalidReason as Reason;
     let mut verdict = Verdict::new(INVALID, invalid_number(reason));
     let id = match reason {

@@ -9,15 +9,22 @@ use std::task::{Context, Poll, Waker};
 use crate::effects::TaskResult;
 use crate::models::DagPoint;
 
-/// Whose turn it is, and who waits for a later one.
+/// Lists of entries, as a row of a trail names them.
+pub const DIRECT: u8 = 1;
+pub const INDIRECT: u8 = 2;
+
+/// Of the entries of a list: whose turn it is, and who waits for a later one.
 pub struct Turns {
+    /// Which one, for the notes.
+    #[cfg_attr(not(feature = "noted"), expect(dead_code, reason = "nothing is noted"))]
+    list: u8,
     now: Cell<usize>,
     waiting: RefCell<Vec<Option<Waker>>>,
 }
 
 impl Turns {
-    pub fn new(count: usize) -> Rc<Self> {
-        Rc::new(Self { now: Cell::new(0), waiting: RefCell::new(vec![None; count]) })
+    pub fn new(list: u8, count: usize) -> Rc<Self> {
+        Rc::new(Self { list, now: Cell::new(0), waiting: RefCell::new(vec![None; count]) })
     }
 
     fn arrive(&self, turn: usize, cx: &Context<'_>) -> bool {
@@ -26,6 +33,8 @@ impl Turns {
             waiting[turn] = Some(cx.waker().clone());
             return false;
         }
+        #[cfg(feature = "noted")]
+        crate::notes::arrived(self.list, turn);
         self.now.set(turn + 1);
         if let Some(next) = waiting.get_mut(turn + 1).and_then(Option::take) {
             next.wake();

@@ -1,0 +1,363 @@
+//! Judging with a trail: rows of every kind, its numbers, and the bytes that are kept.
+
+use wutherdish::AnchorStageRole::{Proof, Trigger};
+use wutherdish::lent::{self, ANSWER, PEER_BUFFER};
+use wutherdish::{
+    AnchorLink, Dependency, Digest, Fault, IndirectLink, InvalidReason, List, PeerId, Point, PointId, PointRole,
+    Refusal, Schedule, SetBy, State, Through, Verdict, judge, judge_with_trail,
+};
+
+use crate::lists::{any_dependency, valid};
+use crate::network::{FOUNDER, GENESIS, PEERS, first, genesis, record, schedule, second, settings};
+use crate::parts::FILL;
+use crate::random::Random;
+
+/// What is lent.
+#[derive(Clone)]
+struct Case {
+    settings: Vec<u8>,
+    schedule: Vec<u8>,
+    record: Vec<u8>,
+    leader: u8,
+    presence: u8,
+    list: List,
+    /// How many of the list's last bytes are missing.
+    cut: usize,
+    peers: usize,
+    trail: usize,
+}
+
+/// What a call gave and left.
+struct Given {
+    number: u8,
+    answer: [u8; ANSWER],
+    peers: Vec<u8>,
+    trail: Vec<u8>,
+    rows: u32,
+}
+
+impl Case {
+    fn new(point: &Point, list: List) -> Self {
+        Self {
+            settings: settings().to_bytes().to_vec(),
+            schedule: schedule(),
+            record: record(point),
+            leader: 0,
+            presence: 3,
+            list,
+            cut: 0,
+            peers: PEER_BUFFER + 3,
+            trail: 800,
+        }
+    }
+
+    fn list(&self) -> Vec<u8> {
+        let mut list = self.list.to_bytes().expect("a short list");
+        list.truncate(list.len() - self.cut);
+        list
+    }
+
+    fn call(&self) -> Given {
+        let Self { settings, schedule, record, leader, presence, .. } = self;
+        let mut given = Given {
+            number: 0,
+            answer: [FILL; ANSWER],
+            peers: vec![FILL; self.peers],
+            trail: vec![FILL; self.trail],
+            rows: 7,
+        };
+        let Given { answer, peers, trail, rows, .. } = &mut given;
+        given.number =
+            lent::trail(settings, schedule, record, *leader, *presence, &self.list(), peers, trail, rows, answer);
+        given
+    }
+
+    /// The rows, after which the trail is as it was; answer and peer buffer are those of judging.
+    fn rows(&self) -> Vec<[u8; 8]> {
+        let Given { number, answer, peers, trail, rows } = self.call();
+        assert_eq!(number, 0);
+        let (mut judged, mut buffer) = ([FILL; ANSWER], vec![FILL; self.peers]);
+        let Self { settings, schedule, record, leader, presence, .. } = self;
+        let list = self.list();
+        assert_eq!(lent::judge(settings, schedule, record, *leader, *presence, &list, &mut buffer, &mut judged), 0);
+        assert_eq!((answer, peers), (judged, buffer));
+        let (written, rest) = trail.split_at(8 * rows as usize);
+        assert!(rest.iter().all(|byte| *byte == FILL));
+        written.as_chunks().0.to_vec()
+    }
+
+    /// The call gives this number and changes nothing; so does judging, if it is one of judging's.
+    fn assert_number(&self, expected: u8) {
+        let Given { number, answer, peers, trail, rows } = self.call();
+        assert_eq!((number, rows, answer), (expected, 7, [FILL; ANSWER]));
+        assert!(peers.iter().chain(&trail).all(|byte| *byte == FILL));
+        let Self { settings, schedule, record, leader, presence, .. } = self;
+        let list = self.list();
+        if expected < 15 && self.peers >= PEER_BUFFER {
+            let refused = Err(Refusal::new(expected));
+            assert_eq!(judge(settings, schedule, record, *leader, *presence, &list), refused);
+            let with_trail = judge_with_trail(settings, schedule, record, *leader, *presence, &list);
+            assert_eq!(with_trail.map(|(verdict, _)| verdict), refused);
+        }
+    }
+
+    fn faults(&self) -> (Verdict, Vec<Fault>) {
+        let Self { settings, schedule, record, leader, presence, .. } = self;
+        judge_with_trail(settings, schedule, record, *leader, *presence, &self.list()).expect("a verdict")
+    }
+}
+
+fn lost(id: PointId) -> Dependency {
+    Dependency::new(State::NotFound { id })
+}
+
+fn dropped() -> Dependency {
+    Dependency::new(State::Dropped)
+}
+
+fn list<const N: usize>(direct: [Dependency; N]) -> List {
+    List { direct: direct.to_vec(), indirect: vec![] }
+}
+
+/// The previous point has the point's time, the next dependency is too late, and the last one was not found.
+fn three_faults() -> Case {
+    let [a, b, c] = [first(0), first(1), first(3)];
+    let point = second(&[&a, &b, &c]);
+    let (a, b) = (Point { time: point.time, ..a }, Point { time: point.time + 501, ..b });
+    Case::new(&point, list([valid(&genesis()), valid(&a).certified(), valid(&b), lost(c.id)]))
+}
+
+const THREE: [[u8; 8]; 3] = [[1, 1, 0, 6, 255, 0, 0, 0], [1, 2, 0, 11, 255, 0, 0, 0], [1, 3, 0, 19, 255, 0, 0, 0]];
+
+#[test]
+fn each_reason_has_its_row() {
+    let case = three_faults();
+    assert_eq!(case.rows(), THREE);
+    let (verdict, faults) = case.faults();
+    assert_eq!(verdict, Verdict::Invalid(InvalidReason::DepNotFound { id: first(3).id }));
+    let said: Vec<(SetBy, u8)> = faults.iter().map(|fault| (fault.set_by, fault.reason.0)).collect();
+    assert_eq!(said, [(SetBy::Direct(1), 6), (SetBy::Direct(2), 11), (SetBy::Direct(3), 19)]);
+    // the order of the list is the order of the rows
+    let mut case = case;
+    case.list.direct.reverse();
+    assert_eq!(case.rows(), [[1, 0, 0, 19, 255, 0, 0, 0], [1, 1, 0, 11, 255, 0, 0, 0], [1, 2, 0, 6, 255, 0, 0, 0]]);
+}
+
+#[test]
+fn a_presence_rule_stands_alone() {
+    for presence in [0, 1] {
+        assert_eq!(Case { presence, ..three_faults() }.rows(), [[0, 0, 0, 2, 255, 0, 0, 0]]);
+        // the list is not read
+        let unread = Case { presence, cut: 1, ..three_faults() };
+        assert_eq!(unread.rows(), [[0, 0, 0, 2, 255, 0, 0, 0]]);
+        let without = Case { presence, list: List::new(), trail: 8, ..three_faults() };
+        assert_eq!(without.rows(), [[0, 0, 0, 2, 255, 0, 0, 0]]);
+        assert_eq!(without.faults().1.len(), 1);
+    }
+    let mut case = Case { presence: 2, ..three_faults() };
+    case.list.direct.remove(0);
+    assert_eq!(case.rows(), [[0, 0, 0, 2, 255, 0, 0, 0]]);
+    // without a witness the entries are judged, each one place further ahead
+    let mut point = second(&[&first(0), &first(1), &first(3)]);
+    point.witness.clear();
+    let mut rows = THREE;
+    rows.iter_mut().for_each(|row| row[1] -= 1);
+    assert_eq!(Case { record: record(&point), ..case }.rows(), rows);
+}
+
+#[test]
+fn dropped_entries() {
+    let [a, b, c] = [first(0), first(1), first(3)];
+    let point = second(&[&a, &b, &c]);
+    let good = [valid(&genesis()), valid(&a).certified()];
+    let [witness, previous] = &good;
+    // it sets its reason where there is none, and ends the list
+    let ends = list([witness.clone(), previous.clone(), dropped(), lost(b.id), dropped()]);
+    assert_eq!(Case::new(&point, ends).rows(), [[1, 2, 0, 3, 255, 0, 0, 0]]);
+    // after a reason it adds none, and ends the list all the same
+    let after = list([lost(b.id), dropped(), witness.clone(), previous.clone(), lost(c.id)]);
+    assert_eq!(Case::new(&point, after).rows(), [[1, 0, 0, 19, 255, 0, 0, 0]]);
+    // the shortest list with a row
+    let alone = Case { trail: 8, ..Case::new(&point, list([dropped(), dropped(), dropped(), dropped()])) };
+    assert_eq!(alone.rows(), [[1, 0, 0, 3, 255, 0, 0, 0]]);
+    assert_eq!(alone.faults().1.len(), 1);
+    // an indirect one adds none
+    let indirect = list([witness.clone(), previous.clone(), valid(&b), valid(&c)]);
+    let indirect = indirect.indirect(Proof, dropped()).indirect(Trigger, lost(genesis().id));
+    assert_eq!(Case::new(&point, indirect).rows(), [[2, 1, 0, 19, 255, 0, 0, 0]]);
+}
+
+/// A version of the genesis point that is no genesis point.
+fn regular() -> Point {
+    let id = PointId { digest: Digest([8; 32]), ..genesis().id };
+    Point { id, role: PointRole::Regular, ..first(0) }
+}
+
+#[test]
+fn roles() {
+    let [a, b, c] = [first(0), first(1), first(3)];
+    let direct = AnchorLink::Direct(Through::Includes(PEERS[1]));
+    let of = |point: &Point, b: &Point| {
+        Case::new(point, list([valid(&genesis()), valid(&a).certified(), valid(b), valid(&c)])).rows()
+    };
+    // b is a trigger, and newer than where the point's link leads; then a proof with a seq_no over 0, which is both
+    let point = second(&[&a, &b, &c]);
+    let trigger = b.clone().role(PointRole::AnchorTrigger);
+    assert_eq!(of(&point, &trigger), [[1, 2, 0, 12, 1, 0, 0, 0]]);
+    let proof = b.clone().role(PointRole::AnchorProof { seq_no: 1, is_last: true });
+    assert_eq!(of(&point, &proof), [[1, 2, 0, 12, 0, 0, 0, 0], [1, 2, 0, 12, 1, 0, 0, 0]]);
+    // a link leads to a point without the role, whose own links lead elsewhere
+    for (role, number) in [(Proof, 0), (Trigger, 1)] {
+        let rows = of(&point.clone().link(role, direct), &b);
+        assert_eq!(rows, [[1, 2, 0, 13, number, 0, 0, 0], [1, 2, 0, 15, number, 0, 0, 0]]);
+    }
+    // 17 names no role: b knows another proof
+    let astray = IndirectLink { to: regular().id, through: Through::Includes(FOUNDER) };
+    let trigger = trigger.link(Proof, AnchorLink::Indirect(astray));
+    assert_eq!(of(&point.link(Trigger, direct), &trigger), [[1, 2, 0, 17, 255, 0, 0, 0]]);
+}
+
+#[test]
+fn indirect_entries() {
+    let target = regular();
+    let a = first(0).include(FOUNDER, target.id.digest);
+    let [b, c] = [first(1), first(3)];
+    let link = AnchorLink::Indirect(IndirectLink { to: target.id, through: Through::Includes(PEERS[0]) });
+    let point = second(&[&a, &b, &c]).link(Proof, link).link(Trigger, link);
+    let direct = list([valid(&genesis()), valid(&a).certified(), valid(&b), valid(&c)]);
+    let both = |list: &List| list.clone().indirect(Trigger, valid(&target)).indirect(Proof, valid(&target));
+    let case = Case::new(&point, both(&direct));
+    assert_eq!(case.rows(), [[2, 0, 0, 14, 1, 0, 0, 0], [2, 1, 0, 14, 0, 0, 0, 0]]);
+    let set_by: Vec<SetBy> = case.faults().1.iter().map(|fault| fault.set_by).collect();
+    assert_eq!(set_by, [SetBy::Indirect(0), SetBy::Indirect(1)]);
+    // where a direct entry gives a reason, they have no rows
+    let mut direct = direct;
+    direct.direct[3] = lost(c.id);
+    assert_eq!(Case::new(&point, both(&direct)).rows(), [[1, 3, 0, 19, 255, 0, 0, 0]]);
+}
+
+#[test]
+fn no_rows_without_a_reason() {
+    let [a, b, c] = [first(0), first(1), first(3)];
+    let point = second(&[&a, &b, &c]);
+    let direct = [valid(&genesis()), valid(&a).certified(), valid(&b), valid(&c)];
+    let empty = |case: Case| {
+        let case = Case { trail: 0, ..case };
+        assert_eq!((case.rows().len(), case.faults().1), (0, vec![]));
+        case.faults().0
+    };
+    assert_eq!(empty(Case::new(&point, list(direct.clone()))), Verdict::Valid);
+    let bad = Dependency::new(State::Invalid { record: record(&c), reason: 6 });
+    let [genesis_entry, a, b, _] = direct;
+    assert!(matches!(empty(Case::new(&point, list([genesis_entry, a, b, bad]))), Verdict::TransInvalid(_)));
+    let ill_formed = Point { evidence: [].into(), ..point };
+    assert!(matches!(empty(Case::new(&ill_formed, List::new())), Verdict::IllFormed(_)));
+    let fail = Schedule::new(1_000).span(GENESIS, [FOUNDER]).to_bytes().expect("a span");
+    assert!(matches!(empty(Case { schedule: fail, ..three_faults() }), Verdict::Fail(_)));
+    // a point that is not verified is judged valid where it is genesis
+    assert_eq!(empty(Case::new(&genesis(), List::new())), Verdict::Valid);
+}
+
+/// Unknown peers stand in the peer buffer as after judging.
+#[test]
+fn unknown_peers() {
+    let mut point = second(&[&first(0), &first(1), &first(3)]);
+    (0..20).for_each(|byte| {
+        point.includes.insert(PeerId([200 + byte; 32]), Digest([1; 32]));
+    });
+    let case = Case { trail: 3, ..Case::new(&point, List::new()) };
+    assert_eq!((case.rows().len(), case.call().answer[113]), (0, 20));
+}
+
+/// What is wrong with a case.
+type Wrong = fn(&mut Case);
+
+/// The numbers in the order in which they are tested, each with what gives it.
+fn numbers() -> Vec<(u8, Vec<Wrong>)> {
+    vec![
+        (1, vec![|case| case.settings.truncate(46), |case| case.settings[46] = 0]),
+        (2, vec![|case| case.schedule.truncate(case.schedule.len() - 1), |case| case.schedule.clear()]),
+        (3, vec![|case| case.record.truncate(case.record.len() - 1), |case| case.record.clear()]),
+        (
+            4,
+            vec![
+                |case| case.leader = 2,
+                |case| case.presence = 4,
+                |case| case.record[3..7].copy_from_slice(&[3, 0, 0, 0]),
+                |case| *case.record.last_mut().expect("a record") = 128,
+            ],
+        ),
+        (5, vec![|case| case.peers = PEER_BUFFER - 1, |case| case.peers = 0]),
+        (
+            6,
+            vec![|case| {
+                let known = Schedule::new(GENESIS + 5).span(GENESIS, [FOUNDER]).span(GENESIS + 1, PEERS);
+                case.schedule = known.to_bytes().expect("two spans");
+            }],
+        ),
+        (
+            7,
+            vec![|case| case.cut = 1, |case| {
+                case.list.direct[2].state = State::Invalid { record: record(&first(1)), reason: 21 }
+            }],
+        ),
+        (8, vec![|case| drop(case.list.direct.pop()), |case| case.list.direct.push(valid(&first(2)))]),
+        (9, vec![|case| case.list.direct[1].certified = false]),
+        (15, vec![|case| case.trail = 23, |case| case.trail = 16, |case| case.trail = 0]),
+    ]
+}
+
+#[test]
+fn each_number_before_the_next() {
+    let numbers = numbers();
+    for (place, (number, wrongs)) in numbers.iter().enumerate() {
+        for wrong in wrongs {
+            let assert_first = |later: &[&Wrong]| {
+                let mut case = three_faults();
+                later.iter().rev().for_each(|later| later(&mut case));
+                wrong(&mut case);
+                case.assert_number(*number);
+            };
+            assert_first(&[]);
+            let later = &numbers[place + 1..];
+            later.iter().flat_map(|(_, later)| later).for_each(|later| assert_first(&[later]));
+            let one_of_each: Vec<&Wrong> = later.iter().map(|(_, later)| &later[0]).collect();
+            assert_first(&one_of_each);
+        }
+    }
+    assert_eq!((Refusal::new(15), Refusal::Trail.number()), (Refusal::Trail, 15));
+}
+
+/// With any entries there is room for the rows exactly from eight bytes each on, and never need for more than eight beyond the list.
+#[test]
+fn room_for_all_rows_and_not_one_less() {
+    let points = [genesis(), first(0), first(1), first(3)];
+    let point = second(&[&points[1], &points[2], &points[3]]);
+    let mut random = Random(41);
+    let mut seen = [0; 5];
+    for _ in 0..2_000 {
+        let mut list = List::new();
+        for dependency in &points {
+            let moved = Point { time: dependency.time + random.below(3) as u64 * 1_000, ..dependency.clone() };
+            let entry = any_dependency(&mut random, &moved);
+            list = list.direct(Dependency { certified: entry.certified || moved.id.author == PEERS[0], ..entry });
+        }
+        for role in [Proof, Trigger] {
+            list = list.indirect(role, any_dependency(&mut random, &genesis()));
+        }
+        let case = Case::new(&point, list);
+        let rows = case.rows();
+        let exact = 8 * rows.len();
+        assert_eq!(Case { trail: exact, ..case.clone() }.rows(), rows);
+        if exact > 0 {
+            [exact - 1, exact - 8].into_iter().for_each(|trail| Case { trail, ..case.clone() }.assert_number(15));
+        }
+        let (verdict, faults) = case.faults();
+        assert!(exact <= case.list().len() + 8);
+        assert_eq!(faults, rows.iter().filter_map(Fault::read).collect::<Vec<_>>());
+        let last = faults.last().map_or(0, |fault| fault.reason.0);
+        assert_eq!((matches!(verdict, Verdict::Invalid(_)), verdict.reason_number()), (!rows.is_empty(), last));
+        seen[rows.len().min(4)] += 1;
+    }
+    assert!(seen.iter().all(|count| *count > 5), "{seen:?}");
+}
