@@ -37,7 +37,7 @@ use Rattle.books.proofs.Offered.{tested-input}
 use Rattle.books.proofs.Shape.{domain-least}
 use Rattle.books.proofs.Following.{Stands, AllStand}
 use Rattle.books.proofs.Growth.{all_stand_remarked, all_stand_append}
-use Rattle.books.proofs.Verified.{pass_floor, pass_genesis, pass_link}
+use Rattle.rules.proofs.Verified.{pass_floor, pass_genesis, pass_link}
 use Rattle.books.proofs.Dependencies.{includes-held, witness-held, source-linked}
 use Rattle.books.proofs.Found.{found-connected}
 

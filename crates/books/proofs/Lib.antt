@@ -12,7 +12,6 @@ pub mod Walk
 pub mod Offered
 pub mod Refused
 pub mod Growth
-pub mod Verified
 pub mod Dependencies
 pub mod Found
 pub mod Kept

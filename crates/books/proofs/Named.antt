@@ -14,14 +14,10 @@ use Rattle.map.specs.Rows.{get}
 use Rattle.point.specs.Point.{Includes, Witness, AnchorLink, Direct, Indirect, PointInfo, digest_safe, prev_digest, in_domain}
 use Rattle.schedule.specs.Settings.{Settings}
 use Rattle.schedule.specs.Schedule.{Schedule}
-use Rattle.reasons.specs.declared.ill_formed.StructureIssue.{StructureIssue}
 use Rattle.reasons.specs.declared.ill_formed.VerifyError.{VerifyError}
-use Rattle.rules.specs.Verify.{links_own, is_zero, genesis_structure_rows, bad_link, link_rows, structure_rows, structure, genesis_rows, above_rows, well_formed_rows, peer_rows, scheduled, new_rows, faults, verify}
+use Rattle.rules.specs.Verify.{links_own, is_zero, genesis_structure_rows, bad_link, link_rows, structure_rows, genesis_rows, above_rows, well_formed_rows, peer_rows, scheduled, new_rows, faults, verify}
 use Rattle.rules.specs.List.{is_named, is_listable}
-
-pub no_issue : (o : Option StructureIssue) → structure o ≡ [] → o ≡ None
-no_issue None e = refl
-no_issue (Some i) e = impossible (cc)
+use Rattle.rules.proofs.Verified.{no_issue}
 
 module _ (p : PointInfo) where
   -- above genesis: PointData::check_non_genesis_structure found the peer

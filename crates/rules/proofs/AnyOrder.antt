@@ -49,7 +49,7 @@ before-alike c presence p s t (needed required) h = go (leb 2 presence)
     go true = list-alike c required presence p (read_list s) (read_list t) h
     go false = alike_self (Given (validate c required presence p [] []))
 
-judge_alike : (leader presence : ℕ) (s t : List ℕ) (i : Tested) → Arranged (read_list s) (read_list t) → Alike (judge_with leader presence s i) (judge_with leader presence t i)
+pub judge_alike : (leader presence : ℕ) (s t : List ℕ) (i : Tested) → Arranged (read_list s) (read_list t) → Alike (judge_with leader presence s i) (judge_with leader presence t i)
 unfolding judge_with_in
 judge_alike leader presence s t (refused n) h = refl
 judge_alike leader presence s t (admitted i) h =
@@ -64,15 +64,15 @@ any-alike x es es' ts ts' h g d f =
 
 -- ---- of one given order
 
-no_record : (o : Option InvalidDependency) → result_with None o ≡ verdict.Valid → o ≡ None
+pub no_record : (o : Option InvalidDependency) → result_with None o ≡ verdict.Valid → o ≡ None
 no_record None h = refl
 no_record (Some d) h = impossible (cc)
 
-this_record : (o : Option InvalidDependency) (d : InvalidDependency) → result_with None o ≡ verdict.TransInvalid d → o ≡ Some d
+pub this_record : (o : Option InvalidDependency) (d : InvalidDependency) → result_with None o ≡ verdict.TransInvalid d → o ≡ Some d
 this_record None d h = impossible (cc)
 this_record (Some e) d h = let f : e ≡ d = cc in ap Some f
 
-member_middle : {A : Type 0} (a : List A) (x : A) (b : List A) → Memᴰ x (a ++ (x ∷ b))
+pub member_middle : {A : Type 0} (a : List A) (x : A) (b : List A) → Memᴰ x (a ++ (x ∷ b))
 member_middle [] x b = Memᴰ.head refl
 member_middle (y ∷ a) x b = Memᴰ.tail (member_middle a x b)
 

@@ -205,11 +205,11 @@ module _ (aim : Option AnchorStageRole) (front : ℕ) (s : List ℕ) where
       let y = (map-eq-some_iff _ (read_on a (drop 7 s))).0 k.1 in
       at_front k.0 (state-front (get_or s 3 0) (get_or s 6 0) (drop 7 s) a y.0 y.1)
 
-direct_is : (b : Arrangement) (s : List ℕ) → eqb (get_or s 0 0) 19 ≡ false → read_entry_in b s ≡ entry_at_in b None 0 s
+pub direct_is : (b : Arrangement) (s : List ℕ) → eqb (get_or s 0 0) 19 ≡ false → read_entry_in b s ≡ entry_at_in b None 0 s
 unfolding read_entry_in
 direct_is b s t = pick-false (eqb (get_or s 0 0) 19) _ _ t
 
-indirect-is : (b : Arrangement) (s : List ℕ) → eqb (get_or s 0 0) 19 ≡ true → (field_ok (field_row 19 1 1) s 0 && leb (get_or s 3 0) 1) ≡ true →
+pub indirect-is : (b : Arrangement) (s : List ℕ) → eqb (get_or s 0 0) 19 ≡ true → (field_ok (field_row 19 1 1) s 0 && leb (get_or s 3 0) 1) ≡ true →
     read_entry_in b s ≡ entry_at_in b (Some (role_of (get_or s 3 0))) 4 (drop 4 s)
 unfolding read_entry_in
 indirect-is b s t o = pick_true (eqb (get_or s 0 0) 19) _ _ t ∙ pick_true (field_ok (field_row 19 1 1) s 0 && leb (get_or s 3 0) 1) _ None o

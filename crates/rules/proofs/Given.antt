@@ -60,7 +60,7 @@ module _ (c : Settings) (presence : ℕ) (p : PointInfo) (v : Verdict) where
       go false false h = cc
 
   -- with fewer than two rounds present there is a reason
-  early : (required : Bool) (es : List Entry) (ts : List IndirectEntry) → presence < 2 → has_reason (validate c required presence p es ts) ≡ true
+  pub early : (required : Bool) (es : List Entry) (ts : List IndirectEntry) → presence < 2 → has_reason (validate c required presence p es ts) ≡ true
   unfolding validate
   early required es ts h = elim (dec_lt 0 presence) [
     | yes k ↦ rw (ne_eqb presence 0 (λ e. omega arith), eq-eqb presence 1 (omega arith)) refl
@@ -155,7 +155,7 @@ judged-validate x o =
 -- ---- its record, over the whole list in its order
 
 -- after an indirect entry no direct one
-abbrev Ordered : List Listed → Type 0
+abbrev pub Ordered : List Listed → Type 0
 Ordered [] = Unit
 Ordered (x ∷ l) = (is_some x.aim ≡ true → directs l ≡ []) × Ordered l
 
@@ -194,7 +194,7 @@ module _ (c : Settings) (required : Bool) (p : PointInfo) where
           let r = f (join old (target_record c p (record { role = g; entry = x.entry }))) in
           rw (e, n) (rw n at r)
 
-  recorded_row : (l : List Listed) → direct_trail c required (point_view p) false (directs l) ≡ [] → Ordered l →
+  pub recorded_row : (l : List Listed) → direct_trail c required (point_view p) false (directs l) ≡ [] → Ordered l →
       recorded c required p l ≡ join_all (record_for c required p) None l
   recorded_row l n h =
       let root = direct_record c required (point_view p) None (directs l) in

@@ -32,3 +32,11 @@ pub mod RowsNext
 pub mod RowsWithin
 pub mod EntryReasons
 pub mod Fired
+pub mod Marks
+pub mod Verified
+pub mod Marked
+pub mod Recording
+pub mod MarkedRecords
+pub mod Cleared
+pub mod ClearingBytes
+pub mod Waiting

@@ -41,7 +41,7 @@ by_position (r ∷ l) f = (f r (Memᴰ.head refl), by_position l (λ row m. f ro
 
 module _ (c : Settings) (required : Bool) (p : PointView) where
   -- each direct entry
-  entry-all : (es : List Entry) → direct_trail c required p false es ≡ [] → (e : Entry) → Memᴰ e es →
+  pub entry-all : (es : List Entry) → direct_trail c required p false es ≡ [] → (e : Entry) → Memᴰ e es →
       (is_dropped e.state ≡ false) × ((entry_findings c required p e).trail ≡ [])
   unfolding direct_trail
   entry-all [] h e m = absurd (Memᴰ.not-nil m)

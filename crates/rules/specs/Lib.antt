@@ -15,3 +15,5 @@ pub mod AnyOrder
 pub mod Converted
 pub mod Trail
 pub mod Fired
+pub mod Clearing
+pub mod Cleared

@@ -6,6 +6,7 @@ ghost use Rattle.rules.specs.Joined.{Joined};
 ghost use Rattle.rules.specs.AnyOrder.{AnyOrder};
 ghost use Rattle.rules.specs.Converted.{RecordsConverted};
 ghost use Rattle.rules.specs.Fired.{RulesFired};
+ghost use Rattle.rules.specs.Cleared.{Cleared};
 
 // That an answer's number and bytes tell it, as a promise: without its proof this crate is not proved, nor any that uses it.
 pub fn answers_told()
@@ -30,4 +31,9 @@ pub fn records_converted()
 // Likewise ticket U2's statement on the rows of a judgement.
 pub fn rules_fired()
     ensures { RulesFired }
+{}
+
+// Likewise ticket U13's statement on the point whose mark would clear a TransInvalid one.
+pub fn points_cleared()
+    ensures { Cleared }
 {}

@@ -12,6 +12,7 @@ ghost use Rattle.rules.specs.Judge.{tested, verify_with, verify_buffer, flags_ok
 ghost use Rattle.books.specs.Calls.{open_number, open_bytes, offer_bytes};
 ghost use Rattle.books.specs.Offer.{offer_of};
 ghost use Rattle.rules.specs.Answer.{verify_number, verify_answer, judge_number, judge_answer};
+ghost use Rattle.rules.specs.Clearing.{tested_without, clearing_with, clearing_number, clearing_answer};
 ghost use Rattle.rules.specs.Trail.{trail_with, rows_told, trail_told};
 ghost use Rattle.trail.specs.Call.{trail_answer};
 ghost use Rattle.wutherdish.specs.Version.{version};
@@ -105,6 +106,30 @@ pub extern "C" fn wutherdish_trail(
     wutherdish::wutherdish_trail(
         settings, schedule, rec, leader, presence, list, peers, trail, rows, answer,
     )
+}
+
+// Tells of a point whose verdict is TransInvalid which certificate would clear it. Takes and tests what judging does, without a peer buffer.
+// Answers document 01's number, or 0 with 69 bytes in `answer`: 0 not waiting, 1 no single mark, 2 the point of that id; then the id,
+// zeros but for 2. With a number no lent byte changes.
+#[unsafe(no_mangle)]
+pub extern "C" fn wutherdish_clearing(
+    settings: &[u8],
+    schedule: &[u8],
+    rec: &[u8],
+    leader: u8,
+    presence: u8,
+    list: &[u8],
+    answer: &mut [u8; 69],
+) -> u8
+    ensures number { result ≡ clearing_number
+        (clearing_with leader presence list.now
+        (tested_without settings.now schedule.now rec.now leader presence)) }
+    ensures told { answer.new ≡ clearing_answer
+        (clearing_with leader presence list.now
+        (tested_without settings.now schedule.now rec.now leader presence))
+        answer.old }
+{
+    wutherdish::wutherdish_clearing(settings, schedule, rec, leader, presence, list, answer)
 }
 
 // Opens a book in a slice, with its settings. Answers 1, 5, or 0 where it is open; with a number no byte changes.

@@ -1,19 +1,19 @@
 -- What a pass of verification says of a point: it does not lie below genesis; at genesis it has both roles; above, the peer that a link
--- goes through stands in its map.
-use Rattle.std.specs.Prelude.{None, Some}
+-- goes through stands in its map, and an indirect link's target lies below the round that the link goes through.
+use Rattle.std.specs.Prelude.{Option, None, Some, is_some}
 use Prim.Native.Nat.{ℕ, ◌≤◌, ◌<◌}
 use native.Mathlib.Omega.{arith}
 use mathlib.Core.Path.{◌≡◌, refl, sym, ap, ◌∙◌}
-use mathlib.Core.Bool.{true, false}
+use mathlib.Core.Bool.{true, false, not}
 use mathlib.Core.List.{List, [], ◌∷◌}
 use lib.Dec.{eqb}
-use borrow.Author.Tests.{ltb-false, eq-eqb, ne_eqb, not-false}
+use borrow.Author.Tests.{leb-false, ltb-false, eq-eqb, ne_eqb, not-false}
 use Rattle.base.specs.Base.{concat, first_of}
-use Rattle.base.proofs.Bool.{pick_true, pick-false, or_left}
+use Rattle.base.proofs.Bool.{pick_true, pick-false, or_left, or_right}
 use Rattle.base.proofs.Tables.{AllNone, all_none, row_none, first-none}
 use Rattle.base.proofs.Option.{some_of}
 use Rattle.base.proofs.Impossible.{impossible}
-use Rattle.point.specs.Point.{PointInfo, is_anchor_stage, digest_safe, through, anchor_link}
+use Rattle.point.specs.Point.{PointId, Through, Indirect, PointInfo, is_anchor_stage, digest_safe, through_round, through, anchor_link}
 use Rattle.point.specs.declared.data.PointRole.{PointRole}
 use Rattle.point.specs.declared.data.PointRole.TheVariants.{Regular, AnchorProof, AnchorTrigger, Genesis}
 use Rattle.point.specs.declared.data.AnchorStageRole.{AnchorStageRole}
@@ -22,8 +22,11 @@ use Rattle.schedule.specs.Settings.{Settings}
 use Rattle.schedule.specs.Schedule.{Schedule}
 use Rattle.reasons.specs.declared.ill_formed.StructureIssue.{StructureIssue}
 use Rattle.reasons.specs.declared.ill_formed.VerifyError.{VerifyError}
-use Rattle.books.proofs.Named.{no_issue}
 use Rattle.rules.specs.Verify.{new_rows, is_genesis, genesis_structure_rows, target_too_new, bad_link, link_rows, structure_rows, structure, genesis_rows, above_rows, well_formed_rows, scheduled, peer_rows, faults, verify}
+
+pub no_issue : (o : Option StructureIssue) → structure o ≡ [] → o ≡ None
+no_issue None e = refl
+no_issue (Some i) e = impossible (cc)
 
 -- the rows of a structure that raise no issue
 issues_none : (l : List (List StructureIssue)) → structure (first_of (concat l)) ≡ [] → AllNone l
@@ -80,3 +83,10 @@ module _ (c : Settings) (s : Schedule) (p : PointInfo) (pass : verify c s p ≡ 
   unfolding bad_link
   pass_link a g =
       some_of _ (not-false _ (or_left _ (target_too_new p.id.round (anchor_link g p)) (link_ok a g)))
+
+  -- an indirect link's target lies below the round that the link goes through
+  pub pass_target : c.genesis_round < p.id.round → (g : AnchorStageRole) (to : PointId) (t : Through) → anchor_link g p ≡ Indirect to t →
+      to.round < through_round t p.id.round
+  unfolding bad_link target_too_new
+  pass_target a g to t e =
+      leb-false _ _ (or_right (not (is_some (digest_safe p (through (Indirect to t))))) _ (ap (bad_link p) (sym e) ∙ link_ok a g))
