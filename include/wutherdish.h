@@ -174,6 +174,26 @@ uint8_t wutherdish_trail(const uint8_t *settings, size_t settings_len,
                          uint8_t answer[WUTHERDISH_ANSWER]);
 
 /*
+ * Says which certificate would clear a trans-invalid point. It takes and tests what judging does, but for the peer buffer: numbers 1 to
+ * 4 and 6 to 9, in the same order. With a number the answer keeps what it held. With 0 its 69 bytes are set:
+ *
+ *   at  bytes  what
+ *    0      1  0 the point is not waiting: its verdict is not trans-invalid
+ *              1 no single mark clears it
+ *              2 the mark of this point does, alone set wherever it stands in the list, and no other: the verdict is valid then
+ *    1     68  2: the point's round (4), digest (32), author (32), little-endian; else zeros
+ *
+ * The point named is a dependency or a link's target, not the root cause that the verdict has. As above, the answer doesn't overlap the
+ * rest.
+ */
+uint8_t wutherdish_clearing(const uint8_t *settings, size_t settings_len,
+                            const uint8_t *schedule, size_t schedule_len,
+                            const uint8_t *record, size_t record_len,
+                            uint8_t leader, uint8_t presence,
+                            const uint8_t *list, size_t list_len,
+                            uint8_t answer[69]);
+
+/*
  * A book keeps points with their verdicts in a slice of 47 to 16,777,216 bytes: settings, at most 4,096 entries, zeros.
  * Opening sets every byte of the slice. It tests, in this order:
  *

@@ -1,22 +1,24 @@
 //! The calls that a case makes.
 
 use wutherdish::lent::{self, ANSWER};
-use wutherdish::{Digest, Fault, FaultOf, PeerId, Point, PointId, PointRole, Refusal, Verdict, Verified, VerifyError};
+use wutherdish::{
+    Clearing, Digest, FaultOf, PeerId, Point, PointId, PointRole, Refusal, Verdict, Verified, VerifyError,
+};
 
 use crate::arrangement::Arrangement;
-use crate::entries::Entries;
+use crate::judging::Judging;
 
 /// No call writes more to what it is lent: the longest record.
 const MOST_ROOM: usize = 41_126;
-/// How many bytes a row of a trail has.
-const ROW: usize = 8;
 
 /// A call, with what it is lent but for what it writes to.
 pub enum Call<'a> {
     /// Verifying.
     Verify(Network<'a>),
-    /// Judging.
-    Judge(Network<'a>, Judging<'a>),
+    /// Judging, with a trail of this many bytes if it is lent one.
+    Judge(Judging<'a>, Option<usize>),
+    /// Asking which certificate clears a point.
+    Clear(Judging<'a>),
     /// Converting a record to this arrangement.
     Convert(Arrangement, &'a [u8]),
     /// Writing.
@@ -25,20 +27,9 @@ pub enum Call<'a> {
 
 /// Settings, schedule and a record.
 pub struct Network<'a> {
-    settings: &'a [u8],
-    schedule: &'a [u8],
-    record: &'a [u8],
-}
-
-/// What judging takes and verifying does not.
-pub struct Judging<'a> {
-    /// The leader flag.
-    pub leader: u8,
-    /// How many rounds are in the DAG.
-    pub presence: u8,
-    list: &'a [u8],
-    /// How many bytes a trail is lent, if one is.
-    trail: Option<usize>,
+    pub settings: &'a [u8],
+    pub schedule: &'a [u8],
+    pub record: &'a [u8],
 }
 
 /// A point, as it is handed over to be written.
@@ -59,12 +50,22 @@ pub enum Answer {
     Passed,
     /// A verdict; verifying gives some of them.
     Verdict(Verdict),
-    /// A verdict, and all faults that judging found.
-    Trail(Verdict, Vec<FaultOf>),
+    /// A verdict by a list, and what else is said of it.
+    Judged(Verdict, Said),
+    /// What the point waits for.
+    Clearing(Clearing),
     /// The record was converted.
     Converted,
     /// The record was written.
     Written,
+}
+
+/// What is said of a verdict.
+pub struct Said {
+    /// All faults that judging found; none where it was not lent a trail.
+    pub faults: Vec<FaultOf>,
+    /// What a trans-invalid point waits for.
+    pub clearing: Option<Clearing>,
 }
 
 impl From<Verified> for Answer {
@@ -84,7 +85,9 @@ impl<'a> Call<'a> {
             (1, &[settings, schedule, record, room] | &[settings, schedule, record, room, _]) => {
                 (Self::Verify(Network { settings, schedule, record }), room)
             }
-            (2, [parts @ .., room] | [parts @ .., room, _]) if parts.len() == 5 => (Self::judge(parts, None)?, room),
+            (2, [parts @ .., room] | [parts @ .., room, _]) if parts.len() == 5 => {
+                (Self::Judge(Judging::read(parts)?, None), room)
+            }
             (16, [parts @ .., room] | [parts @ .., room, _]) if parts.len() == 9 => {
                 (Self::Write(Parts::read(parts)?), room)
             }
@@ -94,28 +97,25 @@ impl<'a> Call<'a> {
             (17, &[&[1], record, room] | &[&[1], record, room, _]) => (Self::Convert(Arrangement::Pairs, record), room),
             (18, [parts @ .., room, trail] | [parts @ .., room, trail, _]) if parts.len() == 5 => {
                 let length = u32::from_le_bytes((*trail).try_into().ok()?);
-                (Self::judge(parts, Some(length.try_into().ok()?))?, room)
+                (Self::Judge(Judging::read(parts)?, Some(length.try_into().ok()?)), room)
             }
+            // its answer is all that it writes
+            (20, parts | [parts @ .., _]) if parts.len() == 5 => (Self::Clear(Judging::read(parts)?), &[0; 4]),
             _ => return None,
         })
     }
 
-    fn judge(parts: &[&'a [u8]], trail: Option<usize>) -> Option<Self> {
-        let &[settings, schedule, record, &[leader, presence], list] = parts else { return None };
-        Some(Self::Judge(Network { settings, schedule, record }, Judging { leader, presence, list, trail }))
-    }
-
     /// Lends it a trail that is long enough, if it judges and its case has none.
     pub fn lend_trail(&mut self) {
-        if let Self::Judge(_, judging) = self {
-            judging.trail.get_or_insert(usize::MAX);
+        if let Self::Judge(_, trail) = self {
+            trail.get_or_insert(usize::MAX);
         }
     }
 
-    /// The bytes of its list; none where it doesn't judge.
+    /// The bytes of its list; none where it takes none.
     pub fn list(&self) -> &'a [u8] {
         match self {
-            Self::Judge(_, judging) => judging.list,
+            Self::Judge(judging, _) | Self::Clear(judging) => judging.list,
             Self::Verify(_) | Self::Convert(..) | Self::Write(_) => &[],
         }
     }
@@ -123,7 +123,8 @@ impl<'a> Call<'a> {
     /// What its record says, if that can be read; of one that is to be written, id and role.
     pub fn point(&self) -> Option<Point> {
         let (arrangement, record) = match self {
-            Self::Verify(network) | Self::Judge(network, _) => (Arrangement::Columns, network.record),
+            Self::Verify(network) => (Arrangement::Columns, network.record),
+            Self::Judge(judging, _) | Self::Clear(judging) => (Arrangement::Columns, judging.network.record),
             Self::Convert(to, record) => (to.other(), *record),
             Self::Write(parts) => return parts.point(),
         };
@@ -134,59 +135,34 @@ impl<'a> Call<'a> {
     pub fn answer(&self, room: usize) -> Result<Answer, Refusal> {
         // more of them make no difference, and a case may name 4 GiB
         let mut room = vec![0; room.min(MOST_ROOM)];
-        let mut answer = [0; ANSWER];
-        let mut trail = self.trail();
-        let mut rows = 0;
-        let number = self.number(&mut room, trail.as_deref_mut().map(|trail| (trail, &mut rows)), &mut answer);
-        let read = match (number, self) {
-            (0, Self::Verify(_)) => Verified::read(&answer, &room).map(Answer::from),
-            (0, Self::Judge(_, judging)) => Verdict::read(&answer, &room).and_then(|verdict| match &trail {
-                None => Some(Answer::Verdict(verdict)),
-                Some(trail) => Some(Answer::Trail(verdict, judging.faults(trail, rows)?)),
-            }),
-            (0, Self::Convert(..)) => Some(Answer::Converted),
-            (0, Self::Write(_)) => Some(Answer::Written),
-            (number, _) => return Err(Refusal::new(number)),
-        };
-        read.ok_or(Refusal::Foreign(0))
-    }
-
-    /// The trail that it is lent, if it is lent one. More bytes than a row's over its list make no difference.
-    fn trail(&self) -> Option<Vec<u8>> {
         match self {
-            Self::Judge(_, Judging { list, trail, .. }) => trail.map(|length| vec![0; length.min(list.len() + ROW)]),
-            Self::Verify(_) | Self::Convert(..) | Self::Write(_) => None,
-        }
-    }
-
-    /// The number that the call gives, 0 for none.
-    fn number(&self, room: &mut [u8], trail: Option<(&mut [u8], &mut u32)>, answer: &mut [u8; ANSWER]) -> u8 {
-        match self {
-            Self::Verify(Network { settings, schedule, record }) => {
-                lent::verify(settings, schedule, record, room, answer)
+            Self::Verify(network) => network.verify(&mut room),
+            Self::Judge(judging, trail) => judging.judge(&mut room, *trail),
+            Self::Clear(judging) => judging.clearing().map(Answer::Clearing),
+            Self::Convert(Arrangement::Columns, record) => {
+                answered(lent::pairs_to_columns(record, &mut room, &mut 0), || Some(Answer::Converted))
             }
-            Self::Judge(Network { settings, schedule, record }, Judging { leader, presence, list, .. }) => {
-                match trail {
-                    None => lent::judge(settings, schedule, record, *leader, *presence, list, room, answer),
-                    Some((trail, rows)) => {
-                        lent::trail(settings, schedule, record, *leader, *presence, list, room, trail, rows, answer)
-                    }
-                }
+            Self::Convert(Arrangement::Pairs, record) => {
+                answered(lent::columns_to_pairs(record, &mut room, &mut 0), || Some(Answer::Converted))
             }
-            Self::Convert(Arrangement::Columns, record) => lent::pairs_to_columns(record, room, &mut 0),
-            Self::Convert(Arrangement::Pairs, record) => lent::columns_to_pairs(record, room, &mut 0),
-            Self::Write(parts) => parts.write(room),
+            Self::Write(parts) => answered(parts.write(&mut room), || Some(Answer::Written)),
         }
     }
 }
 
-impl Judging<'_> {
-    /// What the rows of a trail say, with the ids of the entries.
-    fn faults(&self, trail: &[u8], rows: u32) -> Option<Vec<FaultOf>> {
-        let entries = Entries::of(self.list);
-        let rows = trail.as_chunks::<ROW>().0.get(..rows.try_into().ok()?)?;
-        let faults = rows.iter().map(Fault::read);
-        faults.map(|fault| fault.map(|fault| FaultOf(fault, entries.id(fault.set_by)))).collect()
+/// What a call answers that gave a number, 0 for none.
+pub fn answered<A>(number: u8, read: impl FnOnce() -> Option<A>) -> Result<A, Refusal> {
+    match number {
+        0 => read().ok_or(Refusal::Foreign(0)),
+        number => Err(Refusal::new(number)),
+    }
+}
+
+impl Network<'_> {
+    fn verify(&self, peers: &mut [u8]) -> Result<Answer, Refusal> {
+        let mut answer = [0; ANSWER];
+        let number = lent::verify(self.settings, self.schedule, self.record, peers, &mut answer);
+        answered(number, || Verified::read(&answer, peers).map(Answer::from))
     }
 }
 

@@ -110,7 +110,7 @@ impl<W: Write> Explain<'_, W> {
     fn case(&self, case: &Case<'_>) -> String {
         let unknown = match case.call {
             Call::Write(_) => "a point of an unknown role",
-            Call::Verify(_) | Call::Judge(..) | Call::Convert(..) => "a record that can't be read",
+            Call::Verify(_) | Call::Judge(..) | Call::Clear(_) | Call::Convert(..) => "a record that can't be read",
         };
         let point = |leader| {
             let said = |point| self.words.point(&point, leader);
@@ -118,7 +118,8 @@ impl<W: Write> Explain<'_, W> {
         };
         match &case.call {
             Call::Verify(_) => format!("verify: {}", point(0)),
-            Call::Judge(_, judging) => format!("judge: {}, presence {}", point(judging.leader), judging.presence),
+            Call::Judge(judging, _) => format!("judge: {}, presence {}", point(judging.leader), judging.presence),
+            Call::Clear(judging) => format!("clear: {}, presence {}", point(judging.leader), judging.presence),
             Call::Write(_) => format!("write: {}", point(0)),
             Call::Convert(to, _) => format!("convert: {}, from {} to {}", point(0), to.other().name(), to.name()),
         }

@@ -13,6 +13,7 @@ mod feed;
 mod files;
 mod ids;
 mod input;
+mod judging;
 mod marks;
 mod names;
 mod output;

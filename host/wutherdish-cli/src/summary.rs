@@ -3,16 +3,19 @@
 use std::collections::BTreeMap;
 use std::fmt::{self, Display, Formatter};
 
-use wutherdish::{Kept, Refusal};
+use wutherdish::{Clearing, Kept, Refusal};
 
 use crate::calls::Answer;
 
-/// The answers by `tally`'s letters, in the order of a summary. P, C and W are none of them: `tally` only judges.
-const KINDS: [(char, &str); 9] = [
+/// The answers by `tally`'s letters, in the order of a summary. P, C, W and digits are none of them: `tally` only judges.
+const KINDS: [(char, &str); 12] = [
     ('V', "valid"),
     ('P', "passed"),
     ('C', "converted"),
     ('W', "written"),
+    ('1', "waiting for a certificate"),
+    ('2', "cleared by no single certificate"),
+    ('0', "waiting for no certificate"),
     ('T', "trans-invalid"),
     ('I', "invalid"),
     ('L', "ill-formed"),
@@ -38,7 +41,10 @@ impl Summary {
             Ok(Answer::Passed) => self.count('P', None),
             Ok(Answer::Converted) => self.count('C', None),
             Ok(Answer::Written) => self.count('W', None),
-            Ok(Answer::Verdict(verdict) | Answer::Trail(verdict, _)) => self.count(verdict.letter(), None),
+            Ok(Answer::Clearing(Clearing::ClearedBy(_))) => self.count('1', None),
+            Ok(Answer::Clearing(Clearing::NoSingleMark)) => self.count('2', None),
+            Ok(Answer::Clearing(Clearing::NotWaiting)) => self.count('0', None),
+            Ok(Answer::Verdict(verdict) | Answer::Judged(verdict, _)) => self.count(verdict.letter(), None),
             Err(refusal) => self.count('-', Some(refusal.number())),
         }
     }

@@ -5,7 +5,7 @@ use wutherdish::{
     Verified,
 };
 
-use crate::calls::Answer;
+use crate::calls::{Answer, Said};
 use crate::names::Names;
 
 /// How many unknown peers the words on a verdict name themselves.
@@ -53,9 +53,10 @@ impl Words {
 
     /// The answer to a point, line by line.
     pub fn answer(&self, answer: &Result<Answer, Refusal>) -> Vec<String> {
-        let (verdict, faults) = match answer {
-            Ok(Answer::Verdict(verdict)) => (verdict, &[][..]),
-            Ok(Answer::Trail(verdict, faults)) => (verdict, &faults[..]),
+        let (verdict, said) = match answer {
+            Ok(Answer::Verdict(verdict)) => (verdict, None),
+            Ok(Answer::Judged(verdict, said)) => (verdict, Some(said)),
+            Ok(Answer::Clearing(clearing)) => return vec![self.names.say(clearing)],
             Ok(Answer::Passed) => return vec![Verified::Passed.to_string()],
             Ok(Answer::Converted) => return vec!["converted".into()],
             Ok(Answer::Written) => return vec!["written".into()],
@@ -67,6 +68,14 @@ impl Words {
             let more = peers.iter().skip(NAMED);
             lines.extend(more.map(|peer| format!("unknown too: {}", self.names.say(peer))));
         }
+        lines.extend(said.iter().flat_map(|said| self.said(said)));
+        lines
+    }
+
+    /// What else is said of a verdict.
+    fn said(&self, said: &Said) -> Vec<String> {
+        let Said { faults, clearing } = said;
+        let mut lines: Vec<String> = clearing.iter().map(|clearing| self.names.say(clearing)).collect();
         if !faults.is_empty() {
             lines.push(format!("{}, in the order in which the rules fired:", counted(faults.len(), "fault")));
             lines.extend(faults.iter().map(|fault| format!("  {}", self.names.say(fault))));

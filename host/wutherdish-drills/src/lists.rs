@@ -1,4 +1,4 @@
-//! Cases for judging: pairs that are told apart by one thing in their lists, and a point with several faults.
+//! Cases for judging: some that are told apart by one thing in their lists, and a point with several faults.
 
 use wutherdish::AnchorStageRole::{Proof, Trigger};
 use wutherdish::{Dependency, List, PeerId, Point, State};
@@ -13,6 +13,7 @@ pub fn drills() -> Vec<Drill> {
     let mut drills = vec![with_version(), without_version(), with_target(), without_target()];
     drills.extend([flag_of_judging(), flag_of_arrival(), tie_first(), tie_second()]);
     drills.extend([two_reasons(), two_reasons_reversed(), four_faults()]);
+    drills.extend([waits_for_one(), waits_for_one_certified(), waits_for_two()]);
     drills
 }
 
@@ -168,4 +169,38 @@ fn four_faults() -> Drill {
     let list = with_targets(list, &valid(&world.genesis()));
     let what = "a case for judging: three entries give four reasons, of which the verdict names the last";
     case("four-faults", what, &world, &point, &list, invalid(19))
+}
+
+/// B's point of round 13 includes C's of round 12, which inherits from A's bad one of round 11. None of the others stands above A's.
+fn above_heir() -> (World, Point, Point, List) {
+    let world = World::new(E, &[A, B, C, D]);
+    let bad_one = Point { anchor_time: WRONG_ANCHOR_TIME, ..world.first(A) };
+    let heir =
+        State::TransInvalid { record: written(world.point(12, C, &[A, B, C]).to_bytes()), root: bad_one.id, reason: 8 };
+    let above = |round, author| world.point(round, author, &[B, C, D]);
+    let list = List::new().direct(Dependency::new(heir)).direct(valid(&above(12, B)).certified());
+    let list = with_targets(list.direct(valid(&above(12, D))), &valid(&world.genesis()));
+    let point = above(13, B);
+    (world, point, bad_one, list)
+}
+
+fn waits_for_one() -> Drill {
+    let (world, point, _, list) = above_heir();
+    let what = "a case for judging: one dependency hands on a root cause that lies below it, so one certificate clears the point";
+    case("waits-for-one", what, &world, &point, &list, TRANS_INVALID)
+}
+
+fn waits_for_one_certified() -> Drill {
+    let (world, point, _, mut list) = above_heir();
+    list.direct[0].certified = true;
+    let what = "the case of waits-for-one, with that certificate";
+    case("waits-for-one-certified", what, &world, &point, &list, VALID)
+}
+
+fn waits_for_two() -> Drill {
+    let (world, point, bad_one, list) = above_heir();
+    let (point, list) = (point.witness(A, bad_one.id.digest), list.direct(bad(&bad_one, 8)));
+    let what =
+        "the case of waits-for-one, where the point also witnesses the root cause: the mark of neither alone clears it";
+    case("waits-for-two", what, &world, &point, &list, TRANS_INVALID)
 }

@@ -78,6 +78,25 @@ unsafe extern "C" {
         answer: *mut [u8; ANSWER],
     ) -> u8;
 
+    /// Says which certificate would clear a trans-invalid point.
+    ///
+    /// # Safety
+    ///
+    /// As of [`wutherdish_verify`].
+    pub unsafe fn wutherdish_clearing(
+        settings: *const u8,
+        settings_len: usize,
+        schedule: *const u8,
+        schedule_len: usize,
+        record: *const u8,
+        record_len: usize,
+        leader: u8,
+        presence: u8,
+        list: *const u8,
+        list_len: usize,
+        answer: *mut [u8; 69],
+    ) -> u8;
+
     /// Opens a book in a slice.
     ///
     /// # Safety

@@ -1,5 +1,6 @@
 //! Verifying and judging, with their answers as enums.
 
+use crate::clearing::Clearing;
 use crate::fault::{Fault, ROW};
 use crate::lent::{self, ANSWER, PEER_BUFFER};
 use crate::reasons::{Verdict, Verified};
@@ -135,6 +136,58 @@ pub fn judge_with_trail(
     let rows = usize::try_from(rows).ok().and_then(|count| trail.as_chunks::<ROW>().0.get(..count));
     let faults = rows.and_then(|rows| rows.iter().map(Fault::read).collect());
     faults.map(|faults| (verdict, faults)).ok_or(Refusal::Foreign(0))
+}
+
+/// Says which certificate would make a point valid that [`judge`] finds trans-invalid with the same list: of which point the certified
+/// flag would, alone set wherever that point stands in the list. It gives the numbers that [`judge`] gives.
+///
+/// ```
+/// use wutherdish::{Clearing, Dependency, Digest, List, PeerId, Point, PointId, Schedule, Settings, State, clearing};
+/// # use wutherdish::AnchorStageRole::{Proof, Trigger};
+/// # use wutherdish::{AnchorLink, PointRole, Through, Verdict, judge};
+///
+/// # let settings = Settings {
+/// #     genesis_round: 11,
+/// #     genesis_digest: Digest([9; 32]),
+/// #     payload_batch_bytes: 1_000,
+/// #     sticky_anchors: 0,
+/// #     clock_skew_millis: 5_000,
+/// #     commit_history_rounds: 20,
+/// # };
+/// # let [founder, ada, bea, cy] = [1, 2, 3, 4].map(|byte| PeerId([byte; 32]));
+/// # let schedule = Schedule::new(1_000).span(11, [founder]).span(12, [ada, bea, cy]).to_bytes()?;
+/// # let id = PointId { round: 11, digest: settings.genesis_digest, author: founder };
+/// # let genesis = Point::new(id, 70_000, 70_000).include(founder, Digest([0; 32])).role(PointRole::Genesis);
+/// # let link = AnchorLink::Direct(Through::Includes(founder));
+/// # let point = Point::new(PointId { round: 12, digest: Digest([10; 32]), author: ada }, 70_001, 70_000)
+/// #     .include(founder, genesis.id.digest)
+/// #     .link(Proof, link)
+/// #     .link(Trigger, link);
+/// // a point above genesis, which the host has as invalid
+/// let bad = Dependency::new(State::Invalid { record: genesis.to_bytes()?, reason: 8 });
+/// let (settings, record) = (settings.to_bytes(), point.to_bytes()?);
+/// let waits = clearing(&settings, &schedule, &record, 0, 3, &List::new().direct(bad.clone()).to_bytes()?)?;
+/// assert_eq!(waits, Clearing::ClearedBy(genesis.id));
+/// assert_eq!(waits.to_string(), "waits for a certificate of the point 09090909.. of round 11 by 01010101..");
+///
+/// let list = List::new().direct(bad.certified()).to_bytes()?;
+/// assert_eq!(clearing(&settings, &schedule, &record, 0, 3, &list)?, Clearing::NotWaiting);
+/// # assert_eq!(judge(&settings, &schedule, &record, 0, 3, &list)?, Verdict::Valid);
+/// # Ok::<(), Box<dyn std::error::Error>>(())
+/// ```
+pub fn clearing(
+    settings: &[u8],
+    schedule: &[u8],
+    record: &[u8],
+    leader: u8,
+    presence: u8,
+    list: &[u8],
+) -> Result<Clearing, Refusal> {
+    let mut answer = [0; 69];
+    match lent::clearing(settings, schedule, record, leader, presence, list, &mut answer) {
+        0 => Clearing::read(&answer).ok_or(Refusal::Foreign(0)),
+        number => Err(Refusal::new(number)),
+    }
 }
 
 /// Lends a call its peer buffer and its answer, and reads what it says.

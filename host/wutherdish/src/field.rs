@@ -109,7 +109,7 @@ fn split(bytes: &[u8], tag: u8) -> Option<(Content<'_>, &[u8])> {
 }
 
 /// Takes the parts of a content, as long as there are any.
-pub(crate) struct Content<'a>(&'a [u8]);
+pub(crate) struct Content<'a>(pub &'a [u8]);
 
 impl<'a> Content<'a> {
     pub fn array<const N: usize>(&mut self) -> Option<[u8; N]> {

@@ -115,6 +115,36 @@ pub fn trail(
     }
 }
 
+/// Says which certificate would clear a trans-invalid point: gives document 01's number, or 0 where the answer is set. No peer buffer
+/// is lent. The answer is 0 for a verdict of another kind, 1 where no single mark clears the point, 2 and the id of the point whose mark
+/// does; zeros otherwise.
+pub fn clearing(
+    settings: &[u8],
+    schedule: &[u8],
+    record: &[u8],
+    leader: u8,
+    presence: u8,
+    list: &[u8],
+    answer: &mut [u8; 69],
+) -> u8 {
+    // SAFETY: as in `verify`.
+    unsafe {
+        wutherdish_sys::wutherdish_clearing(
+            settings.as_ptr(),
+            settings.len(),
+            schedule.as_ptr(),
+            schedule.len(),
+            record.as_ptr(),
+            record.len(),
+            leader,
+            presence,
+            list.as_ptr(),
+            list.len(),
+            answer,
+        )
+    }
+}
+
 /// Opens a book in a slice: gives document 01's number, or 0 where it is opened.
 pub fn open(book: &mut [u8], settings: &[u8]) -> u8 {
     // SAFETY: as in `verify`.

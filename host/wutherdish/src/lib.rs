@@ -9,6 +9,7 @@
 //! | [`verify`] | tests a point by itself |
 //! | [`judge`] | gives the verdict on a point by a list of what the host keeps: its dependencies, its author's points, its links' targets |
 //! | [`judge_with_trail`] | says beside the verdict every reason that was set, and by which entry |
+//! | [`clearing()`] | says which certificate would make a trans-invalid point valid |
 //! | [`Book`] | keeps the points with their verdicts, and judges each new one by them |
 //! | [`Point::to_bytes`] | writes the record of a point that the host composes |
 //! | [`pairs_to_columns`], [`columns_to_pairs`] | convert point records that were stored before format 2, and back |
@@ -101,6 +102,7 @@ mod answer;
 mod book;
 mod build_error;
 mod calls;
+mod clearing;
 mod convert;
 mod fault;
 mod field;
@@ -123,7 +125,8 @@ mod written;
 
 pub use book::Book;
 pub use build_error::BuildError;
-pub use calls::{judge, judge_with_trail, verify};
+pub use calls::{clearing, judge, judge_with_trail, verify};
+pub use clearing::Clearing;
 pub use convert::{columns_to_pairs, pairs_to_columns};
 pub use fault::{Fault, FaultOf, SetBy};
 pub use field::Unreadable;

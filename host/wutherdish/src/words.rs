@@ -1,6 +1,7 @@
 //! What a crew reads: one line for every answer, without a final period. "It" is the judged point. Ids are cut short;
 //! the alternate form (`{:#}`) shows them whole.
 
+mod clearing;
 mod fault;
 mod ill_formed;
 mod invalid;

@@ -1,6 +1,7 @@
 //! The command `wutherdish` as its users call it.
 
 mod cases;
+mod clearing;
 mod compose;
 mod convert;
 mod explain;

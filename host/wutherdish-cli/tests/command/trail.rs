@@ -7,7 +7,7 @@ use crate::explain::explained;
 use crate::run::{done, drill, fed, repository};
 
 /// The blobs of a case.
-fn blobs(case: &[u8]) -> Vec<&[u8]> {
+pub fn blobs(case: &[u8]) -> Vec<&[u8]> {
     let mut rest = &case[2..];
     let mut blobs = Vec::new();
     while let Some((length, after)) = rest.split_first_chunk() {

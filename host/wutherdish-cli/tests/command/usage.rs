@@ -160,7 +160,7 @@ fn assert_bad(arguments: &[&str], input: &[u8], wanted: &str) {
 
 #[test]
 fn bad_input_is_1() {
-    let neither = "standard input: byte 0: expected a feed or a book (tag 32), a point record (tag 1), or a case (1, 2 or 16 to 18)";
+    let neither = "standard input: byte 0: expected a feed or a book (tag 32), a point record (tag 1), or a case (1, 2, 16 to 18 or 20)";
     for command in ["explain", "show"] {
         assert_bad(&[command, "-"], &[], neither);
         assert_bad(&[command, "-"], b"text", neither);

@@ -1,6 +1,6 @@
-//! The two cases of a pair differ in their lists alone; and what a case with several faults gives.
+//! The two cases of a pair differ in their lists alone; and what a case with several faults gives, and what others wait for.
 
-use wutherdish::{InvalidReason, PeerId, SetBy, Verdict, judge, judge_with_trail};
+use wutherdish::{Clearing, InvalidReason, PeerId, SetBy, Verdict, clearing, judge, judge_with_trail};
 use wutherdish_drills::Input;
 
 use crate::run::{blobs, drill};
@@ -33,13 +33,15 @@ fn a_list_leaves_out_a_version_or_the_targets() {
     }
 }
 
-/// The byte is the witness's certified flag: after tag, length and state of the first entry.
+/// The byte is the first entry's certified flag: after tag, length and state.
 #[test]
 fn a_flag_is_another() {
-    let [judging, arrival] = lists(["flag-of-judging", "flag-of-arrival"]);
-    let different: Vec<usize> = (0..judging.len()).filter(|at| judging[*at] != arrival[*at]).collect();
-    assert_eq!((judging.len(), different), (arrival.len(), vec![4]));
-    assert_eq!((judging[4], arrival[4]), (1, 0));
+    for pair in [["flag-of-judging", "flag-of-arrival"], ["waits-for-one-certified", "waits-for-one"]] {
+        let [with, without] = lists(pair);
+        let different: Vec<usize> = (0..with.len()).filter(|at| with[*at] != without[*at]).collect();
+        assert_eq!((with.len(), different), (without.len(), vec![4]));
+        assert_eq!((with[4], without[4]), (1, 0));
+    }
 }
 
 /// The author of the root cause that judging names.
@@ -87,4 +89,21 @@ fn four_faults() {
     let said: Vec<(SetBy, u8)> = faults.iter().map(|fault| (fault.set_by, fault.reason.0)).collect();
     assert_eq!(said, [(0, 6), (1, 11), (1, 8), (2, 19)].map(|(place, reason)| (SetBy::Direct(place), reason)));
     assert!(matches!(verdict, Verdict::Invalid(InvalidReason::DepNotFound { .. })), "{verdict}");
+}
+
+/// C's point of round 12 is waited for, where the root cause is A's of round 11.
+#[test]
+fn what_is_waited_for() {
+    let waits = |name| {
+        let (blobs, list) = parts(name);
+        let [settings, schedule, record, flags, _] = &blobs[..] else { panic!("a case of judging has six blobs") };
+        clearing(settings, schedule, record, flags[0], flags[1], &list).expect("an answer")
+    };
+    let Clearing::ClearedBy(heir) = waits("waits-for-one") else { panic!("one point") };
+    assert_eq!((heir.round, heir.author), (12, PeerId([0x0c; 32])));
+    for name in ["waits-for-one", "waits-for-two"] {
+        assert_eq!(root_author(name), PeerId([0x0a; 32]));
+    }
+    assert_eq!(waits("waits-for-two"), Clearing::NoSingleMark);
+    assert_eq!(waits("waits-for-one-certified"), Clearing::NotWaiting);
 }

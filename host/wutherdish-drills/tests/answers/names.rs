@@ -7,7 +7,7 @@ use wutherdish_drills::{Answer, Input, all, named};
 
 use crate::run::{Feed, STORIES};
 
-const LISTS: [&str; 11] = [
+const LISTS: [&str; 14] = [
     "list-with-version",
     "list-without-version",
     "list-with-target",
@@ -19,6 +19,9 @@ const LISTS: [&str; 11] = [
     "two-reasons",
     "two-reasons-reversed",
     "four-faults",
+    "waits-for-one",
+    "waits-for-one-certified",
+    "waits-for-two",
 ];
 
 const STRUCTURE: [&str; 7] = [

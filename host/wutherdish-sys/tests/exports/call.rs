@@ -1,8 +1,18 @@
 //! A call, as its source declares it.
 
 /// What a parameter may be. Under another name, or with a lifetime, one that is lent would not be seen as such.
-const KINDS: [&str; 9] =
-    ["u8", "u32", "u64", "&[u8]", "&[u8; 68]", "&[u8; 102]", "&mut [u8]", "&mut [u8; 114]", "&mut u32"];
+const KINDS: [&str; 10] = [
+    "u8",
+    "u32",
+    "u64",
+    "&[u8]",
+    "&[u8; 68]",
+    "&[u8; 102]",
+    "&mut [u8]",
+    "&mut [u8; 69]",
+    "&mut [u8; 114]",
+    "&mut u32",
+];
 
 #[derive(Debug)]
 pub struct Call {

@@ -63,6 +63,18 @@ pub fn any_dependency(random: &mut Random, point: &Point) -> Dependency {
     Dependency { state, certified: random.flag(), first_valid: random.flag() }
 }
 
+/// The points that a point includes or witnesses, in any state, each up to two seconds later than it is, and the targets of its links;
+/// its previous point is certified.
+pub fn any_list(random: &mut Random, points: &[Point]) -> List {
+    let mut list = List::new();
+    for dependency in points {
+        let moved = Point { time: dependency.time + random.below(3) as u64 * 1_000, ..dependency.clone() };
+        let entry = any_dependency(random, &moved);
+        list = list.direct(Dependency { certified: entry.certified || moved.id.author == PEERS[0], ..entry });
+    }
+    [Proof, Trigger].iter().fold(list, |list, role| list.indirect(*role, any_dependency(random, &genesis())))
+}
+
 #[test]
 fn lists_of_the_builder_are_readable() {
     let points = [genesis(), first(0), first(1), first(3)];

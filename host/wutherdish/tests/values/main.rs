@@ -1,6 +1,8 @@
 //! Values, their bytes, and what the library makes of them.
 
 mod book;
+mod case;
+mod clearing;
 mod convert;
 mod damage;
 mod halves;

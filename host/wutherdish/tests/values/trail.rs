@@ -7,25 +7,11 @@ use wutherdish::{
     Refusal, Schedule, SetBy, State, Through, Verdict, judge, judge_with_trail,
 };
 
-use crate::lists::{any_dependency, valid};
-use crate::network::{FOUNDER, GENESIS, PEERS, first, genesis, record, schedule, second, settings};
+use crate::case::{Case, assert_each_before_the_next, dropped, list, lost, numbers};
+use crate::lists::{any_list, valid};
+use crate::network::{FOUNDER, GENESIS, PEERS, first, genesis, record, second};
 use crate::parts::FILL;
 use crate::random::Random;
-
-/// What is lent.
-#[derive(Clone)]
-struct Case {
-    settings: Vec<u8>,
-    schedule: Vec<u8>,
-    record: Vec<u8>,
-    leader: u8,
-    presence: u8,
-    list: List,
-    /// How many of the list's last bytes are missing.
-    cut: usize,
-    peers: usize,
-    trail: usize,
-}
 
 /// What a call gave and left.
 struct Given {
@@ -37,33 +23,13 @@ struct Given {
 }
 
 impl Case {
-    fn new(point: &Point, list: List) -> Self {
-        Self {
-            settings: settings().to_bytes().to_vec(),
-            schedule: schedule(),
-            record: record(point),
-            leader: 0,
-            presence: 3,
-            list,
-            cut: 0,
-            peers: PEER_BUFFER + 3,
-            trail: 800,
-        }
-    }
-
-    fn list(&self) -> Vec<u8> {
-        let mut list = self.list.to_bytes().expect("a short list");
-        list.truncate(list.len() - self.cut);
-        list
-    }
-
     fn call(&self) -> Given {
         let Self { settings, schedule, record, leader, presence, .. } = self;
         let mut given = Given {
             number: 0,
             answer: [FILL; ANSWER],
             peers: vec![FILL; self.peers],
-            trail: vec![FILL; self.trail],
+            trail: vec![FILL; self.room],
             rows: 7,
         };
         let Given { answer, peers, trail, rows, .. } = &mut given;
@@ -107,18 +73,6 @@ impl Case {
     }
 }
 
-fn lost(id: PointId) -> Dependency {
-    Dependency::new(State::NotFound { id })
-}
-
-fn dropped() -> Dependency {
-    Dependency::new(State::Dropped)
-}
-
-fn list<const N: usize>(direct: [Dependency; N]) -> List {
-    List { direct: direct.to_vec(), indirect: vec![] }
-}
-
 /// The previous point has the point's time, the next dependency is too late, and the last one was not found.
 fn three_faults() -> Case {
     let [a, b, c] = [first(0), first(1), first(3)];
@@ -150,7 +104,7 @@ fn a_presence_rule_stands_alone() {
         // the list is not read
         let unread = Case { presence, cut: 1, ..three_faults() };
         assert_eq!(unread.rows(), [[0, 0, 0, 2, 255, 0, 0, 0]]);
-        let without = Case { presence, list: List::new(), trail: 8, ..three_faults() };
+        let without = Case { presence, list: List::new(), room: 8, ..three_faults() };
         assert_eq!(without.rows(), [[0, 0, 0, 2, 255, 0, 0, 0]]);
         assert_eq!(without.faults().1.len(), 1);
     }
@@ -178,7 +132,7 @@ fn dropped_entries() {
     let after = list([lost(b.id), dropped(), witness.clone(), previous.clone(), lost(c.id)]);
     assert_eq!(Case::new(&point, after).rows(), [[1, 0, 0, 19, 255, 0, 0, 0]]);
     // the shortest list with a row
-    let alone = Case { trail: 8, ..Case::new(&point, list([dropped(), dropped(), dropped(), dropped()])) };
+    let alone = Case { room: 8, ..Case::new(&point, list([dropped(), dropped(), dropped(), dropped()])) };
     assert_eq!(alone.rows(), [[1, 0, 0, 3, 255, 0, 0, 0]]);
     assert_eq!(alone.faults().1.len(), 1);
     // an indirect one adds none
@@ -242,7 +196,7 @@ fn no_rows_without_a_reason() {
     let point = second(&[&a, &b, &c]);
     let direct = [valid(&genesis()), valid(&a).certified(), valid(&b), valid(&c)];
     let empty = |case: Case| {
-        let case = Case { trail: 0, ..case };
+        let case = Case { room: 0, ..case };
         assert_eq!((case.rows().len(), case.faults().1), (0, vec![]));
         case.faults().0
     };
@@ -265,66 +219,15 @@ fn unknown_peers() {
     (0..20).for_each(|byte| {
         point.includes.insert(PeerId([200 + byte; 32]), Digest([1; 32]));
     });
-    let case = Case { trail: 3, ..Case::new(&point, List::new()) };
+    let case = Case { room: 3, ..Case::new(&point, List::new()) };
     assert_eq!((case.rows().len(), case.call().answer[113]), (0, 20));
-}
-
-/// What is wrong with a case.
-type Wrong = fn(&mut Case);
-
-/// The numbers in the order in which they are tested, each with what gives it.
-fn numbers() -> Vec<(u8, Vec<Wrong>)> {
-    vec![
-        (1, vec![|case| case.settings.truncate(46), |case| case.settings[46] = 0]),
-        (2, vec![|case| case.schedule.truncate(case.schedule.len() - 1), |case| case.schedule.clear()]),
-        (3, vec![|case| case.record.truncate(case.record.len() - 1), |case| case.record.clear()]),
-        (
-            4,
-            vec![
-                |case| case.leader = 2,
-                |case| case.presence = 4,
-                |case| case.record[3..7].copy_from_slice(&[3, 0, 0, 0]),
-                |case| *case.record.last_mut().expect("a record") = 128,
-            ],
-        ),
-        (5, vec![|case| case.peers = PEER_BUFFER - 1, |case| case.peers = 0]),
-        (
-            6,
-            vec![|case| {
-                let known = Schedule::new(GENESIS + 5).span(GENESIS, [FOUNDER]).span(GENESIS + 1, PEERS);
-                case.schedule = known.to_bytes().expect("two spans");
-            }],
-        ),
-        (
-            7,
-            vec![|case| case.cut = 1, |case| {
-                case.list.direct[2].state = State::Invalid { record: record(&first(1)), reason: 21 }
-            }],
-        ),
-        (8, vec![|case| drop(case.list.direct.pop()), |case| case.list.direct.push(valid(&first(2)))]),
-        (9, vec![|case| case.list.direct[1].certified = false]),
-        (15, vec![|case| case.trail = 23, |case| case.trail = 16, |case| case.trail = 0]),
-    ]
 }
 
 #[test]
 fn each_number_before_the_next() {
-    let numbers = numbers();
-    for (place, (number, wrongs)) in numbers.iter().enumerate() {
-        for wrong in wrongs {
-            let assert_first = |later: &[&Wrong]| {
-                let mut case = three_faults();
-                later.iter().rev().for_each(|later| later(&mut case));
-                wrong(&mut case);
-                case.assert_number(*number);
-            };
-            assert_first(&[]);
-            let later = &numbers[place + 1..];
-            later.iter().flat_map(|(_, later)| later).for_each(|later| assert_first(&[later]));
-            let one_of_each: Vec<&Wrong> = later.iter().map(|(_, later)| &later[0]).collect();
-            assert_first(&one_of_each);
-        }
-    }
+    let mut numbers = numbers();
+    numbers.push((15, vec![|case| case.room = 23, |case| case.room = 16, |case| case.room = 0]));
+    assert_each_before_the_next(&numbers, &three_faults(), Case::assert_number);
     assert_eq!((Refusal::new(15), Refusal::Trail.number()), (Refusal::Trail, 15));
 }
 
@@ -336,21 +239,12 @@ fn room_for_all_rows_and_not_one_less() {
     let mut random = Random(41);
     let mut seen = [0; 5];
     for _ in 0..2_000 {
-        let mut list = List::new();
-        for dependency in &points {
-            let moved = Point { time: dependency.time + random.below(3) as u64 * 1_000, ..dependency.clone() };
-            let entry = any_dependency(&mut random, &moved);
-            list = list.direct(Dependency { certified: entry.certified || moved.id.author == PEERS[0], ..entry });
-        }
-        for role in [Proof, Trigger] {
-            list = list.indirect(role, any_dependency(&mut random, &genesis()));
-        }
-        let case = Case::new(&point, list);
+        let case = Case::new(&point, any_list(&mut random, &points));
         let rows = case.rows();
         let exact = 8 * rows.len();
-        assert_eq!(Case { trail: exact, ..case.clone() }.rows(), rows);
+        assert_eq!(Case { room: exact, ..case.clone() }.rows(), rows);
         if exact > 0 {
-            [exact - 1, exact - 8].into_iter().for_each(|trail| Case { trail, ..case.clone() }.assert_number(15));
+            [exact - 1, exact - 8].into_iter().for_each(|room| Case { room, ..case.clone() }.assert_number(15));
         }
         let (verdict, faults) = case.faults();
         assert!(exact <= case.list().len() + 8);

@@ -7,9 +7,9 @@ use std::error::Error;
 
 use wutherdish::PointMap::{Includes, Witness};
 use wutherdish::{
-    AnchorLink, BuildError, Fault, FaultOf, IllFormedNumber, IllFormedReason, IndirectLink, InvalidDependency,
-    InvalidNumber, InvalidReason, Kept, Point, PointRole, Refusal, SetBy, Status, Through, UninitVset, Unreadable,
-    Verdict, Verified, VerifyError,
+    AnchorLink, BuildError, Clearing, Fault, FaultOf, IllFormedNumber, IllFormedReason, IndirectLink,
+    InvalidDependency, InvalidNumber, InvalidReason, Kept, Point, PointRole, Refusal, SetBy, Status, Through,
+    UninitVset, Unreadable, Verdict, Verified, VerifyError,
 };
 
 use crate::tables::{ID, PEER, ill_formed, invalid, issues};
@@ -168,6 +168,14 @@ fn verdicts_and_entries() {
             assert_eq!(kept.to_string().starts_with("certified "), certified);
         }
     }
+}
+
+#[test]
+fn what_is_waited_for() {
+    let lines = [Clearing::NotWaiting, Clearing::NoSingleMark, Clearing::ClearedBy(ID)];
+    lines.iter().for_each(|clearing| assert_line(&clearing.to_string(), &["certificate"]));
+    assert_names_point(&lines[2].to_string(), &format!("{:#}", lines[2]));
+    all_different(lines.iter().map(Clearing::to_string));
 }
 
 #[test]
