@@ -234,7 +234,7 @@ impl From<InvalidReason> for Values {
 
 // The point that a reason names, or none.
 #[tactic(auto, using(parts::proofs::Laws::number_zero))]
-fn id_of(reason: InvalidReason) -> PointId
+pub fn id_of(reason: InvalidReason) -> PointId
     ensures { point_id_of result ≡ (invalid_answer (reason_of reason)).id }
 {
     match reason {

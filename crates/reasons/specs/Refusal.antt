@@ -1,7 +1,7 @@
 -- The numbers of the calls that give no verdict: document 01's, and those that tickets of document 02 add.
 use Rattle.std.specs.Prelude.{ℕ, Result, Ok, Err}
 use Rattle.reasons.specs.declared.refusal.Refusal.{Refusal}
-use Rattle.reasons.specs.declared.refusal.Refusal.TheVariants.{Settings, Schedule, Record, Domain, Short, Horizon, Entries, Mismatch, Uncovered, Book, Kept, Full, Twice, Output, Trail}
+use Rattle.reasons.specs.declared.refusal.Refusal.TheVariants.{Settings, Schedule, Record, Domain, Short, Horizon, Entries, Mismatch, Uncovered, Book, Kept, Full, Twice, Output, Trail, Forced}
 
 abbrev pub refusal_number : Refusal → ℕ
 refusal_number Settings = 1
@@ -19,6 +19,7 @@ refusal_number Full = 12
 refusal_number Twice = 13
 refusal_number Output = 14
 refusal_number Trail = 15
+refusal_number Forced = 17
 
 -- what a call gave, a refusal by its number
 abbrev pub numbered : {A : Type 0} → Result A Refusal → Result A ℕ

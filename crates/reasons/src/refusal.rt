@@ -20,6 +20,7 @@ pub enum Refusal {
     Twice = 13,
     Output = 14,
     Trail = 15,
+    Forced = 17,
 }
 
 impl Refusal {

@@ -1,49 +1,10 @@
 // A case of kind 16: id (68), payload length and bytes (8), includes, witness, evidence, proof link (102), trigger link (102), role,
 // seq_no and is_last (3), time and anchor_time (16), the output's length (4), and the answer: the number (1), the count (4) and the
 // record; with a number the count is 0 and there is no record.
-use crate::call_answer::{LENT, is_filled};
 use crate::case::Case;
+use crate::counted::{COUNT, Counted};
 use crate::failure::{Difference, Failure};
 use crate::lent;
-
-// What the count holds before a call.
-const COUNT: u32 = 0xA5A5A5A5;
-
-// What a call left.
-#[derive(Clone, Copy)]
-struct Left<'a> {
-    number: u8,
-    count: u32,
-    out: &'a [u8],
-}
-
-impl Left<'_> {
-    // After a number, that the case expects no record, and that nothing that was lent has changed.
-    fn is_number(&self, want: &[u8]) -> bool {
-        want.len() == 5
-            && is_filled(&want[1..], 0)
-            && self.count == COUNT
-            && is_filled(self.out, LENT)
-    }
-
-    // After a 0, that the record is the expected one, and that nothing has changed after it.
-    fn is_record(&self, want: &[u8]) -> bool {
-        let n = self.count as usize;
-        want.len() == 5 + n
-            && n <= self.out.len()
-            && want[1..5] == self.count.to_le_bytes()[..]
-            && want[5..] == self.out[..n]
-            && is_filled(&self.out[n..], LENT)
-    }
-
-    fn is_expected(&self, want: &[u8]) -> bool {
-        match want.first() {
-            Some(0) => self.number == 0 && self.is_record(want),
-            Some(&number) => self.number == number && self.is_number(want),
-            None => false,
-        }
-    }
-}
 
 // Two little-endian numbers of four bytes.
 fn two_u32(blob: &[u8]) -> Option<[u32; 2]> {
@@ -66,7 +27,7 @@ fn two_u64(blob: &[u8]) -> Option<[u64; 2]> {
 }
 
 // What the call leaves in the output that it is lent; none where a blob is of a length that it doesn't take.
-fn call<'a>(case: Case<'_>, out: &'a mut [u8]) -> Option<Left<'a>> {
+fn call<'a>(case: Case<'_>, out: &'a mut [u8]) -> Option<Counted<'a>> {
     let [
         id,
         payload,
@@ -102,14 +63,14 @@ fn call<'a>(case: Case<'_>, out: &'a mut [u8]) -> Option<Left<'a>> {
         out,
         &mut count,
     );
-    Some(Left { number, count, out })
+    Some(Counted { number, count, out })
 }
 
 pub fn replay<'a>(case: Case<'a>, buf: &'a mut [u8]) -> Result<(), Failure<'a>> {
     let [.., length, want] = case.blobs;
     let out = lent::lend(buf, length)?;
     let left = call(case, out).ok_or(Failure::NoRoom)?;
-    if left.is_expected(want) {
+    if left.is_expected(want, 1) {
         return Ok(());
     }
     Err(Failure::Different(Difference::Record))

@@ -14,6 +14,8 @@ pub struct Counts {
     offer: u64,
     compose: u64,
     trail: u64,
+    force: u64,
+    clearing: u64,
     other: u64,
     different: u64,
     no_room: u64,
@@ -30,6 +32,8 @@ impl Counts {
             Kind::Offer | Kind::OfferToGiven => &mut self.offer,
             Kind::Compose => &mut self.compose,
             Kind::Trail => &mut self.trail,
+            Kind::Force => &mut self.force,
+            Kind::Clearing => &mut self.clearing,
             Kind::Other => &mut self.other,
         };
         *count = count.wrapping_add(1);
@@ -62,6 +66,8 @@ impl Display for Counts {
         writeln!(f, "offers {}", self.offer)?;
         writeln!(f, "composed points {}", self.compose)?;
         writeln!(f, "trails {}", self.trail)?;
+        writeln!(f, "force cases {}", self.force)?;
+        writeln!(f, "clearing cases {}", self.clearing)?;
         writeln!(f, "other cases {}", self.other)?;
         writeln!(f, "no room {}", self.no_room)?;
         write!(f, "different {} of {}", self.different, self.place)

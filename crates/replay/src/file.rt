@@ -3,7 +3,10 @@ use crate::case::read_case;
 use crate::counts::Counts;
 use crate::failure::Failure;
 use crate::kind::Kind;
-use crate::{compose_case, judge_case, offer_case, open_case, trail_case, verify_case};
+use crate::{
+    clearing_case, compose_case, force_case, judge_case, offer_case, open_case, trail_case,
+    verify_case,
+};
 use std::io::Read;
 
 const CASE_ROOM: usize = 1048576;
@@ -19,8 +22,8 @@ pub struct Book {
     pub len: usize,
 }
 
-// Where a case is read, the peers that a call hands back, the book that offers go to, and another book, a record or a
-// trail: fixed memory as well.
+// Where a case is read, the peers that a call hands back, the book that offers go to, and another book, a record or rows: fixed
+// memory as well.
 #[derive(Drop)]
 pub struct Room {
     case: [u8; CASE_ROOM],
@@ -70,6 +73,8 @@ fn replay<'a, R: Read>(
         }
         Kind::Compose => compose_case::replay(read_case(file, blobs, buf)?, &mut spare.bytes),
         Kind::Trail => { trail_case::replay(read_case(file, blobs, buf)?, peers, &mut spare.bytes) }
+        Kind::Force => force_case::replay(read_case(file, blobs, buf)?, &mut spare.bytes),
+        Kind::Clearing => clearing_case::replay(read_case(file, blobs, buf)?),
         Kind::Other => {
             let _ = read_case(file, blobs, buf);
             Ok(())

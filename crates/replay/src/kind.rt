@@ -11,6 +11,8 @@ pub enum Kind {
     OfferToGiven,
     Compose,
     Trail,
+    Force,
+    Clearing,
     Other,
 }
 
@@ -26,6 +28,8 @@ impl From<u8> for Kind {
             6 => Kind::OfferToGiven,
             16 => Kind::Compose,
             18 => Kind::Trail,
+            19 => Kind::Force,
+            20 => Kind::Clearing,
             _ => Kind::Other,
         }
     }

@@ -3,20 +3,24 @@
 // data/judge.bin is a sample of the 6,437 judge cases among the vectors: the two smallest of each outcome (a number, or a
 // verdict with its reason) at each pair of flags, and of each outcome with the same map, role, issue, flag and root's reason.
 // data/books.bin has openings and offers, with the answers and the bytes of the plain book in Rust, and data/composes.bin points
-// that are handed over in parts, with the records of the oracle's writer; data/trails.bin has points that are judged with a trail, with
-// all reasons that the Rust sets. Of data/wrong_on_purpose.bin each case has a change in what it expects, so all of them must be found
-// different.
-// oracle/README.md says how the four are made. Of no file may there be a case for which there is no room.
+// that are handed over in parts, with the records of the oracle's writer. data/trails.bin has points that are judged with a trail,
+// with all reasons that the Rust sets. data/clears.bin asks what would clear points, and data/forces.bin which reasons the network can
+// force: their answers come of judging again, by the Rust, with each point of the list marked, and with each entry where its reason
+// decides. Of data/wrong_on_purpose.bin each case has a change in what it expects, so all of them must be found different.
+// oracle/README.md says how these are made. Of no file may there be a case for which there is no room.
 #![tactic(auto)]
 
 ghost use Rattle.std.specs.Prelude.{◌≤◌, length, IfOk};
 
 mod call_answer;
 mod case;
+mod clearing_case;
 mod compose_case;
+mod counted;
 mod counts;
 mod failure;
 mod file;
+mod force_case;
 mod hex_bytes;
 mod judge_case;
 mod kind;

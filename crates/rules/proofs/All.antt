@@ -52,6 +52,11 @@ module _ {A : Type 0} (P : A → Type 0) where
   last-of-all (x ∷ []) h = h.0
   last-of-all (x ∷ y ∷ l) h = last-of-all (y ∷ l) h.1
 
+module _ {A : Type 0} (P Q : A → Type 0) where
+  pub all-map : (l : List A) → ((x : A) → P x → Q x) → All P l → All Q l
+  all-map [] f h = tt
+  all-map (x ∷ l) f h = (f x h.0, all-map l f h.1)
+
 -- of the first reason alone, as is_proof_ok returns it
 pub all-first_only : (P : InvalidReason → Type 0) (l : List InvalidReason) → All P l → All P (first_only l)
 all-first_only P [] h = tt

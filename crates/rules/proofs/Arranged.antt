@@ -238,7 +238,7 @@ in_kinds : (es ts : List (List ℕ)) → All (IsEntry false) es → All (IsEntry
 in_kinds [] ts h g = indirect-kinds false ts g
 in_kinds (e ∷ es) ts h g = (false, h.0, λ z. z, in_kinds es ts h.1 g)
 
-pieces_list : (es ts : List (List ℕ)) → All (IsEntry false) es → All (IsEntry true) ts →
+pub pieces_list : (es ts : List (List ℕ)) → All (IsEntry false) es → All (IsEntry true) ts →
     read_list (concat es ++ concat ts) ≡ pick (leb (length (es ++ ts)) 65535) (read_all (es ++ ts)) None
 unfolding read_list_in
 pieces_list es ts h g = ap (list_from 65535 false) (sym (concat-append es ts)) ∙ read_pieces 65535 false (es ++ ts) (in_kinds es ts h g)

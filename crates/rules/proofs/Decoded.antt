@@ -2,11 +2,15 @@
 use Rattle.std.specs.Prelude.{Option, None, Some, Err, Ok, Result}
 use Prim.Native.Nat.{ℕ, ◌<◌}
 use native.Mathlib.Omega.{arith}
-use mathlib.Core.Path.{◌≡◌, refl, ap}
-use mathlib.Core.Bool.{false}
+use mathlib.Core.Path.{◌≡◌, refl, sym, ap, ◌∙◌}
+use mathlib.Core.Bool.{true, false}
 use lib.Dec.{eqb}
-use borrow.Author.Tests.{ne_eqb}
+use borrow.Author.Tests.{eqb-true, eq-eqb, ne_eqb}
 use Rattle.base.specs.Base.{pick}
+use Rattle.base.proofs.Bool.{clash, and_left, and_right, and_both}
+use Rattle.point.specs.Point.{same_id}
+use Rattle.point.proofs.Ids.{same_eq, same_refl}
+use Rattle.rules.specs.Force.{named_prev, same_prev, same_reason}
 use Rattle.point.specs.Point.{Through, Includes, Witness, through_peer}
 use Rattle.point.specs.declared.data.AnchorStageRole.{AnchorStageRole}
 use Rattle.point.specs.declared.data.AnchorStageRole.TheVariants.{Proof, Trigger}
@@ -118,8 +122,9 @@ prev-back : (o : Option ℕ) → PrevFits o → prev_of (prev_seq_no o) ≡ o
 prev-back None h = refl
 prev-back (Some n) h = rw (ne_eqb n 4294967295 (λ e. omega arith))
 
-abbrev reason_of : Answer → InvalidReason
-reason_of a =
+-- with the previous seq_no that it names beside it
+abbrev reason_of : Option ℕ → Answer → InvalidReason
+reason_of o a =
     pick (eqb a.reason 2) (NoRoundInDag (map_of a.map))
     (pick (eqb a.reason 3) DependencyRoundDropped
     (pick (eqb a.reason 4) (NotTrigger a.id)
@@ -134,51 +139,75 @@ reason_of a =
     (pick (eqb a.reason 13) (AnchorLink (role_of a.role) a.id)
     (pick (eqb a.reason 14) (AnchorLinkRole (role_of a.role) a.id)
     (pick (eqb a.reason 15) (AnchorLinkBadPath (role_of a.role) a.id)
-    (pick (eqb a.reason 16) (BadStickySequence a.id (prev_of a.second) a.first)
+    (pick (eqb a.reason 16) (BadStickySequence a.id o a.first)
     (pick (eqb a.reason 17) (TriggerProofMismatch a.id (eqb a.first 1))
     (pick (eqb a.reason 18) (DepIllFormed a.id a.first)
     (DepNotFound a.id)))))))))))))))))
 
--- the previous seq_no that a reason names
-abbrev pub named_prev : InvalidReason → Option ℕ
-named_prev (NoRoundInDag m) = None
-named_prev DependencyRoundDropped = None
-named_prev (NotTrigger i) = None
-named_prev (TerminalTriggerBeforeLastProof i) = None
-named_prev (TimeNotGreaterThanInPrevPoint i) = None
-named_prev (AnchorProofDoesntInheritAnchorTime i) = None
-named_prev (AnchorTimeNotInheritedFromProof i) = None
-named_prev (MustHaveReferencedPrevPoint i) = None
-named_prev (MustHaveSkippedRound i) = None
-named_prev (DependencyTimeTooFarInFuture i) = None
-named_prev (NewerAnchorInDependency g i) = None
-named_prev (AnchorLink g i) = None
-named_prev (AnchorLinkRole g i) = None
-named_prev (AnchorLinkBadPath g i) = None
-named_prev (BadStickySequence i o n) = o
-named_prev (TriggerProofMismatch i b) = None
-named_prev (DepIllFormed i n) = None
-named_prev (DepNotFound i) = None
+reason-told : (r : InvalidReason) → reason_of (named_prev r) (invalid_answer r) ≡ r
+reason-told (NoRoundInDag m) = ap NoRoundInDag (map_back m)
+reason-told (NewerAnchorInDependency g i) = rw (role-back g)
+reason-told (AnchorLink g i) = rw (role-back g)
+reason-told (AnchorLinkRole g i) = rw (role-back g)
+reason-told (AnchorLinkBadPath g i) = rw (role-back g)
+reason-told (TriggerProofMismatch i b) = ap (TriggerProofMismatch i) (flag-back b)
+reason-told r = refl
 
-reason-back : (r : InvalidReason) → PrevFits (named_prev r) → ((invalid_answer r).kind ≡ 2) × (reason_of (invalid_answer r) ≡ r)
-reason-back (NoRoundInDag m) h = (refl, ap NoRoundInDag (map_back m))
-reason-back DependencyRoundDropped h = (refl, refl)
-reason-back (NotTrigger i) h = (refl, refl)
-reason-back (TerminalTriggerBeforeLastProof i) h = (refl, refl)
-reason-back (TimeNotGreaterThanInPrevPoint i) h = (refl, refl)
-reason-back (AnchorProofDoesntInheritAnchorTime i) h = (refl, refl)
-reason-back (AnchorTimeNotInheritedFromProof i) h = (refl, refl)
-reason-back (MustHaveReferencedPrevPoint i) h = (refl, refl)
-reason-back (MustHaveSkippedRound i) h = (refl, refl)
-reason-back (DependencyTimeTooFarInFuture i) h = (refl, refl)
-reason-back (NewerAnchorInDependency g i) h = (refl, rw (role-back g))
-reason-back (AnchorLink g i) h = (refl, rw (role-back g))
-reason-back (AnchorLinkRole g i) h = (refl, rw (role-back g))
-reason-back (AnchorLinkBadPath g i) h = (refl, rw (role-back g))
-reason-back (BadStickySequence i o n) h = (refl, rw (prev-back o h))
-reason-back (TriggerProofMismatch i b) h = (refl, ap (TriggerProofMismatch i) (flag-back b))
-reason-back (DepIllFormed i n) h = (refl, refl)
-reason-back (DepNotFound i) h = (refl, refl)
+-- from the answer alone, where that seq_no fits
+prev_told : (r : InvalidReason) → PrevFits (named_prev r) → reason_of (prev_of (invalid_answer r).second) (invalid_answer r) ≡ reason_of (named_prev r) (invalid_answer r)
+prev_told (BadStickySequence i o n) h = rw (prev-back o h)
+prev_told r h = refl
+
+of-kind : (r : InvalidReason) → (invalid_answer r).kind ≡ 2
+of-kind (NoRoundInDag m) = refl
+of-kind r = refl
+
+reason-back : (r : InvalidReason) → PrevFits (named_prev r) → ((invalid_answer r).kind ≡ 2) × (reason_of (prev_of (invalid_answer r).second) (invalid_answer r) ≡ r)
+reason-back r h = (of-kind r, prev_told r h ∙ reason-told r)
+
+-- ---- two reasons
+
+answers_same : (o p : Option ℕ) (a b : Answer) → a.reason ≡ b.reason → a.id ≡ b.id → a.map ≡ b.map → a.role ≡ b.role → a.first ≡ b.first → o ≡ p →
+    reason_of o a ≡ reason_of p b
+answers_same o p a b n i m g f h = rw (n, i, m, g, f, h)
+
+prev_eq : (o p : Option ℕ) → same_prev o p ≡ true → o ≡ p
+prev_eq None None h = refl
+prev_eq None (Some n) h = clash false h refl
+prev_eq (Some m) None h = clash false h refl
+prev_eq (Some m) (Some n) h = ap Some (eqb-true m n h)
+
+prev_refl : (o : Option ℕ) → same_prev o o ≡ true
+prev_refl None = refl
+prev_refl (Some n) = eq-eqb n n refl
+
+pub same-reason_eq : (r s : InvalidReason) → same_reason r s ≡ true → r ≡ s
+same-reason_eq r s h =
+    let a = invalid_answer r in
+    let b = invalid_answer s in
+    let h1 = and_right (eqb a.reason b.reason) _ h in
+    let h2 = and_right (same_id a.id b.id) _ h1 in
+    let h3 = and_right (eqb a.map b.map) _ h2 in
+    let h4 = and_right (eqb a.role b.role) _ h3 in
+    sym (reason-told r)
+    ∙ answers_same (named_prev r) (named_prev s) a b
+    (eqb-true _ _ (and_left (eqb a.reason b.reason) _ h))
+    (same_eq a.id b.id (and_left (same_id a.id b.id) _ h1))
+    (eqb-true _ _ (and_left (eqb a.map b.map) _ h2))
+    (eqb-true _ _ (and_left (eqb a.role b.role) _ h3))
+    (eqb-true _ _ (and_left (eqb a.first b.first) _ h4))
+    (prev_eq _ _ (and_right (eqb a.first b.first) _ h4))
+    ∙ reason-told s
+
+pub same-reason_refl : (r : InvalidReason) → same_reason r r ≡ true
+same-reason_refl r =
+    let a = invalid_answer r in
+    and_both (eqb a.reason a.reason) _ (eq-eqb a.reason a.reason refl)
+    (and_both (same_id a.id a.id) _ (same_refl a.id)
+    (and_both (eqb a.map a.map) _ (eq-eqb a.map a.map refl)
+    (and_both (eqb a.role a.role) _ (eq-eqb a.role a.role refl)
+    (and_both (eqb a.first a.first) _ (eq-eqb a.first a.first refl)
+    (prev_refl (named_prev r))))))
 
 -- ---- verdicts
 
@@ -204,7 +233,7 @@ abbrev pub verdict_of : Answer → verdict.Verdict
 verdict_of a =
     pick (eqb a.kind 0) verdict.Valid
     (pick (eqb a.kind 1) (verdict.TransInvalid (record { to = a.id; reason = a.root_reason; through = through_of a.map a.peer }))
-    (pick (eqb a.kind 2) (verdict.Invalid (reason_of a))
+    (pick (eqb a.kind 2) (verdict.Invalid (reason_of (prev_of a.second) a))
     (pick (eqb a.kind 3) (verdict.IllFormed (ill_formed_of a))
     (verdict.Fail (record { len = a.first; round = a.second; map = map_of a.map })))))
 

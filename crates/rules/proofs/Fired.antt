@@ -57,7 +57,7 @@ use Rattle.rules.proofs.RowsWithin.{Within, with_within}
 -- ---- the verdict and the rows
 
 -- the last row names the reason, and stands alone if it is the presence rule's; with another verdict there is none
-abbrev RowsOf : verdict.Verdict → List Row → Type 0
+abbrev pub RowsOf : verdict.Verdict → List Row → Type 0
 RowsOf (verdict.Fail u) rows = rows ≡ []
 RowsOf (verdict.IllFormed r) rows = rows ≡ []
 RowsOf (verdict.Invalid r) rows = (last_of (reasons_in rows) ≡ Some r) × ((m : PointMap) → r ≡ NoRoundInDag m → rows ≡ rule_row m)
@@ -78,7 +78,7 @@ from_trail rows t d h f = go (last_of t) refl d
     go None e None = no_rows rows (h ∙ last_none t e)
 
 module _ (c : Settings) (required : Bool) (p : PointInfo) (es : List Entry) (ts : List IndirectEntry) where
-  of_entries : All OfEntry (all_findings c required p es ts).trail
+  pub of_entries : All OfEntry (all_findings c required p es ts).trail
   of_entries =
       go (check_valid c required (point_view p) nothing es)
       (rw (direct-trail c required (point_view p) es nothing) (direct-of_entries c required (point_view p) false es))
@@ -116,16 +116,16 @@ module _ (c : Settings) (required : Bool) (p : PointInfo) (es : List Entry) (ts 
 
 -- ---- the call
 
-abbrev CallRows : JudgeAnswer → List Row → Type 0
+abbrev pub CallRows : JudgeAnswer → List Row → Type 0
 CallRows (Number n) rows = Unit
 CallRows (Given v) rows = RowsOf v rows
 
 -- what is answered before the list is a number, or a verdict without rows
-abbrev BeforeRows : Before → Type 0
+abbrev pub BeforeRows : Before → Type 0
 BeforeRows (answered a) = CallRows a []
 BeforeRows (needed required) = Unit
 
-before-rows : (o : Option VerifyError) (genesis : Bool) (w : WaveChecked) → BeforeRows (before_with o genesis w)
+pub before-rows : (o : Option VerifyError) (genesis : Bool) (w : WaveChecked) → BeforeRows (before_with o genesis w)
 before-rows (Some (case-error.Fail u)) genesis w = refl
 before-rows (Some (case-error.IllFormed r)) genesis w = refl
 before-rows None true w = refl

@@ -40,3 +40,10 @@ pub mod MarkedRecords
 pub mod Cleared
 pub mod ClearingBytes
 pub mod Waiting
+pub mod Finals
+pub mod SomeOrder
+pub mod Ranked
+pub mod Arrivals
+pub mod FinalRows
+pub mod Played
+pub mod Forced

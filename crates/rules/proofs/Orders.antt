@@ -31,10 +31,10 @@ abbrev pub root_of : Settings → Bool → PointView → Entry → Option Invali
 root_of c required v e = (entry_findings c required v e).root
 
 module _ (c : Settings) (required : Bool) (v : PointView) where
-  abbrev quiet : Entry → Bool
+  abbrev pub quiet : Entry → Bool
   quiet e = not (is_dropped e.state) && is_empty (entry_findings c required v e).trail
 
-  direct-quiet : (es : List Entry) → is_empty (direct_trail c required v false es) ≡ all quiet es
+  pub direct-quiet : (es : List Entry) → is_empty (direct_trail c required v false es) ≡ all quiet es
   unfolding direct_trail all
   direct-quiet [] = refl
   direct-quiet (e ∷ l) = go (is_dropped e.state) (entry_findings c required v e).trail (direct-quiet l)
@@ -62,10 +62,10 @@ module _ (c : Settings) (required : Bool) (v : PointView) where
       go false (x ∷ t) k f = impossible (cc)
 
 module _ (c : Settings) (p : PointInfo) where
-  abbrev quiet_target : IndirectEntry → Bool
+  abbrev pub quiet_target : IndirectEntry → Bool
   quiet_target a = is_empty (indirect_findings c p a).trail
 
-  indirect-quiet : (ts : List IndirectEntry) → is_empty (indirect_trail c p ts) ≡ all quiet_target ts
+  pub indirect-quiet : (ts : List IndirectEntry) → is_empty (indirect_trail c p ts) ≡ all quiet_target ts
   unfolding indirect_trail all
   indirect-quiet [] = refl
   indirect-quiet (a ∷ l) = go (indirect_findings c p a).trail (indirect-quiet l)

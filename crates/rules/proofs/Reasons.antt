@@ -22,7 +22,8 @@ use Rattle.rules.specs.Validate.{not_trigger, ends_too_soon, Findings, Taken, as
 use Rattle.point.proofs.Fits.{IdFits, RoleFits, PointFits}
 use Rattle.rules.proofs.All.{All, all-first_only, all_append, all-pick, all-when, all-concat, last-of-all}
 use Rattle.rules.proofs.AnswerBytes.{AnswerFits}
-use Rattle.rules.proofs.Decoded.{PrevFits, named_prev, verdict_prev}
+use Rattle.rules.proofs.Decoded.{PrevFits, verdict_prev}
+use Rattle.rules.specs.Force.{named_prev}
 use Rattle.rules.specs.Answer.{verdict_answer}
 use Rattle.rules.proofs.Folds.{direct_trail, direct_record, indirect_trail, indirect_record, lists_apart}
 use Rattle.rules.proofs.Roots.{Recorded, Rooted, of-recorded, direct-recorded, link-peer}

@@ -67,7 +67,7 @@ module _ (c : Settings) (required : Bool) (p : PointInfo) (n : ℕ) where
       all-pick (Within n) (eqb presence 1) (rule_row maps.Includes) w (z, tt) v in
       all-pick (Within n) (eqb presence 0) (rule_row maps.Evidence) (pick (eqb presence 1) (rule_row maps.Includes) w) (z, tt) u
 
-directs-few : (l : List Listed) → length (directs l) ≤ length l
+pub directs-few : (l : List Listed) → length (directs l) ≤ length l
 unfolding directs
 directs-few [] = omega arith
 directs-few (x ∷ l) = go (is_some x.aim) (directs-few l)
@@ -76,7 +76,7 @@ directs-few (x ∷ l) = go (is_some x.aim) (directs-few l)
     go true h = omega arith
     go false h = omega arith
 
-indirects-few : (l : List Listed) → length (indirects l) ≤ length l
+pub indirects-few : (l : List Listed) → length (indirects l) ≤ length l
 unfolding indirects
 indirects-few [] = omega arith
 indirects-few (x ∷ l) = go x.aim (indirects-few l)
@@ -87,7 +87,7 @@ indirects-few (x ∷ l) = go x.aim (indirects-few l)
     go (Some g) h = omega arith
 
 -- "A list holds at most 65,535 entries"
-list-few : (n : ℕ) (b : Bool) (s : List ℕ) (l : List Listed) → list_from n b s ≡ Some l → length l ≤ n
+pub list-few : (n : ℕ) (b : Bool) (s : List ℕ) (l : List Listed) → list_from n b s ≡ Some l → length l ≤ n
 list-few zero b s l h = let k : length l ≡ 0 = sym (ap length (list_zero b s l h).1) in omega arith
 list-few (suc n) b s l h = go (list_suc n b s l h) (list-few n)
   where

@@ -17,3 +17,5 @@ pub mod Trail
 pub mod Fired
 pub mod Clearing
 pub mod Cleared
+pub mod Force
+pub mod Forced

@@ -7,6 +7,7 @@ ghost use Rattle.rules.specs.AnyOrder.{AnyOrder};
 ghost use Rattle.rules.specs.Converted.{RecordsConverted};
 ghost use Rattle.rules.specs.Fired.{RulesFired};
 ghost use Rattle.rules.specs.Cleared.{Cleared};
+ghost use Rattle.rules.specs.Forced.{Forced};
 
 // That an answer's number and bytes tell it, as a promise: without its proof this crate is not proved, nor any that uses it.
 pub fn answers_told()
@@ -36,4 +37,9 @@ pub fn rules_fired()
 // Likewise ticket U13's statement on the point whose mark would clear a TransInvalid one.
 pub fn points_cleared()
     ensures { Cleared }
+{}
+
+// Likewise ticket U11's statement on what the network can force.
+pub fn network_forces()
+    ensures { Forced }
 {}

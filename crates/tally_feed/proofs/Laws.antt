@@ -173,6 +173,7 @@ refused-some refusal.Full e = omega (arith, e)
 refused-some refusal.Twice e = omega (arith, e)
 refused-some refusal.Output e = omega (arith, e)
 refused-some refusal.Trail e = omega (arith, e)
+refused-some refusal.Forced e = omega (arith, e)
 
 -- a book that is not opened is as it was
 pub unopened : (settings s : List ℕ) → (open_number settings (length s) ≡ 0 → ⊥) → open_bytes settings s ≡ s

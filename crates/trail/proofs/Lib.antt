@@ -1,4 +1,4 @@
-mod Laws
-mod WalkLaws
+pub mod Laws
+pub mod WalkLaws
 mod Reasons
 mod CallLaws

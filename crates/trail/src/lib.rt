@@ -2,7 +2,7 @@
 #![tactic(auto)]
 
 mod call;
-mod put;
+pub mod put;
 mod walk;
 
 pub use call::{Trailed, judge_with_trail};

@@ -44,8 +44,8 @@ fn put_row(out: &mut [u8], at: usize, place: Place, reason: InvalidReason)
 
 // Writes row n, if it fits.
 #[tactic(auto, using(crate::proofs::Laws::row_facts))]
-fn put_if_fits(out: &mut [u8], n: usize, place: Place, reason: InvalidReason)
-    requires { n < 1000000 }
+pub fn put_if_fits(out: &mut [u8], n: usize, place: Place, reason: InvalidReason)
+    requires { n < 100000000 }
     ensures { Put out.old n (row place.list place.entry (reason_of reason) ∷ []) out.new (n + 1) }
 {
     if out.len() < WIDTH * n + WIDTH {

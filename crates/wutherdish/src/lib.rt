@@ -8,6 +8,8 @@ ghost use Rattle.point.specs.Converted.{conversion, output};
 ghost use Rattle.compose.specs.Draft.{draft, composition};
 ghost use Rattle.compose.specs.Draft as compose;
 ghost use Rattle.rules.specs.Judge.{tested, verify_with, verify_buffer, flags_ok, judge_with};
+ghost use Rattle.parts.specs.Limits.{peers_room};
+ghost use Rattle.rules.specs.Force.{force_with, number_told, list_told, count_told};
 ghost use Rattle.books.specs.Calls.{open_number, open_bytes, offer_bytes};
 ghost use Rattle.books.specs.Offer.{offer_of};
 ghost use Rattle.rules.specs.Answer.{verify_number, verify_answer, judge_number, judge_answer};
@@ -265,6 +267,29 @@ pub fn wutherdish_write(
         anchor_time,
     };
     tell(compose::compose(&draft, out), written)
+}
+
+// Tells what the network can force: judges as `wutherdish_judge` does, without a peer buffer. Answers 1 to 4, 6 to 9, 17, or 0 with a row of
+// eight bytes for each reason that some order of the entries gives in the front of `out`, and how many there are in `rows`; with a number no
+// lent byte changes.
+pub fn wutherdish_force(
+    settings: &[u8],
+    schedule: &[u8],
+    rec: &[u8],
+    leader: u8,
+    presence: u8,
+    list: &[u8],
+    out: &mut [u8],
+    rows: &mut u32,
+) -> u8
+    ensures { let given = force_with leader presence list.now
+        (tested settings.now schedule.now rec.now (flags_ok leader presence) peers_room) (length out.old) in
+        (result ≡ number_told given) × (out.new ≡ list_told given out.old) × (rows.new ≡ count_told given rows.old) }
+{
+    tell(
+        force::forced(settings, schedule, rec, leader, presence, list, out),
+        rows,
+    )
 }
 
 // Answers which library this is: ABI, format, major and minor version, a byte each.

@@ -1,0 +1,5 @@
+mod RowLaws
+mod Apart
+mod WalkLaws
+mod Order
+mod EntryLaws
