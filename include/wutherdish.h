@@ -96,7 +96,8 @@ extern "C" {
  * the rest.
  *
  * Stack, as measured on x86-64 (docs/RELIABILITY.md) with room added: verifying, converting and writing need at most 4 KB,
- * judging 48 KB, opening 1 KB and an offer 72 KB. A call takes no other memory.
+ * judging 48 KB, also with a trail, wutherdish_clearing and wutherdish_force 56 KB, opening 1 KB and an offer 72 KB. A call
+ * takes no other memory.
  *
  * Threads: a call keeps nothing for the next one. Calls may be made from several threads at once, also on separate books
  * and on the same bytes where these are const. One book may be in one call at a time, and is not read by others
@@ -192,6 +193,34 @@ uint8_t wutherdish_clearing(const uint8_t *settings, size_t settings_len,
                             uint8_t leader, uint8_t presence,
                             const uint8_t *list, size_t list_len,
                             uint8_t answer[69]);
+
+/*
+ * Says which reasons the network can force: the author fixes the point and its entries, the network the order in which they arrive, of
+ * the direct entries and of the indirect ones. Every reason that some order gives has one row of eight bytes:
+ *
+ *   at  bytes  what
+ *    0      1  the list of the entry that gives it: 1 direct, 2 indirect; 0 if it is a presence rule (reason 2), and no entry
+ *    1      2  the entry's place in that list, from 0, little-endian; of entries that give an equal reason the earliest; list 0: 0
+ *    3      1  the reason's number, 2 to 19
+ *    4      1  the role that it names: 0 proof, 1 trigger, 255 none
+ *    5      3  zeros
+ *
+ * Rows stand by the reason's number, then by the place, and no reason has two; reasons are equal if all that they name is. A single row
+ * is a reason that every order gives; no row means that no order makes the point invalid. It takes and tests what judging does, but for
+ * the peer buffer: numbers 1 to 4 and 6 to 9, in the same order, and at last
+ *
+ *   17  out has less than 8 bytes for each row
+ *
+ * One of list_len + 8 bytes has room for all rows. With 0 *rows is how many there are, and they stand at the front of out, whose bytes
+ * after them keep what they held. With a number *rows and all of out keep what they held. As above, out and *rows overlap neither each
+ * other nor the rest; rows is aligned as a uint32_t.
+ */
+uint8_t wutherdish_force(const uint8_t *settings, size_t settings_len,
+                         const uint8_t *schedule, size_t schedule_len,
+                         const uint8_t *record, size_t record_len,
+                         uint8_t leader, uint8_t presence,
+                         const uint8_t *list, size_t list_len,
+                         uint8_t *out, size_t out_len, uint32_t *rows);
 
 /*
  * A book keeps points with their verdicts in a slice of 47 to 16,777,216 bytes: settings, at most 4,096 entries, zeros.

@@ -6,19 +6,21 @@ use wutherdish::{
 };
 
 use crate::arrangement::Arrangement;
-use crate::judging::Judging;
+use crate::judging::{Asked, Judging};
 
-/// No call writes more to what it is lent: the longest record.
+/// No call writes more to what it is lent, rows aside: the longest record.
 const MOST_ROOM: usize = 41_126;
 
 /// A call, with what it is lent but for what it writes to.
 pub enum Call<'a> {
     /// Verifying.
     Verify(Network<'a>),
-    /// Judging, with a trail of this many bytes if it is lent one.
-    Judge(Judging<'a>, Option<usize>),
+    /// Judging, with a trail or without.
+    Judge(Judging<'a>, Asked),
     /// Asking which certificate clears a point.
     Clear(Judging<'a>),
+    /// Asking what the network can force.
+    Force(Judging<'a>),
     /// Converting a record to this arrangement.
     Convert(Arrangement, &'a [u8]),
     /// Writing.
@@ -54,6 +56,8 @@ pub enum Answer {
     Judged(Verdict, Said),
     /// What the point waits for.
     Clearing(Clearing),
+    /// The reasons that some order of the entries gives.
+    Forced(Vec<FaultOf>),
     /// The record was converted.
     Converted,
     /// The record was written.
@@ -66,6 +70,8 @@ pub struct Said {
     pub faults: Vec<FaultOf>,
     /// What a trans-invalid point waits for.
     pub clearing: Option<Clearing>,
+    /// The reasons that some order of the entries gives, if they are asked for.
+    pub forced: Option<Vec<FaultOf>>,
 }
 
 impl From<Verified> for Answer {
@@ -86,7 +92,7 @@ impl<'a> Call<'a> {
                 (Self::Verify(Network { settings, schedule, record }), room)
             }
             (2, [parts @ .., room] | [parts @ .., room, _]) if parts.len() == 5 => {
-                (Self::Judge(Judging::read(parts)?, None), room)
+                (Self::Judge(Judging::read(parts)?, Asked::default()), room)
             }
             (16, [parts @ .., room] | [parts @ .., room, _]) if parts.len() == 9 => {
                 (Self::Write(Parts::read(parts)?), room)
@@ -97,7 +103,10 @@ impl<'a> Call<'a> {
             (17, &[&[1], record, room] | &[&[1], record, room, _]) => (Self::Convert(Arrangement::Pairs, record), room),
             (18, [parts @ .., room, trail] | [parts @ .., room, trail, _]) if parts.len() == 5 => {
                 let length = u32::from_le_bytes((*trail).try_into().ok()?);
-                (Self::Judge(Judging::read(parts)?, Some(length.try_into().ok()?)), room)
+                (Self::Judge(Judging::read(parts)?, Asked { trail: Some(length.try_into().ok()?), force: false }), room)
+            }
+            (19, [parts @ .., room] | [parts @ .., room, _]) if parts.len() == 5 => {
+                (Self::Force(Judging::read(parts)?), room)
             }
             // its answer is all that it writes
             (20, parts | [parts @ .., _]) if parts.len() == 5 => (Self::Clear(Judging::read(parts)?), &[0; 4]),
@@ -105,17 +114,19 @@ impl<'a> Call<'a> {
         })
     }
 
-    /// Lends it a trail that is long enough, if it judges and its case has none.
-    pub fn lend_trail(&mut self) {
-        if let Self::Judge(_, trail) = self {
-            trail.get_or_insert(usize::MAX);
+    /// Asks for more than its case does, if it judges: for all faults, and for what the network can force.
+    pub fn ask(&mut self, for_trail: bool, for_force: bool) {
+        if let Self::Judge(_, Asked { trail, force }) = self {
+            // one that is long enough, if its case has none
+            *trail = trail.or(for_trail.then_some(usize::MAX));
+            *force = for_force;
         }
     }
 
     /// The bytes of its list; none where it takes none.
     pub fn list(&self) -> &'a [u8] {
         match self {
-            Self::Judge(judging, _) | Self::Clear(judging) => judging.list,
+            Self::Judge(judging, _) | Self::Clear(judging) | Self::Force(judging) => judging.list,
             Self::Verify(_) | Self::Convert(..) | Self::Write(_) => &[],
         }
     }
@@ -124,21 +135,24 @@ impl<'a> Call<'a> {
     pub fn point(&self) -> Option<Point> {
         let (arrangement, record) = match self {
             Self::Verify(network) => (Arrangement::Columns, network.record),
-            Self::Judge(judging, _) | Self::Clear(judging) => (Arrangement::Columns, judging.network.record),
+            Self::Judge(judging, _) | Self::Clear(judging) | Self::Force(judging) => {
+                (Arrangement::Columns, judging.network.record)
+            }
             Self::Convert(to, record) => (to.other(), *record),
             Self::Write(parts) => return parts.point(),
         };
         arrangement.reader()(record).ok().filter(|(_, rest)| rest.is_empty()).map(|(point, _)| point)
     }
 
-    /// Makes the call with this many bytes for unknown peers or for a record.
-    pub fn answer(&self, room: usize) -> Result<Answer, Refusal> {
+    /// Makes the call with this many bytes for unknown peers, for rows or for a record.
+    pub fn answer(&self, length: usize) -> Result<Answer, Refusal> {
         // more of them make no difference, and a case may name 4 GiB
-        let mut room = vec![0; room.min(MOST_ROOM)];
+        let mut room = vec![0; length.min(MOST_ROOM)];
         match self {
             Self::Verify(network) => network.verify(&mut room),
-            Self::Judge(judging, trail) => judging.judge(&mut room, *trail),
+            Self::Judge(judging, asked) => judging.judge(&mut room, *asked),
             Self::Clear(judging) => judging.clearing().map(Answer::Clearing),
+            Self::Force(judging) => judging.forced(length).map(Answer::Forced),
             Self::Convert(Arrangement::Columns, record) => {
                 answered(lent::pairs_to_columns(record, &mut room, &mut 0), || Some(Answer::Converted))
             }

@@ -43,8 +43,8 @@ impl<'a> Cases<'a> {
     }
 
     fn case(&mut self) -> Result<Case<'a>, Unreadable> {
-        let wanted = "a case: 1 for verifying, 2 for judging, 18 for judging with a trail, 20 for what clears a point, 16 for \
-                      writing or 17 for converting, and its blobs";
+        let wanted = "a case: 1 for verifying, 2 for judging, 18 for judging with a trail, 19 for what the network can force, \
+                      20 for what clears a point, 16 for writing or 17 for converting, and its blobs";
         let unreadable = Unreadable { at: self.at, wanted };
         let head = self.take(2, unreadable.wanted)?;
         let (kind, count) = (head[0], head[1]);

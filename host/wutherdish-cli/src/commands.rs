@@ -36,6 +36,8 @@ pub struct Explaining {
     pub last: bool,
     /// Whether all faults are said that judging finds.
     pub trail: bool,
+    /// Whether it is said what the network can force.
+    pub force: bool,
     /// Whether progress is shown in any case.
     pub progress: bool,
 }
@@ -46,13 +48,15 @@ pub fn explain(file: &OsStr, options: &Explaining) -> Result<(), Problem> {
     let input = Input::read(file)?;
     keep_apart(&input, options.book.as_deref())?;
     let kind = input.kind()?;
-    if options.trail && kind != Kind::Cases {
-        return Err(Problem::Usage(format!("{} is no file of cases, and --trail is for cases of judging", input.name)));
+    let asked = [(options.trail, usage::TRAIL), (options.force, usage::FORCE)];
+    if let Some((_, option)) = asked.iter().find(|(is_given, _)| *is_given && kind != Kind::Cases) {
+        let what = format!("{} is no file of cases, and {} is for cases of judging", input.name, option.name);
+        return Err(Problem::Usage(what));
     }
     let bad = match (kind, &options.book) {
         (Kind::Cases, None) => {
             let ids = || Ids::of_cases(Cases::new(&input.bytes));
-            explaining(&input, options, ids, &mut out).cases(Cases::new(&input.bytes), options.trail)?
+            explaining(&input, options, ids, &mut out).cases(Cases::new(&input.bytes), options.trail, options.force)?
         }
         (Kind::Record, None) => {
             let point = Point::try_from(&input.bytes[..]).map_err(|unreadable| input.bad(unreadable))?;

@@ -49,8 +49,9 @@ impl<W: Write> Explain<'_, W> {
         Ok(bad)
     }
 
-    /// Makes the calls of a file of cases and explains the answers, likewise; with a trail for each that judges, if that is wanted.
-    pub fn cases(&mut self, cases: Cases<'_>, with_trail: bool) -> Result<Option<Unreadable>, Problem> {
+    /// Makes the calls of a file of cases and explains the answers, likewise; of each that judges also all faults, and what the network
+    /// can force, if these are wanted.
+    pub fn cases(&mut self, cases: Cases<'_>, trail: bool, force: bool) -> Result<Option<Unreadable>, Problem> {
         if !self.last {
             self.note_names()?;
         }
@@ -59,9 +60,7 @@ impl<W: Write> Explain<'_, W> {
         for case in cases {
             match case {
                 Ok(mut case) => {
-                    if with_trail {
-                        case.call.lend_trail();
-                    }
+                    case.call.ask(trail, force);
                     let answer = case.call.answer(case.room);
                     last = self.explain(case.place, &self.case(&case), &answer)?;
                     summary.add(&answer);
@@ -110,7 +109,9 @@ impl<W: Write> Explain<'_, W> {
     fn case(&self, case: &Case<'_>) -> String {
         let unknown = match case.call {
             Call::Write(_) => "a point of an unknown role",
-            Call::Verify(_) | Call::Judge(..) | Call::Clear(_) | Call::Convert(..) => "a record that can't be read",
+            Call::Verify(_) | Call::Judge(..) | Call::Clear(_) | Call::Force(_) | Call::Convert(..) => {
+                "a record that can't be read"
+            }
         };
         let point = |leader| {
             let said = |point| self.words.point(&point, leader);
@@ -119,6 +120,7 @@ impl<W: Write> Explain<'_, W> {
         match &case.call {
             Call::Verify(_) => format!("verify: {}", point(0)),
             Call::Judge(judging, _) => format!("judge: {}, presence {}", point(judging.leader), judging.presence),
+            Call::Force(judging) => format!("force: {}, presence {}", point(judging.leader), judging.presence),
             Call::Clear(judging) => format!("clear: {}, presence {}", point(judging.leader), judging.presence),
             Call::Write(_) => format!("write: {}", point(0)),
             Call::Convert(to, _) => format!("convert: {}, from {} to {}", point(0), to.other().name(), to.name()),

@@ -31,7 +31,7 @@ pub enum Kind {
     Book,
     /// One point record.
     Record,
-    /// Calls of verifying, judging, writing, converting and what clears a point.
+    /// Calls of verifying, judging, writing and converting, and others about judging.
     Cases,
 }
 
@@ -72,7 +72,7 @@ impl Input {
 
     /// What it is.
     pub fn kind(&self) -> Result<Kind, Problem> {
-        let wanted = "a feed or a book (tag 32), a point record (tag 1), or a case (1, 2, 16 to 18 or 20)";
+        let wanted = "a feed or a book (tag 32), a point record (tag 1), or a case (1, 2 or 16 to 20)";
         kind(&self.bytes).ok_or_else(|| self.bad(Unreadable { at: 0, wanted }))
     }
 
@@ -102,7 +102,7 @@ fn kind(bytes: &[u8]) -> Option<Kind> {
         return Some(Kind::Record);
     }
     match (bytes.first(), bytes.get(SETTINGS)) {
-        (Some(1 | 2 | 16..=18 | 20), _) => Some(Kind::Cases),
+        (Some(1 | 2 | 16..=20), _) => Some(Kind::Cases),
         (Some(32), None | Some(0 | 1)) if bytes.len() >= SETTINGS => Some(Kind::Book),
         (Some(32), _) => Some(Kind::Feed),
         _ => None,

@@ -19,6 +19,15 @@ pub struct Judging<'a> {
     pub list: &'a [u8],
 }
 
+/// What is asked of a point beside the verdict.
+#[derive(Clone, Copy, Default)]
+pub struct Asked {
+    /// Whether all faults are, with a trail of how many bytes.
+    pub trail: Option<usize>,
+    /// Whether it is asked what the network can force.
+    pub force: bool,
+}
+
 impl<'a> Judging<'a> {
     /// Those of a case.
     pub fn read(parts: &[&'a [u8]]) -> Option<Self> {
@@ -26,29 +35,23 @@ impl<'a> Judging<'a> {
         Some(Self { network: Network { settings, schedule, record }, leader, presence, list })
     }
 
-    /// Judges with a buffer for unknown peers, and with a trail of this many bytes if it is lent one. Of a trans-invalid point it is
-    /// asked too what it waits for.
-    pub fn judge(&self, peers: &mut [u8], trail: Option<usize>) -> Result<Answer, Refusal> {
+    /// Judges with a buffer for unknown peers, and asks more of the point. Of a trans-invalid one it is always asked what it waits for.
+    pub fn judge(&self, peers: &mut [u8], asked: Asked) -> Result<Answer, Refusal> {
         let Self { network: Network { settings, schedule, record }, leader, presence, list } = *self;
         let mut answer = [0; ANSWER];
-        let (number, faults) = match trail {
-            None => {
-                let number = lent::judge(settings, schedule, record, leader, presence, list, peers, &mut answer);
-                (number, Some(vec![]))
-            }
-            Some(length) => {
-                let (mut trail, mut rows) = (self.rows(length), 0);
-                let (out, count) = (&mut trail, &mut rows);
-                let number =
-                    lent::trail(settings, schedule, record, leader, presence, list, peers, out, count, &mut answer);
-                (number, self.faults(&trail, rows))
+        let (mut trail, mut rows) = (asked.trail.map(|length| self.rows(length)), 0);
+        let number = match &mut trail {
+            None => lent::judge(settings, schedule, record, leader, presence, list, peers, &mut answer),
+            Some(trail) => {
+                lent::trail(settings, schedule, record, leader, presence, list, peers, trail, &mut rows, &mut answer)
             }
         };
         let verdict = answered(number, || Verdict::read(&answer, peers))?;
-        let faults = faults.ok_or(Refusal::Foreign(0))?;
+        let faults = self.faults(&trail.unwrap_or_default(), rows)?;
         let waits = matches!(verdict, Verdict::TransInvalid(_));
         let clearing = if waits { Some(self.clearing()?) } else { None };
-        Ok(Answer::Judged(verdict, Said { faults, clearing }))
+        let forced = if asked.force { Some(self.forced(usize::MAX)?) } else { None };
+        Ok(Answer::Judged(verdict, Said { faults, clearing, forced }))
     }
 
     /// What the point waits for.
@@ -57,16 +60,26 @@ impl<'a> Judging<'a> {
         clearing(settings, schedule, record, self.leader, self.presence, self.list)
     }
 
+    /// The reasons that some order of the entries gives, with this many bytes for their rows.
+    pub fn forced(&self, length: usize) -> Result<Vec<FaultOf>, Refusal> {
+        let Self { network: Network { settings, schedule, record }, leader, presence, list } = *self;
+        let (mut out, mut rows) = (self.rows(length), 0);
+        let number = lent::force(settings, schedule, record, leader, presence, list, &mut out, &mut rows);
+        answered(number, || Some(()))?;
+        self.faults(&out, rows)
+    }
+
     /// This many bytes for rows. More than a row's over its list make no difference.
     fn rows(&self, length: usize) -> Vec<u8> {
         vec![0; length.min(self.list.len() + ROW)]
     }
 
     /// What so many rows say, with the ids of the entries.
-    fn faults(&self, rows: &[u8], count: u32) -> Option<Vec<FaultOf>> {
+    fn faults(&self, rows: &[u8], count: u32) -> Result<Vec<FaultOf>, Refusal> {
         let entries = Entries::of(self.list);
-        let rows = rows.as_chunks::<ROW>().0.get(..count.try_into().ok()?)?;
-        let faults = rows.iter().map(Fault::read);
-        faults.map(|fault| fault.map(|fault| FaultOf(fault, entries.id(fault.set_by)))).collect()
+        let rows = usize::try_from(count).ok().and_then(|count| rows.as_chunks::<ROW>().0.get(..count));
+        let faults = rows.and_then(|rows| rows.iter().map(Fault::read).collect::<Option<Vec<_>>>());
+        let faults = faults.ok_or(Refusal::Foreign(0))?;
+        Ok(faults.into_iter().map(|fault| FaultOf(fault, entries.id(fault.set_by))).collect())
     }
 }

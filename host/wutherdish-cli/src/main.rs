@@ -75,6 +75,7 @@ fn explain(mut arguments: Arguments) -> Result<(), Problem> {
         full_ids: arguments.flag(&usage::FULL_IDS),
         last: arguments.flag(&usage::LAST),
         trail: arguments.flag(&usage::TRAIL),
+        force: arguments.flag(&usage::FORCE),
         progress: arguments.flag(&usage::PROGRESS),
     };
     let file = file(&mut arguments)?;

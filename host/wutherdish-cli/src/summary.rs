@@ -7,12 +7,15 @@ use wutherdish::{Clearing, Kept, Refusal};
 
 use crate::calls::Answer;
 
-/// The answers by `tally`'s letters, in the order of a summary. P, C, W and digits are none of them: `tally` only judges.
-const KINDS: [(char, &str); 12] = [
+/// The answers by `tally`'s letters, in the order of a summary. P, C, W, small letters and digits are none of them: `tally` only judges.
+const KINDS: [(char, &str); 15] = [
     ('V', "valid"),
     ('P', "passed"),
     ('C', "converted"),
     ('W', "written"),
+    ('n', "chosen by the network"),
+    ('a', "forced by the author"),
+    ('o', "invalid in no order"),
     ('1', "waiting for a certificate"),
     ('2', "cleared by no single certificate"),
     ('0', "waiting for no certificate"),
@@ -41,6 +44,14 @@ impl Summary {
             Ok(Answer::Passed) => self.count('P', None),
             Ok(Answer::Converted) => self.count('C', None),
             Ok(Answer::Written) => self.count('W', None),
+            Ok(Answer::Forced(reasons)) => {
+                let letter = match reasons[..] {
+                    [] => 'o',
+                    [_] => 'a',
+                    [..] => 'n',
+                };
+                self.count(letter, None);
+            }
             Ok(Answer::Clearing(Clearing::ClearedBy(_))) => self.count('1', None),
             Ok(Answer::Clearing(Clearing::NoSingleMark)) => self.count('2', None),
             Ok(Answer::Clearing(Clearing::NotWaiting)) => self.count('0', None),

@@ -30,6 +30,13 @@ pub const TRAIL: Opt = Opt {
     what: "of cases of judging: says all faults of a point, in the order in which the rules fired,\n\
            each with the entry of the list that set it",
 };
+/// Says what the network can force.
+pub const FORCE: Opt = Opt {
+    name: "--force",
+    value: None,
+    what: "of cases of judging: says between which reasons the network chooses by the order in which\n\
+           the entries of the list arrive, or which one the author forces",
+};
 /// The book's size.
 pub const ROOM: Opt = Opt {
     name: "--room",
@@ -76,15 +83,15 @@ pub const HELP: Opt = Opt { name: "--help", value: None, what: "says how the com
 pub const VERSION: Opt =
     Opt { name: "--version", value: None, what: "says which version this is, and which library it uses" };
 
-static OPTIONS: [&Opt; 12] =
-    [&LAST, &TRAIL, &ROOM, &BOOK, &FULL_IDS, &PROGRESS, &APPEND, &LEADER, &TO, &OUTPUT, &HELP, &VERSION];
+static OPTIONS: [&Opt; 13] =
+    [&LAST, &TRAIL, &FORCE, &ROOM, &BOOK, &FULL_IDS, &PROGRESS, &APPEND, &LEADER, &TO, &OUTPUT, &HELP, &VERSION];
 
 static COMMANDS: [Command; 8] = [
     Command {
         name: "explain",
         takes: "FILE",
         what: "what each point of a feed or case of a file is found to be, and why; or what a point record says",
-        options: &[&LAST, &TRAIL, &ROOM, &BOOK, &FULL_IDS, &PROGRESS],
+        options: &[&LAST, &TRAIL, &FORCE, &ROOM, &BOOK, &FULL_IDS, &PROGRESS],
     },
     Command {
         name: "show",

@@ -1,8 +1,8 @@
 //! What is said of a point and of the answer to it. The words on verdicts are the crate wutherdish's.
 
 use wutherdish::{
-    Digest, IllFormedNumber, IllFormedReason, InvalidNumber, PeerId, Point, Refusal, Schedule, Settings, Verdict,
-    Verified,
+    Digest, FaultOf, IllFormedNumber, IllFormedReason, InvalidNumber, PeerId, Point, Refusal, Schedule, Settings,
+    Verdict, Verified,
 };
 
 use crate::calls::{Answer, Said};
@@ -57,6 +57,7 @@ impl Words {
             Ok(Answer::Verdict(verdict)) => (verdict, None),
             Ok(Answer::Judged(verdict, said)) => (verdict, Some(said)),
             Ok(Answer::Clearing(clearing)) => return vec![self.names.say(clearing)],
+            Ok(Answer::Forced(reasons)) => return self.forced(reasons),
             Ok(Answer::Passed) => return vec![Verified::Passed.to_string()],
             Ok(Answer::Converted) => return vec!["converted".into()],
             Ok(Answer::Written) => return vec!["written".into()],
@@ -74,13 +75,28 @@ impl Words {
 
     /// What else is said of a verdict.
     fn said(&self, said: &Said) -> Vec<String> {
-        let Said { faults, clearing } = said;
+        let Said { faults, clearing, forced } = said;
         let mut lines: Vec<String> = clearing.iter().map(|clearing| self.names.say(clearing)).collect();
         if !faults.is_empty() {
             lines.push(format!("{}, in the order in which the rules fired:", counted(faults.len(), "fault")));
-            lines.extend(faults.iter().map(|fault| format!("  {}", self.names.say(fault))));
+            lines.extend(self.rows(faults));
         }
+        lines.extend(forced.iter().flat_map(|reasons| self.forced(reasons)));
         lines
+    }
+
+    /// What the network chooses between, or what the author forces.
+    fn forced(&self, reasons: &[FaultOf]) -> Vec<String> {
+        let head = match reasons {
+            [] => "no order of arrival makes it invalid".into(),
+            [_] => "its author forces this reason, which every order of arrival gives:".into(),
+            [..] => format!("the network chooses between {} reasons, by the order of arrival:", reasons.len()),
+        };
+        std::iter::once(head).chain(self.rows(reasons)).collect()
+    }
+
+    fn rows(&self, faults: &[FaultOf]) -> impl Iterator<Item = String> {
+        faults.iter().map(|fault| format!("  {}", self.names.say(fault)))
     }
 
     /// Settings.

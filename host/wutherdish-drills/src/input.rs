@@ -62,6 +62,13 @@ pub fn judge_with_trail(world: &World, point: &Point, presence: u8, list: &[u8],
     judging(18, world, point, presence, list, &[&trail.to_le_bytes()])
 }
 
+/// A case that asks what the network can force, with an output of this many bytes.
+pub fn force(world: &World, point: &Point, presence: u8, list: &[u8], output: u32) -> Input {
+    let (settings, schedule) = (world.settings.to_bytes(), written(world.schedule.to_bytes()));
+    let record = written(point.to_bytes());
+    case(19, &[&settings, &schedule, &record, &[0, presence], list, &output.to_le_bytes()])
+}
+
 fn judging(kind: u8, world: &World, point: &Point, presence: u8, list: &[u8], more: &[&[u8]]) -> Input {
     let (settings, schedule) = (world.settings.to_bytes(), written(world.schedule.to_bytes()));
     let (record, peer_buffer) = (written(point.to_bytes()), (PEER_BUFFER as u32).to_le_bytes());

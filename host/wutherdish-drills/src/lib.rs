@@ -5,9 +5,9 @@
 //! and the genesis point. What was never offered is not found (19), but the last reason that is found stays: in such a feed
 //! the dependency that decides is the last one of the list. The stories leave out nothing but what they tell of.
 //!
-//! What no feed can give stands in a case for verifying, judging, writing or converting, and so does what a list leaves out. Number 10
-//! has no drill: it is given for a damaged book, which neither a feed nor a case can hold. The reasons that are never given have
-//! none either: ill-formed 1 and 2, invalid 1 and 20.
+//! What no feed can give stands in a case for verifying, judging, writing, converting or what the network can force, and so does what a
+//! list leaves out. Number 10 has no drill: it is given for a damaged book, which neither a feed nor a case can hold. The reasons that
+//! are never given have none either: ill-formed 1 and 2, invalid 1 and 20.
 
 mod demo;
 mod ill_formed;
@@ -25,11 +25,12 @@ pub enum Input {
     /// What `tally` reads: settings, a schedule, then leader byte and record of each point. Its points are offered to a
     /// book of 65,536 bytes.
     Feed(Vec<u8>),
-    /// One call: kind (1 verify, 2 judge, 16 write, 17 convert, 18 judge with a trail), the number of blobs (1), then each blob as its
-    /// length (4, little-endian) and its bytes. Verifying: settings, schedule, record, the peer buffer's length (4). Judging: settings,
-    /// schedule, record, leader and presence (2), list, the peer buffer's length (4), and with a trail its length (4). Writing: id (68),
-    /// payload (8), includes, witness, evidence, proof link (102), trigger link (102), role, seq_no and is_last (3), times (16), the
-    /// output's length (4). Converting: 0 from pairs to columns or 1 back (1), record, the output's length (4).
+    /// One call: kind (1 verify, 2 judge, 16 write, 17 convert, 18 judge with a trail, 19 what the network can force), the number of
+    /// blobs (1), then each blob as its length (4, little-endian) and its bytes. Verifying: settings, schedule, record, the peer buffer's
+    /// length (4). Judging: settings, schedule, record, leader and presence (2), list, the peer buffer's length (4), and with a trail its
+    /// length (4). What the network can force: as judging, with the output's length (4) for the peer buffer's. Writing: id (68), payload
+    /// (8), includes, witness, evidence, proof link (102), trigger link (102), role, seq_no and is_last (3), times (16), the output's
+    /// length (4). Converting: 0 from pairs to columns or 1 back (1), record, the output's length (4).
     Case(Vec<u8>),
 }
 

@@ -13,7 +13,7 @@ pub fn drills() -> Vec<Drill> {
     let mut drills = vec![with_version(), without_version(), with_target(), without_target()];
     drills.extend([flag_of_judging(), flag_of_arrival(), tie_first(), tie_second()]);
     drills.extend([two_reasons(), two_reasons_reversed(), four_faults()]);
-    drills.extend([waits_for_one(), waits_for_one_certified(), waits_for_two()]);
+    drills.extend([waits_for_one(), waits_for_one_certified(), waits_for_two(), forced_reason()]);
     drills
 }
 
@@ -203,4 +203,18 @@ fn waits_for_two() -> Drill {
     let what =
         "the case of waits-for-one, where the point also witnesses the root cause: the mark of neither alone clears it";
     case("waits-for-two", what, &world, &point, &list, TRANS_INVALID)
+}
+
+/// B's point of round 12 has an anchor time of its own, and A's of round 11, through which its links lead, is too late: one entry gives
+/// both reasons, and no other gives any.
+fn forced_reason() -> Drill {
+    let world = World::new(E, &[A, B, C]);
+    let links = world.to_genesis(A);
+    let point = world.above_all(12, B).link(Proof, links).link(Trigger, links);
+    let point = Point { anchor_time: WRONG_ANCHOR_TIME, ..point };
+    let late = Point { time: point.time + 501, ..world.first(A) };
+    let list = List::new().direct(valid(&world.first(B)).certified()).direct(valid(&late));
+    let list = with_targets(list.direct(valid(&world.first(C))), &valid(&world.genesis()));
+    let what = "a case for judging: one entry gives two reasons, of which the last stays in every order of the entries";
+    case("forced-reason", what, &world, &point, &list, invalid(8))
 }

@@ -3,13 +3,13 @@
 use wutherdish::lent::PEER_BUFFER;
 use wutherdish::{Dependency, Digest, List, PeerId, Point, State};
 
-use crate::input::{Feed, convert, judge, judge_with_trail, verify, write_twice, written};
+use crate::input::{Feed, convert, force, judge, judge_with_trail, verify, write_twice, written};
 use crate::world::{A, B, GENESIS_ROUND, World, id, second_version, trigger};
 use crate::{Answer, Drill};
 
 pub fn drills() -> Vec<Drill> {
     let mut drills = vec![settings(), schedule(), point_record(), domain(), short(), horizon()];
-    drills.extend([entries(), mismatch(), uncovered(), kept(), full(), twice(), output(), trail()]);
+    drills.extend([entries(), mismatch(), uncovered(), kept(), full(), twice(), output(), trail(), reasons()]);
     drills
 }
 
@@ -115,4 +115,12 @@ fn trail() -> Drill {
     let input = judge_with_trail(&world, &world.first(B), 0, &[], 7);
     let what = "a case for judging with a trail: it is one byte too short for its one row";
     Drill { name: "number-15", what, input, answer: Answer::Number(15) }
+}
+
+/// The same of what the network can force.
+fn reasons() -> Drill {
+    let world = World::of_three();
+    let input = force(&world, &world.first(B), 0, &[], 7);
+    let what = "a case that asks what the network can force: the output is one byte too short for the one row";
+    Drill { name: "number-17", what, input, answer: Answer::Number(17) }
 }

@@ -97,6 +97,27 @@ unsafe extern "C" {
         answer: *mut [u8; 69],
     ) -> u8;
 
+    /// Says which reasons the network can force by the order of the entries.
+    ///
+    /// # Safety
+    ///
+    /// As of [`wutherdish_verify`]; the output and the count are written, and the count's pointer is aligned.
+    pub unsafe fn wutherdish_force(
+        settings: *const u8,
+        settings_len: usize,
+        schedule: *const u8,
+        schedule_len: usize,
+        record: *const u8,
+        record_len: usize,
+        leader: u8,
+        presence: u8,
+        list: *const u8,
+        list_len: usize,
+        out: *mut u8,
+        out_len: usize,
+        rows: *mut u32,
+    ) -> u8;
+
     /// Opens a book in a slice.
     ///
     /// # Safety

@@ -11,11 +11,12 @@ use wutherdish_sys::{ABI, ANSWER, FORMAT, PEER_BUFFER, wutherdish_version};
 const ROOT: &str = "../..";
 
 /// The calls that give a number.
-const CALLS: [&str; 9] = [
+const CALLS: [&str; 10] = [
     "wutherdish_verify",
     "wutherdish_judge",
     "wutherdish_trail",
     "wutherdish_clearing",
+    "wutherdish_force",
     "wutherdish_open",
     "wutherdish_offer",
     "wutherdish_pairs_to_columns",

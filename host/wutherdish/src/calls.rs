@@ -133,9 +133,7 @@ pub fn judge_with_trail(
     let verdict = answered(Verdict::read, |peers, answer| {
         lent::trail(settings, schedule, record, leader, presence, list, peers, &mut trail, &mut rows, answer)
     })?;
-    let rows = usize::try_from(rows).ok().and_then(|count| trail.as_chunks::<ROW>().0.get(..count));
-    let faults = rows.and_then(|rows| rows.iter().map(Fault::read).collect());
-    faults.map(|faults| (verdict, faults)).ok_or(Refusal::Foreign(0))
+    faults(&trail, rows).map(|faults| (verdict, faults)).ok_or(Refusal::Foreign(0))
 }
 
 /// Says which certificate would make a point valid that [`judge`] finds trans-invalid with the same list: of which point the certified
@@ -188,6 +186,63 @@ pub fn clearing(
         0 => Clearing::read(&answer).ok_or(Refusal::Foreign(0)),
         number => Err(Refusal::new(number)),
     }
+}
+
+/// Says every reason that some order of the entries gives: of a point and its entries, which its author fixes, the network chooses the
+/// order of arrival, that of the direct entries and that of the indirect ones, and judging keeps the last reason. Each reason stands
+/// once, by its number and then by the place of the first entry that gives it. One reason alone is what every order gives; without a
+/// reason no order makes the point invalid. It gives the numbers that [`judge`] gives.
+///
+/// ```
+/// use wutherdish::{Dependency, Digest, List, PeerId, Point, PointId, Schedule, SetBy, Settings, State, force};
+/// # use wutherdish::AnchorStageRole::{Proof, Trigger};
+/// # use wutherdish::{AnchorLink, PointRole, Through};
+///
+/// # let settings = Settings {
+/// #     genesis_round: 11,
+/// #     genesis_digest: Digest([9; 32]),
+/// #     payload_batch_bytes: 1_000,
+/// #     sticky_anchors: 0,
+/// #     clock_skew_millis: 5_000,
+/// #     commit_history_rounds: 20,
+/// # };
+/// # let [founder, ada, bea, cy] = [1, 2, 3, 4].map(|byte| PeerId([byte; 32]));
+/// # let schedule = Schedule::new(1_000).span(11, [founder]).span(12, [ada, bea, cy]).to_bytes()?;
+/// # let id = PointId { round: 11, digest: settings.genesis_digest, author: founder };
+/// # let genesis = Point::new(id, 80_000, 80_000).include(founder, Digest([0; 32])).role(PointRole::Genesis);
+/// # let link = AnchorLink::Direct(Through::Includes(founder));
+/// # let point = Point::new(PointId { round: 12, digest: Digest([10; 32]), author: ada }, 70_001, 70_000)
+/// #     .include(founder, genesis.id.digest)
+/// #     .link(Proof, link)
+/// #     .link(Trigger, link);
+/// // a point above genesis, which is later than it (11) and has another anchor time (8): one entry gives its last reason
+/// let late = Dependency::new(State::Valid { record: genesis.to_bytes()? });
+/// let (settings, record) = (settings.to_bytes(), point.to_bytes()?);
+/// let forced = force(&settings, &schedule, &record, 0, 3, &List::new().direct(late).to_bytes()?)?;
+/// let said: Vec<(SetBy, u8)> = forced.iter().map(|fault| (fault.set_by, fault.reason.0)).collect();
+/// assert_eq!(said, [(SetBy::Direct(0), 8)]);
+/// # Ok::<(), Box<dyn std::error::Error>>(())
+/// ```
+pub fn force(
+    settings: &[u8],
+    schedule: &[u8],
+    record: &[u8],
+    leader: u8,
+    presence: u8,
+    list: &[u8],
+) -> Result<Vec<Fault>, Refusal> {
+    // room for all rows, as include/wutherdish.h says
+    let (mut out, mut rows) = (vec![0; list.len() + ROW], 0);
+    match lent::force(settings, schedule, record, leader, presence, list, &mut out, &mut rows) {
+        0 => faults(&out, rows).ok_or(Refusal::Foreign(0)),
+        number => Err(Refusal::new(number)),
+    }
+}
+
+/// What so many rows say.
+fn faults(rows: &[u8], count: u32) -> Option<Vec<Fault>> {
+    let rows = rows.as_chunks::<ROW>().0.get(..count.try_into().ok()?)?;
+    rows.iter().map(Fault::read).collect()
 }
 
 /// Lends a call its peer buffer and its answer, and reads what it says.

@@ -1,4 +1,4 @@
-//! What a row of a trail says: a reason as judging sets it, where an answer has the last one alone.
+//! What a row says, of a trail or of what the network can force: a reason and what sets it, where an answer has the last one alone.
 
 use crate::id::PointId;
 use crate::names::InvalidNumber;
@@ -7,10 +7,10 @@ use crate::reasons::AnchorStageRole;
 /// How many bytes a row has.
 pub(crate) const ROW: usize = 8;
 
-/// A reason that judging set, of those that make a point invalid.
+/// A reason that judging sets, of those that make a point invalid.
 #[derive(Clone, Copy, PartialEq, Eq, Debug)]
 pub struct Fault {
-    /// What set it.
+    /// What sets it.
     pub set_by: SetBy,
     /// Its number, 2 to 19.
     pub reason: InvalidNumber,
@@ -18,7 +18,7 @@ pub struct Fault {
     pub role: Option<AnchorStageRole>,
 }
 
-/// What set a reason.
+/// What sets a reason.
 #[derive(Clone, Copy, PartialEq, Eq, Debug)]
 pub enum SetBy {
     /// A presence rule, which looks at no entry.
@@ -29,13 +29,13 @@ pub enum SetBy {
     Indirect(usize),
 }
 
-/// A fault with the id of the entry that set it, if that has one: its text names the point, where that of a fault alone says "a
+/// A fault with the id of the entry that sets it, if that has one: its text names the point, where that of a fault alone says "a
 /// point".
 #[derive(Clone, Copy, PartialEq, Eq, Debug)]
 pub struct FaultOf(pub Fault, pub Option<PointId>);
 
 impl Fault {
-    /// What a row of a trail says; none where the bytes are no row.
+    /// What a row says; none where the bytes are no row.
     pub fn read(row: &[u8; ROW]) -> Option<Self> {
         let &[list, low, high, reason, role, 0, 0, 0] = row else { return None };
         let set_by = match (list, u16::from_le_bytes([low, high])) {

@@ -145,6 +145,40 @@ pub fn clearing(
     }
 }
 
+/// Says which reasons the network can force: gives document 01's number, or 0 where the rows of 8 bytes stand at the front of the
+/// output, one for each reason that some order of the entries gives. `rows` is how many there are then; the rest of the output keeps its
+/// bytes. No peer buffer is lent. One that is 8 bytes longer than the list has room for all rows.
+#[expect(clippy::too_many_arguments, reason = "those of the call")]
+pub fn force(
+    settings: &[u8],
+    schedule: &[u8],
+    record: &[u8],
+    leader: u8,
+    presence: u8,
+    list: &[u8],
+    out: &mut [u8],
+    rows: &mut u32,
+) -> u8 {
+    // SAFETY: as in `verify`.
+    unsafe {
+        wutherdish_sys::wutherdish_force(
+            settings.as_ptr(),
+            settings.len(),
+            schedule.as_ptr(),
+            schedule.len(),
+            record.as_ptr(),
+            record.len(),
+            leader,
+            presence,
+            list.as_ptr(),
+            list.len(),
+            out.as_mut_ptr(),
+            out.len(),
+            rows,
+        )
+    }
+}
+
 /// Opens a book in a slice: gives document 01's number, or 0 where it is opened.
 pub fn open(book: &mut [u8], settings: &[u8]) -> u8 {
     // SAFETY: as in `verify`.

@@ -10,6 +10,7 @@
 //! | [`judge`] | gives the verdict on a point by a list of what the host keeps: its dependencies, its author's points, its links' targets |
 //! | [`judge_with_trail`] | says beside the verdict every reason that was set, and by which entry |
 //! | [`clearing()`] | says which certificate would make a trans-invalid point valid |
+//! | [`force`] | says every reason that some order of the list's entries gives |
 //! | [`Book`] | keeps the points with their verdicts, and judges each new one by them |
 //! | [`Point::to_bytes`] | writes the record of a point that the host composes |
 //! | [`pairs_to_columns`], [`columns_to_pairs`] | convert point records that were stored before format 2, and back |
@@ -125,7 +126,7 @@ mod written;
 
 pub use book::Book;
 pub use build_error::BuildError;
-pub use calls::{clearing, judge, judge_with_trail, verify};
+pub use calls::{clearing, force, judge, judge_with_trail, verify};
 pub use clearing::Clearing;
 pub use convert::{columns_to_pairs, pairs_to_columns};
 pub use fault::{Fault, FaultOf, SetBy};

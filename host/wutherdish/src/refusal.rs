@@ -39,12 +39,14 @@ pub enum Refusal {
     Output,
     /// 15: the lent trail is too short for the rows. [`judge_with_trail`](crate::judge_with_trail) never gives it.
     Trail,
+    /// 17: the lent list is too short for the reasons that the network can force. [`force`](crate::force) never gives it.
+    Forced,
     /// The library answered what this version of the crate doesn't know, with this number: it is another version's.
     Foreign(u8),
 }
 
 /// The refusals with a number of document 01.
-const NUMBERED: [Refusal; 15] = [
+const NUMBERED: [Refusal; 16] = [
     Refusal::Settings,
     Refusal::Schedule,
     Refusal::Record,
@@ -60,6 +62,7 @@ const NUMBERED: [Refusal; 15] = [
     Refusal::Twice,
     Refusal::Output,
     Refusal::Trail,
+    Refusal::Forced,
 ];
 
 impl Refusal {
@@ -86,6 +89,7 @@ impl Refusal {
             Self::Twice => 13,
             Self::Output => 14,
             Self::Trail => 15,
+            Self::Forced => 17,
             Self::Foreign(number) => number,
         }
     }
@@ -114,6 +118,7 @@ impl Display for Refusal {
             Self::Twice => "a peer stands twice in a map",
             Self::Output => "the lent output is too short for the record",
             Self::Trail => "the lent trail has under 8 bytes for each reason that is set",
+            Self::Forced => "the lent list has under 8 bytes for each reason that the network can force",
             Self::Foreign(number) => {
                 return write!(f, "the linked library is another version: its number {number} and answer are unknown");
             }

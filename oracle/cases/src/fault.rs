@@ -1,7 +1,9 @@
 //! Faults, and the scenes that they are put into.
 
 mod entries;
+pub mod forcing;
 mod point;
+pub mod waiting;
 
 use oracle::file::Case;
 use oracle::value::{AnchorStageRole, Id, PointRole, State, Through};

@@ -18,3 +18,13 @@ pub fn case(seed: u64, place: u64) -> Case {
     let mut random = Random::new(seed, place);
     fault::case(&mut random)
 }
+
+/// Likewise, of a point that mostly waits for certificates.
+pub fn waiting(seed: u64, place: u64) -> Case {
+    fault::waiting::waiting(&mut Random::new(seed, place))
+}
+
+/// Likewise, of a point for which several entries mostly have reasons.
+pub fn forcing(seed: u64, place: u64) -> Case {
+    fault::forcing::forcing(&mut Random::new(seed, place))
+}

@@ -9,7 +9,9 @@ mod run_feeds;
 mod spread;
 mod store;
 mod store_books;
+mod store_clears;
 mod store_composes;
+mod store_forces;
 mod store_trails;
 mod trails;
 mod vectors;
@@ -40,6 +42,8 @@ const USAGE: &str = "oracle COMMAND
   store-books FILE       write the stored books
   store-composes FILE    write the stored drafts of points
   store-trails FILE      write the stored trails
+  store-clears FILE      write the stored questions on what would clear a point
+  store-forces FILE      write the stored lists on what the network can force
   wrong OUT FILE..       write cases of files, each with a change in what it expects";
 
 fn main() -> ExitCode {
@@ -75,6 +79,8 @@ fn main() -> ExitCode {
         ["store-books", file] => store_books::write(file),
         ["store-composes", file] => store_composes::write(file),
         ["store-trails", file] => store_trails::write(file),
+        ["store-clears", file] => store_clears::write(file),
+        ["store-forces", file] => store_forces::write(file),
         ["wrong", out, ref files @ ..] => wrong::make(out, files),
         _ => Err(USAGE.to_string()),
     };

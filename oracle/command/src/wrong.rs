@@ -3,8 +3,10 @@
 use book::file::{BEGIN, OFFER, OFFER_TO, OPEN};
 use book::replay::FILL;
 use oracle::Answer;
+use oracle::clearing::CLEARING;
 use oracle::draft::COMPOSE;
 use oracle::file::{Blobs, JUDGE, VERIFY, answer_bytes, blobs, write};
+use oracle::forcing::FORCE;
 use oracle::numbers;
 use trail::{ROW, TRAIL};
 
@@ -67,7 +69,7 @@ const REFUSED: [Change; 4] = [
 ];
 
 /// Where the rows of a trail stand in an answer, after their count, and how long one is.
-const ROWS: usize = 4;
+const TRAIL_ROWS: usize = 4;
 /// What to expect in place of a trail of two rows or more, in turn: another count in each of its bytes; each byte of the first row
 /// changed, and the last of the last row; a row less; one more, whose bytes are what the trail is filled with; the answer's number,
 /// its kind and the last byte of the answer changed; and number 15, with which nothing that is lent may change.
@@ -76,6 +78,72 @@ const TRAILED: [Change; 19] = [
     |answer| raised(answer, 1),
     |answer| raised(answer, 2),
     |answer| raised(answer, 3),
+    |answer| raised(answer, TRAIL_ROWS),
+    |answer| raised(answer, TRAIL_ROWS + 1),
+    |answer| raised(answer, TRAIL_ROWS + 2),
+    |answer| raised(answer, TRAIL_ROWS + 3),
+    |answer| raised(answer, TRAIL_ROWS + 4),
+    |answer| raised(answer, TRAIL_ROWS + 5),
+    |answer| raised(answer, TRAIL_ROWS + 6),
+    |answer| raised(answer, TRAIL_ROWS + 7),
+    |answer| raised(answer, end_of_rows(answer) - 1),
+    |answer| [&[answer[0] - 1], &answer[1..TRAIL_ROWS], &answer[TRAIL_ROWS + ROW..]].concat(),
+    |answer| {
+        let (rows, rest) = answer.split_at(end_of_rows(answer));
+        [&[rows[0] + 1], &rows[1..], &[FILL; ROW], rest].concat()
+    },
+    |answer| raised(answer, end_of_rows(answer)),
+    |answer| raised(answer, end_of_rows(answer) + 1),
+    |answer| raised(answer, answer.len() - 1),
+    |_| [&[0; TRAIL_ROWS][..], &number_answer(numbers::ROWS)].concat(),
+];
+/// The same of a number: another, a count, and a row of what the trail is filled with.
+const UNTRAILED: [Change; 3] = [
+    |answer| raised(answer, TRAIL_ROWS),
+    |answer| raised(answer, 0),
+    |answer| [&[1, 0, 0, 0][..], &[FILL; ROW], &answer[TRAIL_ROWS..]].concat(),
+];
+
+fn end_of_rows(answer: &[u8]) -> usize {
+    TRAIL_ROWS + ROW * usize::from(answer[0])
+}
+
+/// What to expect in place of a point that would clear another, in turn: another number, no single mark, no waiting, another byte
+/// of the id's round, digest and author, first and last, a byte after it, a byte less, and a number.
+const CLEARED: [Change; 12] = [
+    |answer| raised(answer, 0),
+    |answer| [&[0, 1], &answer[2..]].concat(),
+    |answer| [&[0, 0], &answer[2..]].concat(),
+    |answer| raised(answer, 2),
+    |answer| raised(answer, 5),
+    |answer| raised(answer, 6),
+    |answer| raised(answer, 37),
+    |answer| raised(answer, 38),
+    |answer| raised(answer, 69),
+    |answer| [answer, &[0]].concat(),
+    |answer| answer[..69].to_vec(),
+    |_| [&[9, 255], &[0; 68][..]].concat(),
+];
+/// The same where no single mark clears the point: a point, no waiting, and an id's last byte.
+const UNCLEARED: [Change; 3] =
+    [|answer| raised(answer, 1), |answer| [&[0, 0], &answer[2..]].concat(), |answer| raised(answer, 69)];
+/// The same of a point that doesn't wait: a number, and no single mark.
+const NOT_WAITING: [Change; 2] = [|answer| raised(answer, 0), |answer| raised(answer, 1)];
+/// The same of a number: another, an answer's first byte beside it, and an id's first and last.
+const UNASKED: [Change; 4] =
+    [|answer| raised(answer, 0), |answer| raised(answer, 1), |answer| raised(answer, 2), |answer| raised(answer, 69)];
+
+/// Where the rows of a list stand in an answer, after the number and the count.
+const ROWS: usize = RECORD;
+/// What to expect in place of a list of two rows or more, in turn: another number, another count in each of its bytes, each byte of
+/// the first row and the last byte changed, a row more of what the output is filled with and counted, a row less and counted, the
+/// first two rows exchanged, and a number.
+const FORCED: [Change; 18] = [
+    |answer| raised(answer, 0),
+    |answer| raised(answer, COUNT_OF_BYTES),
+    |answer| raised(answer, COUNT_OF_BYTES + 1),
+    |answer| raised(answer, COUNT_OF_BYTES + 2),
+    |answer| raised(answer, COUNT_OF_BYTES + 3),
     |answer| raised(answer, ROWS),
     |answer| raised(answer, ROWS + 1),
     |answer| raised(answer, ROWS + 2),
@@ -84,26 +152,19 @@ const TRAILED: [Change; 19] = [
     |answer| raised(answer, ROWS + 5),
     |answer| raised(answer, ROWS + 6),
     |answer| raised(answer, ROWS + 7),
-    |answer| raised(answer, end_of_rows(answer) - 1),
-    |answer| [&[answer[0] - 1], &answer[1..ROWS], &answer[ROWS + ROW..]].concat(),
-    |answer| {
-        let (rows, rest) = answer.split_at(end_of_rows(answer));
-        [&[rows[0] + 1], &rows[1..], &[FILL; ROW], rest].concat()
-    },
-    |answer| raised(answer, end_of_rows(answer)),
-    |answer| raised(answer, end_of_rows(answer) + 1),
     |answer| raised(answer, answer.len() - 1),
-    |_| [&[0; ROWS][..], &number_answer(numbers::ROWS)].concat(),
-];
-/// The same of a number: another, a count, and a row of what the trail is filled with.
-const UNTRAILED: [Change; 3] = [
-    |answer| raised(answer, ROWS),
-    |answer| raised(answer, 0),
-    |answer| [&[1, 0, 0, 0][..], &[FILL; ROW], &answer[ROWS..]].concat(),
+    |answer| [raised(answer, COUNT_OF_BYTES), vec![FILL; ROW]].concat(),
+    fewer,
+    |answer| {
+        [&answer[..ROWS], &answer[ROWS + ROW..][..ROW], &answer[ROWS..][..ROW], &answer[ROWS + 2 * ROW..]].concat()
+    },
+    |_| vec![17, 0, 0, 0, 0],
 ];
 
-fn end_of_rows(answer: &[u8]) -> usize {
-    ROWS + ROW * usize::from(answer[0])
+fn fewer(answer: &[u8]) -> Vec<u8> {
+    let mut answer = answer[..answer.len() - ROW].to_vec();
+    answer[COUNT_OF_BYTES] -= 1;
+    answer
 }
 
 /// Cases of the files, each with a change in what it expects.
@@ -114,8 +175,14 @@ pub fn make(path: &str, files: &[&str]) -> Result<(), String> {
     let answers = CALLS.into_iter().enumerate().flat_map(|(turn, kind)| answers(&cases, turn, kind));
     let peers = CALLS.into_iter().flat_map(|kind| peers(&cases, kind));
     let openings = openings(&cases).into_iter().chain(first_book(&cases));
-    let chosen =
-        openings.chain(answers).chain(digests(&cases)).chain(peers).chain(composes(&cases)).chain(trails(&cases));
+    let chosen = openings
+        .chain(answers)
+        .chain(digests(&cases))
+        .chain(peers)
+        .chain(composes(&cases))
+        .chain(trails(&cases))
+        .chain(clears(&cases))
+        .chain(forces(&cases));
     let chosen: Vec<Changed> = chosen.collect();
     let mut out = Vec::new();
     for (kind, blobs) in &chosen {
@@ -151,39 +218,63 @@ fn trails(cases: &[Blobs<'_>]) -> Vec<Changed> {
     let has_room = |blobs: &[&[u8]]| {
         let [.., room, answer] = blobs else { return false };
         let room = (*room).try_into().map_or(0, u32::from_le_bytes) as usize;
-        answer[0] > 1 && ROWS + room >= end_of_rows(answer) + ROW
+        answer[0] > 1 && TRAIL_ROWS + room >= end_of_rows(answer) + ROW
     };
     let trailed = rising.iter().find(|(_, blobs)| has_room(blobs)).map(|case| (*case, &TRAILED[..]));
-    let refused = rising.iter().find(|(_, blobs)| blobs.last().is_some_and(|answer| answer[ROWS] == numbers::ROWS));
+    let refused =
+        rising.iter().find(|(_, blobs)| blobs.last().is_some_and(|answer| answer[TRAIL_ROWS] == numbers::ROWS));
     let all = [trailed, refused.map(|case| (*case, &UNTRAILED[..]))].into_iter().flatten();
-    let changed = |(case, changes): (&Blobs<'_>, &[Change])| {
-        let answer = case.1.last().expect("a case has an answer").to_vec();
-        changes.iter().map(|change| with_answer(case, change(&answer))).collect::<Vec<_>>()
-    };
-    all.flat_map(changed).collect()
+    all.flat_map(|(case, changes)| each(case, changes)).collect()
 }
 
 /// The smallest draft whose record leaves room in the output, and the smallest that is refused, each with other answers.
 fn composes(cases: &[Blobs<'_>]) -> Vec<Changed> {
     let rising = rising(cases, COMPOSE);
-    let composed = rising.iter().find(|(_, blobs)| leaves_room(blobs));
+    let composed = rising.iter().find(|(_, blobs)| leaves(blobs, 1));
     let refused = rising.iter().find(|(_, blobs)| blobs.last().is_some_and(|answer| answer[0] != 0));
-    let changed = |case: &&Blobs<'_>, changes: &[Change]| -> Vec<Changed> {
-        let answer = case.1.last().expect("a case has an answer");
-        changes.iter().map(|change| with_answer(case, change(answer))).collect()
-    };
-    [composed.map(|case| changed(case, &COMPOSED)), refused.map(|case| changed(case, &REFUSED))]
+    [composed.map(|case| each(case, &COMPOSED)), refused.map(|case| each(case, &REFUSED))]
         .into_iter()
         .flatten()
         .flatten()
         .collect()
 }
 
-/// A case whose record is composed, and shorter than its output.
-fn leaves_room(blobs: &[&[u8]]) -> bool {
+/// A case with each of these answers.
+fn each(case: &Blobs<'_>, changes: &[Change]) -> Vec<Changed> {
+    let answer = case.1.last().expect("a case has an answer");
+    changes.iter().map(|change| with_answer(case, change(answer))).collect()
+}
+
+/// The smallest questions that are answered by a point, by none, by no waiting and by a number, each with other answers.
+fn clears(cases: &[Blobs<'_>]) -> Vec<Changed> {
+    let rising = rising(cases, CLEARING);
+    let smallest =
+        |front: &[u8]| rising.iter().find(|(_, blobs)| blobs.last().is_some_and(|answer| answer.starts_with(front)));
+    [(&[0, 2][..], &CLEARED[..]), (&[0, 1], &UNCLEARED), (&[0, 0], &NOT_WAITING), (&[8], &UNASKED)]
+        .into_iter()
+        .flat_map(|(front, changes)| smallest(front).into_iter().flat_map(|case| each(case, changes)))
+        .collect()
+}
+
+/// A case whose output has room for so many bytes more than are written.
+fn leaves(blobs: &[&[u8]], more: usize) -> bool {
     let [.., room, answer] = blobs else { return false };
     let room = (*room).try_into().map_or(0, u32::from_le_bytes) as usize;
-    answer[0] == 0 && answer.len() - RECORD < room
+    answer[0] == 0 && answer.len() - RECORD + more <= room
+}
+
+/// The smallest list with rows that differ and room for one more, and the smallest with 17, each with other answers.
+fn forces(cases: &[Blobs<'_>]) -> Vec<Changed> {
+    let rising = rising(cases, FORCE);
+    let has_rows =
+        |blobs: &[&[u8]]| blobs.last().is_some_and(|answer| answer[0] == 0 && answer.len() >= ROWS + 2 * ROW);
+    let rows = rising.iter().find(|(_, blobs)| has_rows(blobs) && leaves(blobs, ROW));
+    let short = rising.iter().find(|(_, blobs)| blobs.last().is_some_and(|answer| answer[0] == 17));
+    [rows.map(|case| each(case, &FORCED)), short.map(|case| each(case, &REFUSED))]
+        .into_iter()
+        .flatten()
+        .flatten()
+        .collect()
 }
 
 /// The cases of a kind, the smallest first.

@@ -5,13 +5,16 @@
 
 pub mod answer;
 pub mod arrangement;
+pub mod clearing;
 pub mod direct;
 pub mod draft;
 pub mod feed;
 pub mod file;
+pub mod forcing;
 #[cfg(feature = "noted")]
 pub mod noted;
 pub mod numbers;
+pub mod question;
 pub mod read;
 pub mod row;
 mod run;

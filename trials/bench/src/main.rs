@@ -4,6 +4,7 @@ mod cold;
 mod comparisons;
 mod compose;
 mod convert;
+mod force;
 mod heap;
 mod judge;
 mod offer;
@@ -28,6 +29,7 @@ processor's. A ratio is the Rust's time divided by the library's in the same rou
 ";
 
 const USAGE: &str = "bench [verify | judge | trail | offer | convert | compose]   the tables, or one of them
+bench force                        what the network can force, by lists as long as they get, beside judging
 bench comparisons                  how many rows are compared for the order of a map's rows
 bench cold                         records and books that together are longer than the caches
 bench worst [full]                 the dearest inputs that were found; full: as long as they get
@@ -51,6 +53,7 @@ fn main() -> ExitCode {
         ["offer"] => offer::table(),
         ["convert"] => convert::table(&PEERS),
         ["compose"] => compose::table(&PEERS),
+        ["force"] => force::table(),
         ["comparisons"] => comparisons::table(),
         ["cold"] => cold::table(&PEERS).and_then(|()| convert::cold_table(&PEERS)),
         ["worst"] => worst::table(false),

@@ -9,6 +9,7 @@ use inputs::compose::compose;
 use inputs::dear::{Made, Shape};
 use oracle::arrangement::Arrangement;
 use oracle::file::Case;
+use oracle::question::Question;
 use wutherdish::lent::{self, ANSWER};
 
 use crate::once::result_of;
@@ -108,7 +109,7 @@ impl Lent {
         let book = match call {
             Call::Open { length, .. } => vec![1; *length],
             Call::Offer { book, .. } => book.clone().unwrap_or_default(),
-            Call::Case(_) | Call::Convert { .. } | Call::Compose { .. } | Call::Trail { .. } => Vec::new(),
+            _ => Vec::new(),
         };
         let [peers, output] = [call.peer_buffer(), call.output()].map(|length| vec![0; length.unwrap_or(0)]);
         Self { book, peers, answer: [0; ANSWER], output, count: 0 }
@@ -132,6 +133,13 @@ impl Lent {
                 lent::trail(settings, schedule, record, *leader, *presence, list, peers, output, count, answer)
             }
             Call::Trail { case: Case::Verify { .. }, .. } => unreachable!("a case that is judged"),
+            Call::Clearing(Question { settings, schedule, record, leader, presence, list }) => {
+                let answer = answer.first_chunk_mut().expect("an answer is longer");
+                lent::clearing(settings, schedule, record, *leader, *presence, list, answer)
+            }
+            Call::Force { question: Question { settings, schedule, record, leader, presence, list }, .. } => {
+                lent::force(settings, schedule, record, *leader, *presence, list, output, count)
+            }
         }
     }
 }

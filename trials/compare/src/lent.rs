@@ -1,9 +1,9 @@
 //! What a call leaves, and what it has to.
 
 use book::Offer;
-use oracle::Answer;
 use oracle::file::Case;
 use oracle::value::Peer;
+use oracle::{Answer, Verdict, read};
 use wutherdish::lent::{self, ANSWER};
 
 /// What lent bytes hold before a call.
@@ -66,6 +66,28 @@ impl Lent {
                 lent::judge(settings, schedule, record, *leader, *presence, list, peers, answer)
             }
         };
+    }
+
+    /// The library's answer to a case, as the oracle says it.
+    pub fn answer(&mut self, case: &Case) -> Answer {
+        self.call(case);
+        if self.number != 0 { Answer::Number(self.number) } else { self.verdict().into() }
+    }
+
+    /// The last answer's fields, but for the peers.
+    fn verdict(&self) -> Verdict {
+        let answer = &self.answer;
+        let part = |at: usize| u32::from_le_bytes(std::array::from_fn(|place| answer[at + place]));
+        Verdict {
+            id: Some(read::id(&std::array::from_fn(|place| answer[2 + place]))),
+            map: answer[70],
+            role: answer[71],
+            first: part(72),
+            second: part(76),
+            root_reason: answer[80],
+            peer: Some(std::array::from_fn(|place| answer[81 + place])),
+            ..Verdict::new(answer[0], answer[1])
+        }
     }
 
     /// Offers a point to the book in a slice, likewise.

@@ -2,11 +2,13 @@
 
 mod book_file;
 mod certificates;
+mod clears;
 mod composes;
 mod converts;
 mod difference;
 mod feeds;
 mod file;
+mod forces;
 mod joins;
 mod lent;
 mod orders;
@@ -38,6 +40,10 @@ const USAGE: &str = "compare COMMAND
   converts SEED COUNT [THREADS]        their records, damaged too, through both converters and those that read and write
   composes SEED COUNT [THREADS]        points handed over in parts, through the oracle's writer and reader and the library
   trails SEED COUNT [THREADS]          judge cases whose lists give many reasons, all of which are compared with the source's
+  clears SEED COUNT [THREADS]          what would clear points, by judging again with each point of the list marked, by the
+                                       Rust and by the library, and by the call
+  forces SEED COUNT [THREADS]          what the network can force, by judging each entry where its reason decides and, of short lists,
+                                       every order, by the Rust and by the library, and by the call
   file FILE                            the cases of a file, against the answers in it
   file-pairs FILE                      the same of a file in which maps are pairs, which are moved: those with a book against
                                        the plain book, which has to answer as the file says, and leave its books moved
@@ -45,6 +51,8 @@ const USAGE: &str = "compare COMMAND
   converts-file FILE                   the converted records of a file, against the records in it
   composes-file FILE                   the composed records of a file, against the records in it
   trails-file FILE                     the cases of a file that are judged with a trail, against the rows and answers in it
+  clears-file FILE                     the questions of a file on what would clear points, likewise, against the answers in it
+  forces-file FILE                     the lists of a file on what the network can force, likewise, against the answers in it
   joins FILE                           the joins of a file, by the host's crate, against the records in it
   tally PROGRAM SEED COUNT             feeds to the program tally, through the plain book and the program
   tally-file PROGRAM FILE              the standard inputs of a file, against the outputs in it, likewise
@@ -75,12 +83,16 @@ fn main() -> ExitCode {
         ["converts", ref words @ ..] => range(words).and_then(|range| converts::generated(&range)),
         ["composes", ref words @ ..] => range(words).and_then(|range| composes::generated(&range)),
         ["trails", ref words @ ..] => range(words).and_then(|range| trails::generated(&range)),
+        ["clears", ref words @ ..] => range(words).and_then(|range| clears::generated(&range)),
+        ["forces", ref words @ ..] => range(words).and_then(|range| forces::generated(&range)),
         ["file", path] => file::run(path, Age::Now),
         ["file-pairs", path] => file::run(path, Age::Pairs),
         ["file-prev", path] => file::run(path, Age::Prev),
         ["converts-file", path] => converts::file(path),
         ["composes-file", path] => composes::file(path),
         ["trails-file", path] => trails::file(path),
+        ["clears-file", path] => clears::file(path),
+        ["forces-file", path] => forces::file(path),
         ["joins", path] => joins::run(path),
         ["tally", program, ref words @ ..] => {
             range(words).and_then(|range| program::feeds(program, range.seed, range.count))

@@ -5,6 +5,7 @@ use std::fmt::Write;
 use book::Offer;
 use oracle::Answer;
 use oracle::file::Case;
+use oracle::question::Question;
 
 use crate::lent::{Expected, FILL, Lent};
 
@@ -53,6 +54,11 @@ pub fn hex_inputs(case: &Case) -> String {
     inputs(case).join("\n")
 }
 
+/// What a question hands over, in hex.
+pub fn question(question: &Question) -> String {
+    hex_inputs(&question.judging(question.list.clone()))
+}
+
 fn inputs(case: &Case) -> Vec<String> {
     let (Case::Verify { settings, schedule, record, peer_buffer }
     | Case::Judge { settings, schedule, record, peer_buffer, .. }) = case;
@@ -75,7 +81,7 @@ fn touched(peers: &[u8]) -> &[u8] {
     &peers[..end]
 }
 
-fn hex(bytes: &[u8]) -> String {
+pub fn hex(bytes: &[u8]) -> String {
     bytes.iter().fold(String::with_capacity(bytes.len() * 2), |mut out, byte| {
         let _ = write!(out, "{byte:02x}");
         out

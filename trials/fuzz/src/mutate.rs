@@ -10,6 +10,7 @@ use inputs::call::Call;
 use oracle::arrangement::Arrangement;
 use oracle::draft::Draft;
 use oracle::file::Case;
+use oracle::question::Question;
 
 /// No part grows longer, so that a call stays one of microseconds.
 const LONGEST: usize = 300_000;
@@ -108,12 +109,18 @@ fn change_numbers(random: &mut Random, call: &mut Call) {
         Call::Case(Case::Verify { peer_buffer, .. }) | Call::Trail { case: Case::Verify { peer_buffer, .. }, .. } => {
             *peer_buffer = buffer_length(random);
         }
-        Call::Trail { length, .. } if random.chance(1, 2) => *length = random.below(64),
+        Call::Trail { length, .. } | Call::Force { length, .. } if random.chance(1, 2) => *length = random.below(64),
         Call::Case(Case::Judge { leader, presence, peer_buffer, .. })
         | Call::Trail { case: Case::Judge { leader, presence, peer_buffer, .. }, .. } => match random.below(4) {
             0 => *peer_buffer = buffer_length(random),
             1 => *leader = flag(random),
             2 => *leader ^= 1,
+            _ => *presence = flag(random),
+        },
+        Call::Clearing(Question { leader, presence, .. })
+        | Call::Force { question: Question { leader, presence, .. }, .. } => match random.below(3) {
+            0 => *leader = flag(random),
+            1 => *leader ^= 1,
             _ => *presence = flag(random),
         },
         Call::Open { length, .. } => *length = random.below(200),
@@ -144,8 +151,9 @@ fn another_kind(random: &mut Random, call: Call) -> Call {
             }
         }
         Call::Case(case @ Case::Verify { .. }) => Call::Case(as_judge(case)),
-        Call::Case(case @ Case::Judge { .. }) if random.chance(1, 3) => Call::Trail { case, length: random.below(64) },
+        Call::Case(case @ Case::Judge { .. }) if random.chance(1, 2) => asking(random, case),
         Call::Trail { case, .. } => Call::Case(case),
+        Call::Clearing(question) | Call::Force { question, .. } => Call::Case(question.judging(question.list.clone())),
         Call::Case(case) if random.chance(1, 2) => Call::Case(as_verify(case)),
         Call::Case(Case::Judge { settings, schedule, record, leader, peer_buffer, .. }) => {
             let mut book = settings;
@@ -162,5 +170,15 @@ fn another_kind(random: &mut Random, call: Call) -> Call {
             let settings = book.unwrap_or_default().into_iter().take(book::SETTINGS).collect();
             Call::Case(Case::Judge { settings, schedule, record, leader, presence: 3, list: Vec::new(), peer_buffer })
         }
+    }
+}
+
+/// A judge case to one of the calls that are lent what judging is.
+fn asking(random: &mut Random, case: Case) -> Call {
+    let (which, length) = (random.below(3), random.below(64));
+    match Question::of(case.clone()) {
+        Some(question) if which == 0 => Call::Clearing(question),
+        Some(question) if which == 1 => Call::Force { question, length },
+        _ => Call::Trail { case, length },
     }
 }

@@ -27,6 +27,7 @@ pub fn generated(seed: u64, count: u64) -> Vec<Call> {
     all.extend((0..count / 10).flat_map(|place| calls(Source::Converted, seed, place)));
     all.extend((0..count / 2).flat_map(|place| calls(Source::Composed, seed, place)));
     all.extend((0..count / 2).flat_map(|place| calls(Source::Trailed, seed, place)));
+    all.extend((0..count / 4).flat_map(|place| calls(Source::Asked, seed, place)));
     all
 }
 

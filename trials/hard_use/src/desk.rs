@@ -61,7 +61,9 @@ impl Desk {
         }
         if let Some(length) = call.peer_buffer() {
             self.buffers[Lent::Peers as usize].lend_filled(length, side(Lent::Peers), fill);
-            self.buffers[Lent::Answer as usize].lend_filled(ANSWER, side(Lent::Answer), fill);
+        }
+        if let Some(length) = call.answer() {
+            self.buffers[Lent::Answer as usize].lend_filled(length, side(Lent::Answer), fill);
         }
         if let Some(length) = call.output() {
             self.buffers[Lent::Output as usize].lend_filled(length, side(Lent::Output), fill);
@@ -93,11 +95,11 @@ impl Desk {
         if number != expected.number {
             return Err(format!("the number is {number}, expected {}", expected.number));
         }
+        if call.answer().is_some() {
+            same("answer", self.buffer(Lent::Answer), expected.answer.as_deref().unwrap_or_default())?;
+        }
         if call.peer_buffer().is_some() {
-            let (peers, answer) = (self.buffer(Lent::Peers), self.buffer(Lent::Answer));
-            let unknown = expected.unknown.as_flattened();
-            same("answer", answer, expected.answer.as_ref().map_or(&[], |answer| &answer[..]))?;
-            same("peer buffer", peers, unknown)?;
+            same("peer buffer", self.buffer(Lent::Peers), expected.unknown.as_flattened())?;
         }
         if call.output().is_some() {
             let written = expected.written.as_deref().unwrap_or_default();

@@ -3,8 +3,11 @@
 use book::Offer;
 use inputs::call::Call;
 use oracle::arrangement::Arrangement;
+use oracle::clearing::CLEARING;
 use oracle::draft::{COMPOSE, Draft};
 use oracle::file::{Blobs, Case, JUDGE, VERIFY};
+use oracle::forcing::FORCE;
+use oracle::question::Question;
 use trail::TRAIL;
 
 const OPEN: u8 = 3;
@@ -38,6 +41,12 @@ pub fn write(call: &Call) -> Vec<u8> {
             let ((_, inputs), length) = (case.blobs(), number(*length as u32));
             let all = inputs.iter().map(Vec::as_slice).chain([&length[..]]);
             blobs(TRAIL, &all.collect::<Vec<_>>())
+        }
+        Call::Clearing(question) => blobs(CLEARING, &question.blobs().each_ref().map(Vec::as_slice)),
+        Call::Force { question, length } => {
+            let (inputs, length) = (question.blobs(), number(*length as u32));
+            let all = inputs.iter().map(Vec::as_slice).chain([&length[..]]);
+            blobs(FORCE, &all.collect::<Vec<_>>())
         }
     }
 }
@@ -88,6 +97,11 @@ pub fn read((kind, blobs): &Blobs<'_>) -> Option<Call> {
             record: record.to_vec(),
             length: number(length)? as usize,
         },
+        (CLEARING, blobs) => Call::Clearing(Question::of_blobs(*blobs.first_chunk()?)?),
+        (FORCE, blobs) => {
+            let (inputs, [length, ..]) = blobs.split_first_chunk()? else { return None };
+            Call::Force { question: Question::of_blobs(*inputs)?, length: number(length)? as usize }
+        }
         (COMPOSE, blobs) => {
             let (parts, [length, ..]) = blobs.split_first_chunk()? else { return None };
             Call::Compose { draft: Box::new(Draft::of_blobs(*parts)?), length: number(length)? as usize }

@@ -33,6 +33,9 @@ pub fn parts(call: &mut Call) -> Vec<&mut Vec<u8>> {
             Case::Verify { settings, schedule, record, .. } => vec![settings, schedule, record],
             Case::Judge { settings, schedule, record, list, .. } => vec![settings, schedule, record, list],
         },
+        Call::Clearing(question) | Call::Force { question, .. } => {
+            vec![&mut question.settings, &mut question.schedule, &mut question.record, &mut question.list]
+        }
         Call::Open { settings, .. } => vec![settings],
         Call::Convert { record, .. } => vec![record],
         Call::Compose { draft, .. } => vec![&mut draft.includes, &mut draft.witness, &mut draft.evidence],

@@ -2,10 +2,11 @@
 
 use book::{Book, Marks, Offer, spread};
 use inputs::call::Call;
-use oracle::Answer;
 use oracle::arrangement::converted;
 use oracle::file::Case;
+use oracle::question::Question;
 use oracle::value::Peer;
+use oracle::{Answer, clearing, forcing};
 use plain::{KNOWN_PANIC, Prepared};
 use trail::Trail;
 
@@ -22,7 +23,7 @@ pub struct Model {
 pub struct Expected {
     pub number: u8,
     /// None if it keeps its bytes.
-    pub answer: Option<[u8; 114]>,
+    pub answer: Option<Vec<u8>>,
     /// At the peer buffer's front.
     pub unknown: Vec<Peer>,
     /// None if the call is lent none, or one that is compared elsewhere.
@@ -42,7 +43,7 @@ impl Expected {
             Answer::Number(number) => Self { book, stood_in, ..Self::number(*number) },
             Answer::Verdict(verdict) => Self {
                 number: 0,
-                answer: Some(verdict.bytes()),
+                answer: Some(verdict.bytes().to_vec()),
                 unknown: verdict.unknown.clone(),
                 book,
                 written: None,
@@ -85,7 +86,19 @@ impl Model {
             Call::Convert { from, record, length } => Ok(Expected::written(converted(record, *from, *length))),
             Call::Compose { draft, length } => Ok(Expected::written(draft.composed(*length))),
             Call::Trail { case, length } => self.trail(case, *length),
+            Call::Clearing(question) => self.clearing(question),
+            Call::Force { question, length } => {
+                let found = forcing::found(question, |list| self.answer(&question.judging(list)).0)?;
+                Ok(Expected::written(forcing::rows_bytes(&found, *length)))
+            }
         }
+    }
+
+    fn clearing(&self, question: &Question) -> Result<Expected, String> {
+        Ok(match clearing::found(question, |list| self.answer(&question.judging(list)).0)? {
+            Ok(clearing) => Expected { answer: Some(clearing.bytes().to_vec()), ..Expected::number(0) },
+            Err(number) => Expected::number(number),
+        })
     }
 
     /// The rows of a trail stand in the output.
@@ -104,14 +117,18 @@ impl Model {
     }
 
     fn case(&self, case: &Case) -> Result<Expected, String> {
+        let (answer, stood_in) = self.answer(case);
+        Expected::new(&answer, None, stood_in)
+    }
+
+    /// The Rust's answer; where it panics, as is known, the plain judge's, and true.
+    fn answer(&self, case: &Case) -> (Answer, bool) {
         if self.judge_mistake.is_some() {
-            return Expected::new(&Prepared::new(case).answer(self.judge_mistake), None, false);
+            return (Prepared::new(case).answer(self.judge_mistake), false);
         }
         match case.answer() {
-            Answer::Panic(message) if message.starts_with(KNOWN_PANIC) => {
-                Expected::new(&Prepared::new(case).answer(None), None, true)
-            }
-            answer => Expected::new(&answer, None, false),
+            Answer::Panic(message) if message.starts_with(KNOWN_PANIC) => (Prepared::new(case).answer(None), true),
+            answer => (answer, false),
         }
     }
 

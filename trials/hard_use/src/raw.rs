@@ -5,9 +5,10 @@ use inputs::call::{Call, Lent};
 use oracle::arrangement::Arrangement;
 use oracle::draft::Draft;
 use oracle::file::Case;
+use oracle::question::Question;
 use wutherdish_sys::{
-    ANSWER, wutherdish_columns_to_pairs, wutherdish_judge, wutherdish_offer, wutherdish_open,
-    wutherdish_pairs_to_columns, wutherdish_trail, wutherdish_verify, wutherdish_write,
+    ANSWER, wutherdish_clearing, wutherdish_columns_to_pairs, wutherdish_force, wutherdish_judge, wutherdish_offer,
+    wutherdish_open, wutherdish_pairs_to_columns, wutherdish_trail, wutherdish_verify, wutherdish_write,
 };
 
 use crate::desk::Desk;
@@ -22,6 +23,8 @@ pub fn call(desk: &Desk, call: &Call) -> u8 {
         Call::Compose { draft, .. } => write(desk, draft),
         Call::Trail { case: Case::Judge { leader, presence, .. }, .. } => trail(desk, *leader, *presence),
         Call::Trail { case: Case::Verify { .. }, .. } => unreachable!("a case that is judged"),
+        Call::Clearing(Question { leader, presence, .. }) => clearing(desk, *leader, *presence),
+        Call::Force { question: Question { leader, presence, .. }, .. } => force(desk, *leader, *presence),
     }
 }
 
@@ -95,6 +98,46 @@ fn trail(desk: &Desk, leader: u8, presence: u8) -> u8 {
             len(desk, Lent::Output),
             at(desk, Lent::Count).cast(),
             answer(desk),
+        )
+    }
+}
+
+fn clearing(desk: &Desk, leader: u8, presence: u8) -> u8 {
+    // SAFETY: as said above.
+    unsafe {
+        wutherdish_clearing(
+            at(desk, Lent::Settings),
+            len(desk, Lent::Settings),
+            at(desk, Lent::Schedule),
+            len(desk, Lent::Schedule),
+            at(desk, Lent::Record),
+            len(desk, Lent::Record),
+            leader,
+            presence,
+            at(desk, Lent::List),
+            len(desk, Lent::List),
+            at(desk, Lent::Answer).cast(),
+        )
+    }
+}
+
+fn force(desk: &Desk, leader: u8, presence: u8) -> u8 {
+    // SAFETY: as said above; a count touches the start or the end of a page, so that it is aligned.
+    unsafe {
+        wutherdish_force(
+            at(desk, Lent::Settings),
+            len(desk, Lent::Settings),
+            at(desk, Lent::Schedule),
+            len(desk, Lent::Schedule),
+            at(desk, Lent::Record),
+            len(desk, Lent::Record),
+            leader,
+            presence,
+            at(desk, Lent::List),
+            len(desk, Lent::List),
+            at(desk, Lent::Output),
+            len(desk, Lent::Output),
+            at(desk, Lent::Count).cast(),
         )
     }
 }

@@ -94,7 +94,8 @@ fn judge_mistake(worker: &mut Worker, mistake: plain::Mistake) -> Result<(), Str
     let has_cases = |place: &u64| {
         let source = Source::of(SEED, *place);
         let offers = [Source::Feed, Source::Certificates, Source::DamagedBook, Source::SmallBook];
-        let others = [Source::Opening, Source::Converted, Source::Composed, Source::Trailed, Source::Dear];
+        let others =
+            [Source::Opening, Source::Converted, Source::Composed, Source::Trailed, Source::Asked, Source::Dear];
         !offers.contains(&source) && !others.contains(&source)
     };
     let noticed = (0..MISTAKE_PLACES).filter(has_cases).any(|place| worker.run(plan, place).is_err());

@@ -1,14 +1,14 @@
 //! Where the bytes of a place's calls come from.
 
-use cases::case;
 use cases::drafts::{Drafted, drafted};
-use cases::many;
 use cases::random::Random;
+use cases::{case, forcing, many, waiting};
 use compare::damage::{damaged, judge_damaged};
 use compare::kind::{as_judge, as_verify};
 use compare::permute::permuted;
 use inputs::call::Call;
 use inputs::dear::Shape;
+use oracle::question::Question;
 use plain::Prepared;
 use trail::rooms;
 
@@ -32,6 +32,7 @@ pub enum Source {
     Converted,
     Composed,
     Trailed,
+    Asked,
     Spliced,
     Wild,
     Dear,
@@ -39,7 +40,7 @@ pub enum Source {
 
 /// Sources with their parts of the places. A feed's place has 200 offers, one for certificates up to 1,400, a permuted one up to 96
 /// calls.
-const PARTS: [(Source, usize); 15] = [
+const PARTS: [(Source, usize); 16] = [
     (Source::Generated, 450),
     (Source::Damaged, 500),
     (Source::Permuted, 250),
@@ -52,6 +53,7 @@ const PARTS: [(Source, usize); 15] = [
     (Source::Converted, 100),
     (Source::Composed, 250),
     (Source::Trailed, 300),
+    (Source::Asked, 200),
     (Source::Spliced, 250),
     (Source::Wild, 150),
     (Source::Dear, 4),
@@ -83,6 +85,7 @@ impl Source {
             Self::Converted => "records converted",
             Self::Composed => "points in parts",
             Self::Trailed => "many reasons",
+            Self::Asked => "what clears and forces",
             Self::Spliced => "spliced cases",
             Self::Wild => "wild bytes",
             Self::Dear => "dear inputs",
@@ -105,6 +108,7 @@ pub fn calls(source: Source, seed: u64, place: u64) -> Vec<Call> {
         Source::Converted => return converted::conversions(&mut random, seed, place),
         Source::Composed => return vec![composed(seed, place)],
         Source::Trailed => return vec![trailed(&mut random, seed, place)],
+        Source::Asked => return asked(&mut random, seed, place),
         Source::Dear => return vec![dear(&mut random)],
         Source::Feed | Source::Certificates | Source::DamagedBook => unreachable!("their calls depend on one another"),
     };
@@ -122,6 +126,18 @@ fn trailed(random: &mut Random, seed: u64, place: u64) -> Call {
     let rooms = rooms(Prepared::new(&case).trail(None).1.len());
     let length = if random.chance(1, 8) { random.below(1_000) } else { random.pick(&rooms) };
     Call::Trail { case, length }
+}
+
+/// What would clear a point that mostly waits, and what the network can force where several entries mostly have reasons; or both of
+/// a damaged case. Few lists give more than four rows.
+fn asked(random: &mut Random, seed: u64, place: u64) -> Vec<Call> {
+    let question = |case| Question::of(case).expect("a case that is judged");
+    let [clearing, force] = match random.below(4) {
+        0 => [judge_damaged(seed, place), judge_damaged(seed, place)],
+        _ => [waiting(seed, place), forcing(seed, place)],
+    };
+    let length = random.pick(&[0, 7, 8, 9, 15, 16, 24, 29, 32, 1_000]);
+    vec![Call::Clearing(question(clearing)), Call::Force { question: question(force), length }]
 }
 
 /// A call of any shape; one in four is as long as may be.

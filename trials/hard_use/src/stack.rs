@@ -16,7 +16,7 @@ const PAGES: usize = 64;
 
 /// What include/wutherdish.h says that each call needs at most, by the place of its name.
 pub const SAID: [usize; Call::NAMES.len()] =
-    [4 << 10, 48 << 10, 1 << 10, 72 << 10, 4 << 10, 4 << 10, 4 << 10, 48 << 10];
+    [4 << 10, 48 << 10, 1 << 10, 72 << 10, 4 << 10, 4 << 10, 4 << 10, 48 << 10, 56 << 10, 56 << 10];
 
 /// Makes the calls of places, and fails where one needs more than is said. Gives the most that each kind of call needed.
 pub fn most(seed: u64, places: u64) -> Result<[usize; Call::NAMES.len()], String> {

@@ -2,9 +2,12 @@
 
 use book::Offer;
 use oracle::arrangement::Arrangement;
+use oracle::clearing;
 use oracle::draft::Draft;
 use oracle::file::Case;
+use oracle::question::Question;
 use oracle::row::Row;
+use wutherdish::lent::ANSWER;
 
 #[derive(Clone)]
 pub enum Call {
@@ -36,6 +39,14 @@ pub enum Call {
         /// To be judged.
         case: Case,
         /// Of the trail, in bytes.
+        length: usize,
+    },
+    /// What would clear a point.
+    Clearing(Question),
+    /// What the network can force.
+    Force {
+        question: Question,
+        /// Of the output, in bytes.
         length: usize,
     },
 }
@@ -86,8 +97,18 @@ impl Lent {
 }
 
 impl Call {
-    pub const NAMES: [&str; 8] =
-        ["verify", "judge", "open", "offer", "pairs to columns", "columns to pairs", "write", "trail"];
+    pub const NAMES: [&str; 10] = [
+        "verify",
+        "judge",
+        "open",
+        "offer",
+        "pairs to columns",
+        "columns to pairs",
+        "write",
+        "trail",
+        "clearing",
+        "force",
+    ];
 
     /// The place of its name.
     pub fn kind(&self) -> usize {
@@ -100,6 +121,8 @@ impl Call {
             Self::Convert { from: Arrangement::Columns, .. } => 5,
             Self::Compose { .. } => 6,
             Self::Trail { .. } => 7,
+            Self::Clearing(_) => 8,
+            Self::Force { .. } => 9,
         }
     }
 
@@ -111,7 +134,9 @@ impl Call {
                 vec![(Lent::Settings, settings), (Lent::Schedule, schedule), (Lent::Record, record)]
             }
             Self::Case(Case::Judge { settings, schedule, record, list, .. })
-            | Self::Trail { case: Case::Judge { settings, schedule, record, list, .. }, .. } => {
+            | Self::Trail { case: Case::Judge { settings, schedule, record, list, .. }, .. }
+            | Self::Clearing(Question { settings, schedule, record, list, .. })
+            | Self::Force { question: Question { settings, schedule, record, list, .. }, .. } => {
                 let inputs: [&[u8]; 4] = [settings, schedule, record, list];
                 Lent::ALL.into_iter().zip(inputs).collect()
             }
@@ -136,29 +161,41 @@ impl Call {
                 let (Case::Verify { peer_buffer, .. } | Case::Judge { peer_buffer, .. }) = case;
                 Some(*peer_buffer as usize)
             }
-            Self::Open { .. } | Self::Convert { .. } | Self::Compose { .. } => None,
             Self::Offer { offer, .. } => Some(offer.peer_buffer as usize),
+            _ => None,
+        }
+    }
+
+    /// The length of the answer, where there is one.
+    pub fn answer(&self) -> Option<usize> {
+        match self {
+            Self::Clearing(_) => Some(clearing::BYTES),
+            _ => self.peer_buffer().map(|_| ANSWER),
         }
     }
 
     /// The length of the output, where there is one, with a count beside it.
     pub fn output(&self) -> Option<usize> {
         match self {
-            Self::Convert { length, .. } | Self::Compose { length, .. } | Self::Trail { length, .. } => Some(*length),
+            Self::Convert { length, .. }
+            | Self::Compose { length, .. }
+            | Self::Trail { length, .. }
+            | Self::Force { length, .. } => Some(*length),
             _ => None,
         }
     }
 
     /// How many bytes of the output the count counts as one.
     pub fn unit(&self) -> usize {
-        if matches!(self, Self::Trail { .. }) { size_of::<Row>() } else { 1 }
+        if matches!(self, Self::Trail { .. } | Self::Force { .. }) { size_of::<Row>() } else { 1 }
     }
 
     /// What it is lent.
     pub fn lends(&self, lent: Lent) -> bool {
         match lent {
             Lent::Book => matches!(self, Self::Open { .. } | Self::Offer { .. }),
-            Lent::Peers | Lent::Answer => self.peer_buffer().is_some(),
+            Lent::Peers => self.peer_buffer().is_some(),
+            Lent::Answer => self.answer().is_some(),
             Lent::Output | Lent::Count => self.output().is_some(),
             _ => self.inputs().iter().any(|(other, _)| *other == lent),
         }

@@ -2,6 +2,7 @@
 
 mod compose;
 mod convert;
+mod force;
 mod judge;
 mod offer;
 mod spread;
@@ -45,6 +46,11 @@ impl Shape {
         let judging = [&verify::SHAPES[..], &judge::SHAPES, &trail::SHAPES].concat();
         let offering = [&offer::SHAPES[..], &spread::SHAPES].concat();
         [judging, offering, convert::SHAPES.to_vec(), compose::SHAPES.to_vec()].concat()
+    }
+
+    /// Lists to judge by, and such with reasons of more than one number, which the network can choose from.
+    pub fn lists() -> Vec<Self> {
+        [&judge::SHAPES[..], &force::SHAPES].concat()
     }
 
     /// The call of this shape with a count of entries, or of peers where it has full maps; at most `most`.

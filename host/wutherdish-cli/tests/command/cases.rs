@@ -64,8 +64,8 @@ fn what_stands_before_a_bad_case_is_explained() {
         assert_eq!((ran.code, ran.err), (Some(1), message));
         assert!(ran.out.ends_with("\n\ncases: 1\nverdicts: 1 invalid\n"), "{}", ran.out);
     };
-    let no_case = "a case: 1 for verifying, 2 for judging, 18 for judging with a trail, 20 for what clears a point, 16 for writing \
-                   or 17 for converting, and its blobs";
+    let no_case = "a case: 1 for verifying, 2 for judging, 18 for judging with a trail, 19 for what the network can force, \
+                   20 for what clears a point, 16 for writing or 17 for converting, and its blobs";
     bad(&[3, 0], 0, no_case);
     bad(&[2], 0, no_case);
     bad(&[1, 1, 0, 0, 0, 0], 0, no_case);

@@ -6,6 +6,7 @@ mod compose;
 mod convert;
 mod explain;
 mod files;
+mod force;
 mod names;
 mod network;
 mod record;

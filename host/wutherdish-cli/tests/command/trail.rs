@@ -111,11 +111,14 @@ fn a_case_with_a_trail_says_its_faults() {
 }
 
 #[test]
-fn feeds_records_and_books_have_no_trail() {
+fn feeds_and_records_have_no_list() {
     for input in [drill("demo"), drill("valid")[94..].to_vec()] {
-        let ran = fed(&["explain", "--trail", "-"], &input);
-        assert_eq!((ran.code, &ran.out[..]), (Some(2), ""));
-        let wanted = "wutherdish: standard input is no file of cases, and --trail is for cases of judging\n";
-        assert!(ran.err.starts_with(wanted), "{}", ran.err);
+        for option in ["--trail", "--force"] {
+            let ran = fed(&["explain", option, "-"], &input);
+            assert_eq!((ran.code, &ran.out[..]), (Some(2), ""));
+            let wanted =
+                format!("wutherdish: standard input is no file of cases, and {option} is for cases of judging\n");
+            assert!(ran.err.starts_with(&wanted), "{}", ran.err);
+        }
     }
 }

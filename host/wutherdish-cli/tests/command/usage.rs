@@ -93,6 +93,7 @@ fn help_and_version() {
     }
     for option in [
         "--trail",
+        "--force",
         "--room",
         "--book",
         "--full-ids",
@@ -106,7 +107,7 @@ fn help_and_version() {
     ] {
         assert!(help.contains(&format!("\n  {option} ")), "{option}");
     }
-    assert!(help.lines().all(|line| line.chars().count() <= 105), "{help}");
+    assert!(help.lines().all(|line| line.chars().count() <= 110), "{help}");
     for arguments in [&["--help"][..], &["-h"]] {
         assert_eq!(done(arguments, &[]), help);
     }
@@ -116,9 +117,10 @@ fn help_and_version() {
 
 #[test]
 fn help_for_one_command() {
-    let options = ["--last", "--trail", "--room", "--book", "--full-ids", "--progress", "--append", "--leader", "-o"];
+    let options =
+        ["--last", "--trail", "--force", "--room", "--book", "--full-ids", "--progress", "--append", "--leader", "-o"];
     let commands = [
-        ("explain", &["--last", "--trail", "--room", "--book", "--full-ids", "--progress"][..]),
+        ("explain", &["--last", "--trail", "--force", "--room", "--book", "--full-ids", "--progress"][..]),
         ("show", &["--room", "--progress", "-o"]),
         ("tally", &["--progress"]),
         ("compose", &["--append", "--leader", "-o"]),
@@ -160,7 +162,7 @@ fn assert_bad(arguments: &[&str], input: &[u8], wanted: &str) {
 
 #[test]
 fn bad_input_is_1() {
-    let neither = "standard input: byte 0: expected a feed or a book (tag 32), a point record (tag 1), or a case (1, 2, 16 to 18 or 20)";
+    let neither = "standard input: byte 0: expected a feed or a book (tag 32), a point record (tag 1), or a case (1, 2 or 16 to 20)";
     for command in ["explain", "show"] {
         assert_bad(&[command, "-"], &[], neither);
         assert_bad(&[command, "-"], b"text", neither);

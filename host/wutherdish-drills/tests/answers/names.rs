@@ -7,7 +7,7 @@ use wutherdish_drills::{Answer, Input, all, named};
 
 use crate::run::{Feed, STORIES};
 
-const LISTS: [&str; 14] = [
+const LISTS: [&str; 15] = [
     "list-with-version",
     "list-without-version",
     "list-with-target",
@@ -22,6 +22,7 @@ const LISTS: [&str; 14] = [
     "waits-for-one",
     "waits-for-one-certified",
     "waits-for-two",
+    "forced-reason",
 ];
 
 const STRUCTURE: [&str; 7] = [
@@ -39,7 +40,7 @@ fn expected() -> BTreeSet<String> {
     let ill_formed = (3..=16).filter(|number| *number != 7).map(|number| format!("ill-formed-{number:02}"));
     let structure = STRUCTURE.iter().map(|issue| format!("ill-formed-07-{issue}"));
     let invalid = (2..=19).map(|number| format!("invalid-{number:02}"));
-    let numbers = (1..=15).filter(|number| *number != 10).map(|number| format!("number-{number:02}"));
+    let numbers = (1..=17).filter(|number| ![10, 16].contains(number)).map(|number| format!("number-{number:02}"));
     let verdicts = ["valid", "trans-invalid", "fail"];
     let others = verdicts.iter().chain(&STORIES).chain(&LISTS).map(|name| name.to_string());
     ill_formed.chain(structure).chain(invalid).chain(numbers).chain(others).collect()
@@ -99,6 +100,7 @@ fn only_what_no_feed_can_give_is_a_case() {
         "number-13",
         "number-14",
         "number-15",
+        "number-17",
     ];
     assert_eq!(cases, [&answers[..], &LISTS].concat());
 }

@@ -101,13 +101,16 @@ pub fn answer(given: &Result<Verdict, Refusal>) -> Answer {
     }
 }
 
-/// What the call of a case gives. No drill is there for a record that is written or converted.
+/// What the call of a case gives. No drill is there for a record that is written or converted, or for rows.
 pub fn case_answer(bytes: &[u8]) -> Answer {
-    let blobs = blobs(bytes);
+    let (kind, blobs) = (bytes[0], blobs(bytes));
     let length = |bytes: &[u8]| u32::from_le_bytes(bytes.try_into().expect("four bytes")) as usize;
     let mut room = vec![0xa5; length(blobs[blobs.len() - 1])];
     let mut bytes = [0; ANSWER];
     let number = match *blobs {
+        [settings, schedule, record, &[leader, presence], list, _] if kind == 19 => {
+            lent::force(settings, schedule, record, leader, presence, list, &mut room, &mut 0)
+        }
         [settings, schedule, record, _] => lent::verify(settings, schedule, record, &mut room, &mut bytes),
         [settings, schedule, record, &[leader, presence], list, _] => {
             lent::judge(settings, schedule, record, leader, presence, list, &mut room, &mut bytes)
@@ -164,7 +167,7 @@ pub fn blobs(bytes: &[u8]) -> Vec<&[u8]> {
     }
     assert!(rest.is_empty());
     assert_eq!(blobs.len(), usize::from(head[1]));
-    let counts = [(1, 4), (2, 6), (16, 10), (17, 3), (18, 7)];
+    let counts = [(1, 4), (2, 6), (16, 10), (17, 3), (18, 7), (19, 6)];
     assert!(counts.iter().any(|(kind, count)| head[0] == *kind && blobs.len() == *count), "{head:?}");
     blobs
 }

@@ -1,4 +1,4 @@
-//! What a trail says of each reason.
+//! What is said of each reason beside a verdict.
 
 use std::fmt::{self, Display, Formatter};
 

@@ -4,7 +4,7 @@ use wutherdish::lent::PEER_BUFFER;
 use wutherdish::{Dependency, List, Point, PointId, Schedule, State};
 
 use crate::lists::valid;
-use crate::network::{FOUNDER, GENESIS, PEERS, first, record, schedule, settings};
+use crate::network::{FOUNDER, GENESIS, PEERS, first, genesis, record, schedule, second, settings};
 
 /// What is lent.
 #[derive(Clone)]
@@ -55,6 +55,14 @@ pub fn dropped() -> Dependency {
 
 pub fn list<const N: usize>(direct: [Dependency; N]) -> List {
     List { direct: direct.to_vec(), indirect: vec![] }
+}
+
+/// The previous point has the point's time, the next dependency is too late, and the last one was not found.
+pub fn three_faults() -> Case {
+    let [a, b, c] = [first(0), first(1), first(3)];
+    let point = second(&[&a, &b, &c]);
+    let (a, b) = (Point { time: point.time, ..a }, Point { time: point.time + 501, ..b });
+    Case::new(&point, list([valid(&genesis()), valid(&a).certified(), valid(&b), lost(c.id)]))
 }
 
 /// What is wrong with a case.

@@ -5,6 +5,7 @@ mod case;
 mod clearing;
 mod convert;
 mod damage;
+mod force;
 mod halves;
 mod inverse;
 mod lists;

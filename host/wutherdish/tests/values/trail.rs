@@ -7,7 +7,7 @@ use wutherdish::{
     Refusal, Schedule, SetBy, State, Through, Verdict, judge, judge_with_trail,
 };
 
-use crate::case::{Case, assert_each_before_the_next, dropped, list, lost, numbers};
+use crate::case::{Case, assert_each_before_the_next, dropped, list, lost, numbers, three_faults};
 use crate::lists::{any_list, valid};
 use crate::network::{FOUNDER, GENESIS, PEERS, first, genesis, record, second};
 use crate::parts::FILL;
@@ -71,14 +71,6 @@ impl Case {
         let Self { settings, schedule, record, leader, presence, .. } = self;
         judge_with_trail(settings, schedule, record, *leader, *presence, &self.list()).expect("a verdict")
     }
-}
-
-/// The previous point has the point's time, the next dependency is too late, and the last one was not found.
-fn three_faults() -> Case {
-    let [a, b, c] = [first(0), first(1), first(3)];
-    let point = second(&[&a, &b, &c]);
-    let (a, b) = (Point { time: point.time, ..a }, Point { time: point.time + 501, ..b });
-    Case::new(&point, list([valid(&genesis()), valid(&a).certified(), valid(&b), lost(c.id)]))
 }
 
 const THREE: [[u8; 8]; 3] = [[1, 1, 0, 6, 255, 0, 0, 0], [1, 2, 0, 11, 255, 0, 0, 0], [1, 3, 0, 19, 255, 0, 0, 0]];

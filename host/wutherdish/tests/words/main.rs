@@ -221,10 +221,10 @@ fn refusals_and_errors() {
     for number in 0..=255 {
         let refusal = Refusal::new(number);
         assert_eq!(refusal.number(), number);
-        assert_eq!(refusal == Refusal::Foreign(number), !(1..=15).contains(&number));
+        assert_eq!(refusal == Refusal::Foreign(number), !matches!(number, 1..=15 | 17));
         assert_error(&refusal, &[]);
     }
-    all_different((1..=16).map(|number| Refusal::new(number).to_string()));
+    all_different((1..=18).map(|number| Refusal::new(number).to_string()));
     assert_error(&Unreadable { at: 4_711, wanted: "something" }, &["byte 4711", "something"]);
     let errors = [
         (BuildError::Map { map: Witness, len: 256 }, vec!["witness", "256"]),

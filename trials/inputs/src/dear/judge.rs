@@ -11,7 +11,7 @@ use crate::call::Call;
 use crate::points::{Bytes, ROUND, judged, list_of, set, with_records};
 
 /// Entries beside the point's own, which are at most nine, so that no list is too long.
-const LONGEST: usize = 65_535 - 9;
+pub(super) const LONGEST: usize = 65_535 - 9;
 /// Peers of the typical lists.
 const PEERS: usize = 100;
 
@@ -87,7 +87,7 @@ fn others(random: &mut Random, count: usize, state: fn(Id) -> State) -> Made {
     made(random, &of, entries)
 }
 
-fn entry(state: State) -> Entry {
+pub(super) fn entry(state: State) -> Entry {
     Entry { indirect: None, certified: false, first_valid: false, state }
 }
 
@@ -98,7 +98,7 @@ fn fronts_alike(random: &mut Random) -> Digest {
 }
 
 /// These entries, then the point's own.
-fn made(random: &mut Random, (set, point): &Of, mut entries: Vec<Entry>) -> Made {
+pub(super) fn made(random: &mut Random, (set, point): &Of, mut entries: Vec<Entry>) -> Made {
     entries.extend(list_of(random, set, point));
     let Bytes { settings, schedule, .. } = with_records(random, set.clone(), Vec::new());
     let (record, list) = (write::record(point), write::list(&entries));
