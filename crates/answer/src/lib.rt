@@ -1,10 +1,9 @@
 // Document 01's number and values of a verdict, and their 114 bytes.
 #![tactic(auto)]
 
-ghost use Rattle.std.specs.Prelude.{◌≡◌, ◌+◌, ◌≤◌, length};
+ghost use Rattle.std.specs.Prelude.{◌≡◌, ◌≤◌, length};
 ghost use Rattle.parts.specs.Bytes.{put_at};
 ghost use Rattle.point.specs.Code.{point_id_of};
-ghost use Rattle.point.specs.Written.{id_bytes};
 ghost use Rattle.reasons.specs.Answer.{map_number, role_number};
 ghost use Rattle.reasons.specs.Code.{reason_of, dependency_of, verdict_of};
 ghost use Rattle.reasons.specs.IllFormed.{issue_answer, ill_formed_answer, error_answer};
@@ -295,16 +294,6 @@ impl From<Verdict> for Answer {
     }
 }
 
-// Writes the 68 bytes of a point's id at a place.
-pub fn put_point_id(out: &mut [u8], at: usize, id: PointId)
-    requires { at + 68 ≤ length out.old }
-    ensures { out.new ≡ put_at out.old at (id_bytes (point_id_of id)) }
-{
-    write::put_u32(out, at, id.round);
-    write::put_id(out, at + 4, id.digest);
-    write::put_id(out, at + 36, id.author);
-}
-
 // Each writes into put_answer's slice, of 114 bytes or more: with an array of 114, cut out of it once, the proof of put_answer didn't
 // close, since what is written has to be joined with the rest of the slice.
 fn put_head(out: &mut [u8], a: Answer)
@@ -313,7 +302,7 @@ fn put_head(out: &mut [u8], a: Answer)
 {
     out[0] = a.kind;
     out[1] = a.reason;
-    put_point_id(out, 2, a.id);
+    point::put_point_id(out, 2, a.id);
 }
 
 fn put_numbers(out: &mut [u8], a: Answer)

@@ -1,30 +1,19 @@
-// An uncertified entry written into a lent slice.
+// An uncertified entry written into a lent slice. Each function writes at a place of the book, as write's do, so each asks for its room there.
 ghost use Rattle.std.specs.Prelude.{◌≡◌, false, ◌∷◌, ◌+◌, ◌≤◌, length, replicate};
 ghost use Rattle.parts.specs.Bytes.{put_at};
 ghost use Rattle.parts.specs.Limits.{tag33_length};
 ghost use Rattle.point.specs.Point as point;
-ghost use Rattle.point.specs.Code.{point_id_of, through_of};
+ghost use Rattle.point.specs.Code.{through_of};
 ghost use Rattle.reasons.specs.Code.{dependency_of};
 ghost use Rattle.books.specs.Kept.{TransInvalid};
 ghost use Rattle.books.specs.Offer.{kept_as};
-ghost use Rattle.point.specs.Written.{id_bytes, through_bytes};
+ghost use Rattle.point.specs.Written.{through_bytes};
 ghost use Rattle.books.specs.Layout.{status_bytes, kept_bytes};
 ghost use Rattle.book_layout.specs.Code.{status_of};
 
 use crate::status::Status;
-use point::{PointId, Through};
+use point::Through;
 use reasons::InvalidDependency;
-
-// Each writes at a place of the book, as write's functions do, so each asks for its room there.
-#[tactic(auto, using(crate::proofs::Laws::put_right, point::proofs::PartsWritten::id_length))]
-fn put_point_id(out: &mut [u8], at: usize, id: PointId)
-    requires { at + 68 ≤ length out.old }
-    ensures { out.new ≡ put_at out.old at (id_bytes (point_id_of id)) }
-{
-    write::put_u32(out, at, id.round);
-    write::put_id(out, at + 4, id.digest);
-    write::put_id(out, at + 36, id.author);
-}
 
 // A root's reason, and the map and the peer that it came through. The map's byte is tag 33's, not PointMap's number.
 #[tactic(auto, using(write::proofs::Laws::put_put))]
@@ -46,7 +35,7 @@ fn put_root(out: &mut [u8], at: usize, d: InvalidDependency)
     ensures { out.new ≡ put_at out.old at (status_bytes (TransInvalid (dependency_of d)) false) }
 {
     write::put_slice(out, at, &[1, 0, 0]);
-    put_point_id(out, at + 3, d.to);
+    point::put_point_id(out, at + 3, d.to);
     put_through(out, at + 71, d.reason, d.through);
 }
 

@@ -1,6 +1,6 @@
 -- Laws of the search: what an entry brings to the record, and what is found of the entries that are left.
 use Rattle.std.specs.Prelude.{Option, None, Some, is_some, Result, Err, Ok}
-use Prim.Native.Nat.{ℕ, zero, suc, ◌+◌, ◌-◌, ◌≤◌, ◌<◌}
+use Prim.Native.Nat.{ℕ, zero, suc, ◌+◌, ◌-◌, ◌≤◌}
 use native.Mathlib.Omega.{arith}
 use borrow.Author.Tests.{le-leb}
 use lib.Dec.{leb, eqb}
@@ -10,7 +10,6 @@ use mathlib.Core.List.{List, [], ◌∷◌}
 use lib.ListN.{length, drop}
 use Rattle.base.specs.Base.{pick}
 use Rattle.base.proofs.Impossible.{impossible}
-use Rattle.base.proofs.Option.{some-injective}
 use Rattle.point.specs.Point.{PointId, PointInfo, Through, Includes, same_id}
 use Rattle.point.specs.declared.data.AnchorStageRole.{AnchorStageRole}
 use Rattle.point.proofs.Ids.{same_eq}
@@ -25,12 +24,12 @@ use Rattle.reasons.specs.declared.ill_formed.WaveChecked.TheVariants as case-wav
 use Rattle.rules.specs.DagPoint as dag
 use Rattle.rules.specs.DagPoint.{DagPoint, Entry, PointView, entry_id, point_view}
 use Rattle.rules.specs.Validate.{Taken, as_dependency, as_prev_point, as_version, aside, taken, record_of, findings_as, entry_findings, dependency, indirect_findings, validate}
-use Rattle.rules.specs.List.{Listed, read_entry, read_list}
+use Rattle.rules.specs.List.{Listed, read_list}
 use Rattle.rules.specs.Judge.{Input, Tested, refused, admitted, JudgeAnswer, Number, Given, Before, answered, needed, before_with, before, over_list, judge_from, judge_with_in}
 use Rattle.rules.specs.Clearing as definition
 use Rattle.rules.specs.Clearing.{Clearing, NotWaiting, NoSingleMark, ClearedBy, brought, recording, recording_over, recording_from, recording_with, all_same, by_one, cleared_of, clearing_with}
 use Rattle.judge_mismatch.specs.Code.{listed}
-use Rattle.judge_mismatch.proofs.Heads.{Next, next_of, listed-is, listed-end}
+use Rattle.judge_mismatch.proofs.Heads.{Next, listed-is, listed-end}
 use Rattle.clearing.specs.Code.{clearing_from, is_trans_invalid, is_dependency, is_other, by_one_after}
 
 -- ---- what an entry brings
@@ -109,13 +108,6 @@ after-same (Some j) i l h = go (same_id i j) refl h
     go : (b : Bool) → same_id i j ≡ b → not b ≡ false → by_one_after (Some i) l ≡ pick (b && all_same j l) (ClearedBy j) NoSingleMark
     go true e g = rw (same_eq i j e) refl
     go false e g = impossible (cc)
-
--- the first of a list that reads
-pub next-is : (s : List ℕ) (x : Listed) → is_some (read_list s) ≡ true → 0 < length s → read_entry s ≡ Some x → Next s x
-next-is s x r g e =
-    let n = next_of s r g in
-    let same : n.0 ≡ x = some-injective _ _ (sym n.1.entry ∙ e) in
-    rw (← same) n.1
 
 module _ (c : Settings) (required : Bool) (p : PointInfo) where
   abbrev pub found : Option PointId → List ℕ → Clearing

@@ -20,7 +20,7 @@ pub fn put_clearing(out: &mut [u8], x: Clearing)
         }
         Clearing::ClearedBy(id) => {
             write::put_slice(out, 0, &[2]);
-            answer::put_point_id(out, 1, id);
+            point::put_point_id(out, 1, id);
         }
     }
 }

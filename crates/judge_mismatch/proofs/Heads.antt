@@ -1,5 +1,6 @@
 -- Laws of an entry at the front of a list that reads: where its parts stand, and what is left it.
-use Rattle.std.specs.Prelude.{Option, None, Some, is_some}
+use Rattle.std.specs.Prelude.{Option, None, Some, is_some, ◌⊎◌}
+use Rattle.std.proofs.Common.{inl, inr}
 use Prim.Native.Nat.{ℕ, zero, suc, ◌+◌, ◌-◌, ◌≤◌, ◌<◌}
 use native.Mathlib.Omega.{arith}
 use mathlib.Core.Path.{◌≡◌, refl, ap, sym, ◌∙◌}
@@ -11,7 +12,7 @@ use lib.Dec.{leb, eqb}
 use borrow.Author.Tests.{eq-eqb, ne_eqb}
 use Rattle.base.specs.Base.{pick, and_then}
 use Rattle.base.proofs.Bool.{and_left}
-use Rattle.base.proofs.Option.{picked, some_of, none-some, some-none, map-eq-some_iff}
+use Rattle.base.proofs.Option.{picked, some_of, none-some, some-none, some-injective, map-eq-some_iff}
 use Rattle.base.proofs.Lists.{rest}
 use Rattle.base.proofs.Impossible.{impossible}
 use Rattle.record.specs.Record.{field_row, field_ok, rows, row_of, next_at, content_at, start_of, content_of, record_end}
@@ -23,7 +24,9 @@ use Rattle.point.proofs.Ids.{id-front, id_shift}
 use Rattle.point.proofs.Laws.{parts-of}
 use Rattle.rules.specs.DagPoint.{DagPoint, Valid, TransInvalid, Invalid, IllFormed, NotFound, Dropped, entry_id, is_dropped}
 use Rattle.rules.specs.List.{RecordFront, Stated, Listed, record_front, record_at, id_at17, is_root, read_state, read_state_in, entry_at, entry_at_in, role_of, read_entry, read_entry_in, list_from, list_from_in, read_list, read_list_in, directs, indirects}
+use Rattle.map.specs.declared.Arrangement.TheVariants.{Columns}
 use Rattle.reasons.specs.Invalid.{dag_round}
+use Rattle.rules.proofs.Pieces.{StepIn, list_zero_in, list_suc_in}
 use Rattle.judge_entries.proofs.Order.{list_then, Parted, parted, in_order_lem, after-target}
 use Rattle.judge_entries.proofs.Laws.{listed_as, fronted}
 use Rattle.judge_mismatch.specs.Code.{Head, head_of, id_of, head_from, flags_at, aim_at, id_place, id_after, placed_at, end_in, entry_end, listed}
@@ -388,6 +391,29 @@ pub listed-end : (s : List ℕ) → length s ≡ 0 → listed s ≡ []
 listed-end s h =
     let more = and_then (read_entry s) (list_then (list_from 65534) false s) in
     listed-is s [] (read-list s ∙ (list_suc 65534 false s ∙ ap (λ (b : Bool). pick b (Some []) more) (eq-eqb (length s) 0 h)))
+
+-- the first of a list that reads and isn't empty
+pub next-is : (s : List ℕ) (x : Listed) → is_some (read_list s) ≡ true → 0 < length s → read_entry s ≡ Some x → Next s x
+next-is s x r g e =
+    let n = next_of s r g in
+    let same : n.0 ≡ x = some-injective _ _ (sym n.1.entry ∙ e) in
+    rw (← same) n.1
+
+-- how many entries there are
+few-from : (n : ℕ) (b : Bool) (s : List ℕ) (l : List Listed) → list_from n b s ≡ Some l → length l ≤ n
+few-from zero b s l h = rw (← (list_zero_in Columns b s l h).1) (omega arith)
+few-from (suc n) b s l h = go (list_suc_in Columns n b s l h) (few-from n)
+  where
+    go : ((length s ≡ 0) × ([] ≡ l)) ⊎ StepIn Columns n b s l →
+        ((b : Bool) (s : List ℕ) (l : List Listed) → list_from n b s ≡ Some l → length l ≤ n) → length l ≤ suc n
+    go (inl e) f = rw (← e.1) (omega arith)
+    go (inr u) f = let m = f (is_some u.first.aim) (drop u.first.size s) u.rest u.more in rw (← u.is) (omega arith)
+
+pub few-listed : (s : List ℕ) → is_some (read_list s) ≡ true → length (listed s) ≤ 65535
+unfolding read_list_in
+few-listed s r =
+    let l = some_of (read_list s) r in
+    rw (listed-is s l.0 l.1) (few-from 65535 false s l.0 l.1)
 
 -- ---- an entry of the code at the front of a list that reads
 

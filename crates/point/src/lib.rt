@@ -6,6 +6,7 @@ mod data;
 mod front;
 mod info;
 mod link;
+mod put;
 mod read;
 
 pub use data::{AnchorStageRole, PointMap, PointRole, StickyAnchors};
@@ -14,4 +15,5 @@ pub use info::{
     AnchorView, INCLUDES, NO_POINT, Point, PointId, PointInfo, are_in_domain, is_same_id, pair_id,
 };
 pub use link::{AnchorLink, IndirectLink, Through};
+pub use put::put_point_id;
 pub use read::{known_point, point_id_at, read_point, read_shaped, through_at};

@@ -2,12 +2,12 @@
 use Rattle.std.proofs.lemmas.Grind.{common_steps}
 use native.Mathlib.Omega.{arith}
 use mathlib.Core.Path.{◌≡◌, refl, ap, sym, ◌∙◌}
-use Rattle.std.specs.Prelude.{Ok, Some}
+use Rattle.std.specs.Prelude.{Ok}
 use lib.ListN.{length}
 use Rattle.reasons.specs.declared.refusal.Refusal.TheVariants.{Short}
 use Rattle.rules.specs.Judge.{admitted, tested, flags_ok}
 use Rattle.judge.specs.Code.{before_of}
-use Rattle.judge.specs.Input.{input_of, tested_of}
+use Rattle.judge.specs.Input.{input_of}
 use Rattle.judge.proofs.Laws.{tested-short, tested-admitted, answer-number, answer-taken}
 use Rattle.judge.proofs.judge.Goals as goal
 use Rattle.judge.proofs.judge.Goals.{Else-peers-lt-PEERS_ROOM}

@@ -11,9 +11,9 @@ use Rattle.point.specs.Point.{PointId}
 use Rattle.point.specs.Code.{point_id_of}
 use Rattle.schedule.specs.Code.{settings_of}
 use Rattle.judge_entries.specs.Entry.{listed_of}
-use Rattle.judge_mismatch.proofs.Heads.{Next, next_of}
+use Rattle.judge_mismatch.proofs.Heads.{Next, next_of, next-is}
 use Rattle.clearing.specs.Code.{is_other}
-use Rattle.clearing.proofs.Laws.{next-is, found, found-none, found-past, found-other, found-same, keeps_left}
+use Rattle.clearing.proofs.Laws.{found, found-none, found-past, found-other, found-same, keeps_left}
 use Rattle.clearing.proofs.search.search.Goals as goal
 use Rattle.clearing.proofs.search.search.Goals.{After-known_entry-x}
 

@@ -6,7 +6,7 @@ use Rattle.write.proofs.Laws.{bytes-length, put_three}
 use mathlib.Core.List.{append_assoc}
 use Prim.Native.Nat.{◌+◌}
 use Rattle.point.specs.Code.{point_id_of}
-use Rattle.answer.proofs.put_point_id.Goals as goal
+use Rattle.point.proofs.put.put_point_id.Goals as goal
 
 pub returns : goal.returns
 unfolding little_bytes
