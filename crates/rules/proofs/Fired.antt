@@ -53,6 +53,7 @@ use Rattle.rules.proofs.EntryReasons.{OfEntry, direct-of_entries, indirect-of_en
 use Rattle.rules.proofs.Rows.{no_rows, list-reasons, rows_length}
 use Rattle.rules.proofs.RowsNext.{direct_next, direct_drops, direct-adds_none, indirect_next_lem}
 use Rattle.rules.proofs.RowsWithin.{Within, with_within}
+use Rattle.rules.proofs.TrailRoom.{trail_room}
 
 -- ---- the verdict and the rows
 
@@ -353,6 +354,7 @@ fired =
       either = list-either;
       short = λ x size v h k. ap (λ (a : JudgeAnswer). fitted a (trail_of x) size) h ∙ too_short v (trail_of x) size k;
       fits = λ x size v h k. ap (λ (a : JudgeAnswer). fitted a (trail_of x) size) h ∙ space_enough v (trail_of x) size k;
+      room = λ x. trail_room x.leader x.presence x.list (tested_of x);
       number = λ x size n h. rw h refl;
       buffer = λ x size n peers. with-buffer x.leader x.presence x.list (tested_of x) size n peers;
       written = told-written;

@@ -47,6 +47,7 @@ use Rattle.rules.proofs.Fired.{of_entries, fired}
 use Rattle.rules.proofs.SomeOrder.{invalid-last, given-final, final_given}
 use Rattle.rules.proofs.FinalRows.{undropped_lem, dropped_lem, direct_rows_lem, direct_lem, indirect_lem, indirect_rows_lem, finals_apart, finals_within}
 use Rattle.rules.proofs.Ranked.{InOrder, ranked_member, ranked_stay, ranked_reason, ranked_earliest, ranked_in_order, rule-in_order, none-in_order, once_after, order_after, only}
+use Rattle.rules.proofs.ForceRoom.{forced_room}
 use Rattle.rules.proofs.Played.{ruled_or, NoneOrRule, Played, played, judged_room, given_list}
 
 -- ---- each listed reason is given by some order, and each given is listed
@@ -359,6 +360,7 @@ forced =
       short = short_lem;
       only_short = λ x size h. too_short (judge_with x.leader x.presence x.list (tested_of x)) (rows_of x) size (other_number x) h;
       fits = fits_lem;
+      room = λ x. forced_room x.leader x.presence x.list (tested_of x);
       written = λ rows old. fired.written verdict.Valid rows old;
       counted = λ rows old. refl;
       kept = λ n old. refl;

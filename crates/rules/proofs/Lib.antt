@@ -30,6 +30,9 @@ pub mod Rows
 pub mod RowsSplit
 pub mod RowsNext
 pub mod RowsWithin
+pub mod FewReasons
+pub mod Room
+pub mod TrailRoom
 pub mod EntryReasons
 pub mod Fired
 pub mod Marks
@@ -46,4 +49,5 @@ pub mod Ranked
 pub mod Arrivals
 pub mod FinalRows
 pub mod Played
+pub mod ForceRoom
 pub mod Forced

@@ -27,7 +27,7 @@ use Rattle.rules.proofs.Finals.{Apart}
 
 -- ---- whether a row before has an equal reason
 
-has-append : (before : List Row) (r x : Row) → has_reason_of (before ++ (r ∷ [])) x ≡ (has_reason_of before x || same_reason r.reason x.reason)
+pub has-append : (before : List Row) (r x : Row) → has_reason_of (before ++ (r ∷ [])) x ≡ (has_reason_of before x || same_reason r.reason x.reason)
 unfolding has_reason_of
 has-append [] r x = go (same_reason r.reason x.reason)
   where
@@ -41,7 +41,7 @@ has-append (s ∷ l) r x = go (same_reason s.reason x.reason) (has-append l r x)
     go true h = refl
     go false h = h
 
-has_same : (before : List Row) (x y : Row) → x.reason ≡ y.reason → has_reason_of before x ≡ has_reason_of before y
+pub has_same : (before : List Row) (x y : Row) → x.reason ≡ y.reason → has_reason_of before x ≡ has_reason_of before y
 unfolding has_reason_of
 has_same [] x y e = refl
 has_same (s ∷ l) x y e =

@@ -23,9 +23,13 @@ reasons-append : (a b : List Row) → reasons_in (a ++ b) ≡ reasons_in a ++ re
 reasons-append [] b = refl
 reasons-append (x ∷ a) b = ap (λ (l : List InvalidReason). x.reason ∷ l) (reasons-append a b)
 
-reasons-at : (list place : ℕ) (l : List InvalidReason) → reasons_in (rows_at list place l) ≡ l
+pub reasons-at : (list place : ℕ) (l : List InvalidReason) → reasons_in (rows_at list place l) ≡ l
 reasons-at list place [] = refl
 reasons-at list place (r ∷ l) = ap (λ (m : List InvalidReason). r ∷ m) (reasons-at list place l)
+
+pub reasons-length : (rows : List Row) → length (reasons_in rows) ≡ length rows
+reasons-length [] = refl
+reasons-length (x ∷ rows) = ap suc (reasons-length rows)
 
 pub no_rows : (rows : List Row) → reasons_in rows ≡ [] → rows ≡ []
 no_rows [] h = refl
@@ -44,7 +48,7 @@ reasons-dropped : (i : ℕ) (old : List Row) → reasons_in (dropped_rows i old)
 reasons-dropped i old = reasons-at 1 i (when (is_empty old) DependencyRoundDropped)
 
 module _ (c : Settings) (required : Bool) (p : PointView) where
-  direct-reasons : (es : List Entry) (i : ℕ) (old : List Row) (f : Findings) → reasons_in old ≡ f.trail →
+  pub direct-reasons : (es : List Entry) (i : ℕ) (old : List Row) (f : Findings) → reasons_in old ≡ f.trail →
       reasons_in (direct_rows c required p i old es) ≡ (check_valid c required p f es).trail
   unfolding direct_rows check_valid
   direct-reasons [] i old f h = h
@@ -69,7 +73,7 @@ module _ (c : Settings) (required : Bool) (p : PointView) where
       go false rest k = k
 
 module _ (c : Settings) (p : PointInfo) where
-  indirect-reasons : (ts : List IndirectEntry) (i : ℕ) (old : List Row) (f : Findings) → reasons_in old ≡ f.trail →
+  pub indirect-reasons : (ts : List IndirectEntry) (i : ℕ) (old : List Row) (f : Findings) → reasons_in old ≡ f.trail →
       reasons_in (indirect_rows c p i old ts) ≡ (check_indirect_links c p f ts).trail
   unfolding indirect_rows check_indirect_links
   indirect-reasons [] i old f h = h

@@ -1,5 +1,5 @@
 -- Ticket U2 of document 02, "Every rule that fired": what the rows of a judgement are beside its verdict.
-use Rattle.std.specs.Prelude.{ℕ, ◌*◌, ◌/◌, ◌%◌, ◌≤◌, ◌<◌, ◌≡◌, ◌⊎◌, Bool, true, false, map, length, drop, eqb, Some}
+use Rattle.std.specs.Prelude.{ℕ, ◌+◌, ◌*◌, ◌/◌, ◌%◌, ◌≤◌, ◌<◌, ◌≡◌, ◌⊎◌, Bool, true, false, map, length, drop, eqb, Some}
 use mathlib.Core.List.{List, [], ◌∷◌, ◌++◌, Memᴰ}
 use Rattle.base.specs.Base.{pick, is_empty, last_of}
 use Rattle.point.specs.Point.{PointId, PointInfo}
@@ -103,6 +103,8 @@ pub record RulesFired : Type 0 where
       fitted (judged x) (trail_of x) size ≡ Number 15
   pub fits : (x : Call) (size : ℕ) (v : verdict.Verdict) → judged x ≡ Given v → 8 * length (trail_of x) ≤ size →
       fitted (judged x) (trail_of x) size ≡ Given v
+  -- a trail of list_len + 8 bytes has room for all rows, whatever the call
+  pub room : (x : Call) → 8 * length (trail_of x) ≤ length x.list + 8
   pub number : (x : Call) (size n : ℕ) → judged x ≡ Number n → fitted (judged x) (trail_of x) size ≡ Number n
   pub buffer : (x : Call) (size n : ℕ) (peers : List ℕ) → fitted (judged x) (trail_of x) size ≡ Number n →
       verify_buffer (tested_of x) peers ≡ peers

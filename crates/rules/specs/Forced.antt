@@ -1,5 +1,5 @@
 -- Ticket U11 of document 02, "What the network can force": the game. "The author fixes point and entries, the network fixes arrival."
-use Rattle.std.specs.Prelude.{ℕ, ◌*◌, ◌≤◌, ◌<◌, ◌≡◌, ◌⊎◌, Bool, true, false, length, drop, eqb, Some, Err, Ok, Result}
+use Rattle.std.specs.Prelude.{ℕ, ◌+◌, ◌*◌, ◌≤◌, ◌<◌, ◌≡◌, ◌⊎◌, Bool, true, false, length, drop, eqb, Some, Err, Ok, Result}
 use mathlib.Core.List.{List, [], ◌∷◌, ◌++◌, Memᴰ, Permᴰ}
 use Rattle.base.specs.Base.{is_empty, last_of}
 use Rattle.parts.specs.Limits.{peers_room}
@@ -151,6 +151,8 @@ pub record Forced : Type 0 where
   pub only_short : (x : Call) (size : ℕ) → forcing x size ≡ Err 17 → size < 8 * length (rows_of x)
   pub fits : (g : Game) (size : ℕ) (v : verdict.Verdict) → judged (handed_in g) ≡ Given v → 8 * length (rows_of (handed_in g)) ≤ size →
       forcing (handed_in g) size ≡ Ok (rows_of (handed_in g))
+  -- a list of list_len + 8 bytes has room for all rows, whatever the call
+  pub room : (x : Call) → 8 * length (rows_of x) ≤ length x.list + 8
   -- "a call that fills a lent output tells how many bytes or rows it wrote, and the output behind them keeps its bytes"; with a number
   -- all of it does
   pub written : (rows : List Row) (old : List ℕ) → list_told (Ok rows) old ≡ rows_bytes rows ++ drop (8 * length rows) old
