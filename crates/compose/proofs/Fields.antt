@@ -1,18 +1,18 @@
 -- Laws of fields that are written piece by piece, and of rows that are written one by one.
 use Prim.Native.Nat.{ℕ, suc, ◌+◌, ◌*◌, ◌≤◌, ◌<◌}
-use native.Mathlib.Nat.{mul-suc}
+use native.Mathlib.Nat.{add-zero, zero-add, mul-suc}
 use native.Mathlib.Numerals.{add-one}
 use native.Mathlib.Omega.{arith}
 use mathlib.Core.Path.{◌≡◌, refl, ap, sym, ◌∙◌}
 use mathlib.Core.List.{List, [], ◌∷◌, ◌++◌, append_assoc, append-nil}
 use lib.ListN.{length, get_or, take, length-append}
 use lib.Seq.{take-suc, take_all, length-take-le, get_or-take}
-use Rattle.parts.specs.Bytes.{little_bytes, put_at}
-use Rattle.parts.proofs.Laws.{at_length, little-length}
+use Rattle.parts.specs.Bytes.{bytes_at, little_bytes, put_at}
+use Rattle.parts.proofs.Laws.{at_length, at_split, little-length}
 use Rattle.write.proofs.Laws.{put_nothing, put_length, put_put}
 use Rattle.record.specs.Record.{rows}
 use Rattle.record.specs.Fields.{field_bytes, fields_bytes, record_bytes}
-use Rattle.compose.specs.Code.{block_at, blocks}
+use Rattle.compose.specs.Code.{block_at, blocks, InOrder}
 
 -- ---- a field
 
@@ -140,6 +140,21 @@ module _ (s : List ℕ) (first : ℕ) where
       ap (λ n. blocks s first (take n order)) (add-one k)
       ∙ (ap (blocks s first) (take-suc order k 0 h)
       ∙ (blocks-append (take k order) (i ∷ []) ∙ ap (λ l. blocks s first (take k order) ++ l) (blocks-one i)))
+
+  -- rows at positions that count up from a first one are one piece of the bytes
+  blocks_from : (order : List ℕ) (j : ℕ) → ((k : ℕ) → k < length order → get_or order k 0 ≡ j + k) →
+      blocks s first order ≡ bytes_at (32 * length order) s (32 * (first + j))
+  unfolding blocks
+  blocks_from [] j h = refl
+  blocks_from (i ∷ order) j h =
+      let here : i ≡ j = omega (arith, h 0 (omega arith)) in
+      let later = blocks_from order (suc j) (λ k l. omega (arith, h (suc k) (omega arith))) in
+      let next : 32 * (first + j) + 32 ≡ 32 * (first + suc j) = omega arith in
+      let many : 32 * length (i ∷ order) ≡ 32 + 32 * length order = omega arith in
+      rw (many, here, later, at_split 32 (32 * length order) s (32 * (first + j)), next) refl
+
+  pub blocks_in_order : (order : List ℕ) → InOrder order → blocks s first order ≡ bytes_at (32 * length order) s (32 * first)
+  blocks_in_order order h = rw add-zero at (blocks_from order 0 (λ k l. h k l ∙ sym (zero-add k)))
 
 -- the first k of an order's rows are written at a place
 abbrev pub Placed : List ℕ → ℕ → List ℕ → List ℕ → ℕ → ℕ → List ℕ → Type 0

@@ -1,26 +1,28 @@
 -- Laws of the rows of a draft: how many there are, a peer that is there twice, and their orders.
 use Rattle.std.specs.Prelude.{Some}
 use Prim.Native.Nat.{ℕ, ◌+◌, ◌*◌, ◌/◌, ◌%◌, ◌≤◌, ◌<◌}
+use native.Mathlib.Nat.{zero-add}
 use native.Mathlib.Omega.{arith}
 use mathlib.Core.Path.{◌≡◌, ap, sym, ◌∙◌, subst}
 use mathlib.Core.Bool.{Bool, true, ◌||◌}
-use mathlib.Core.List.{List, ◌∷◌, Memᴰ}
+use mathlib.Core.List.{List, ◌∷◌, ◌++◌, Memᴰ}
 use mathlib.Core.List.Permᴰ
 use lib.ListN.{length, get_or, take, length-append, length-take}
-use lib.Seq.{length-take-le, get_or-take}
+use lib.Seq.{take_all, length-take-le, get_or-take}
 use Rattle.std.proofs.lemmas.Bool.Decides.{nat_tests}
 use Rattle.base.specs.Base.{tabulate}
 use Rattle.base.proofs.Bool.{and_left, and_right, or_first, or_second}
 use Rattle.base.proofs.Lists.{member-at, tabulate-length, tabulate-each}
-use Rattle.parts.specs.Bytes.{little_bytes, put_at}
+use Rattle.parts.specs.Bytes.{bytes_at, little_bytes, put_at}
+use Rattle.parts.proofs.Laws.{at_split}
 use Rattle.map.specs.Rows.{peer_at, peers_of}
 use Rattle.map.specs.Risen.{itself, has_twice}
 use Rattle.map.proofs.Risen.{member-perm, risen-perm, risen-length}
 use Rattle.record.specs.Fields.{field_bytes}
 use Rattle.row_order.specs.Order.{OrderOf}
 use Rattle.compose.specs.Draft.{Draft, are_rows, are_maps}
-use Rattle.compose.specs.Code.{blocks, map_by, set_by}
-use Rattle.compose.proofs.Fields.{front-inside, blocks-length, put_content, put_parts}
+use Rattle.compose.specs.Code.{blocks, InOrder, map_by, set_by}
+use Rattle.compose.proofs.Fields.{front-inside, blocks-length, blocks_in_order, put_content, put_parts}
 
 module _ (width : ℕ) (s : List ℕ) (h : are_rows width s ≡ true) where
   pub rows_whole : length s % width ≡ 0
@@ -112,6 +114,21 @@ module _ (s order : List ℕ) where
         let b = digests-long in
         put_parts out at tag (length s) (blocks s 0 (take pairs order)) (blocks s pairs (take pairs order)) (at + 3 + 32 * pairs)
         (omega arith) (omega arith) (omega arith)
+
+  -- in order they are the map, or the set, as it came
+  pub map_in_order : length s % 64 ≡ 0 → pairs ≤ length order → InOrder (take pairs order) → map_by s order ≡ s
+  map_in_order w many h =
+      let n = 32 * pairs in
+      let long : 32 * length (take pairs order) ≡ n = ap (λ k. 32 * k) (length-take-le pairs order many) in
+      let piece = λ (first : ℕ). blocks_in_order s first (take pairs order) h ∙ ap (λ k. bytes_at k s (32 * first)) long in
+      let split : bytes_at (n + n) s 0 ≡ bytes_at n s 0 ++ bytes_at n s n = rw (zero-add n) at (at_split n n s 0) in
+      rw (piece 0, piece pairs) (sym split ∙ take_all (n + n) s (omega arith))
+
+  pub set_in_order : length s % 32 ≡ 0 → length s / 32 ≤ length order → InOrder (take (length s / 32) order) → set_by s order ≡ s
+  set_in_order w many h =
+      let n = length s / 32 in
+      blocks_in_order s 0 (take n order) h
+      ∙ take_all (32 * length (take n order)) s (omega (arith, length-take-le n order many))
 
   module _
       (w : length s % 32 ≡ 0)

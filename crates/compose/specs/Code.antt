@@ -1,5 +1,5 @@
 -- What the code's values stand for, and rows that are written by an order.
-use Rattle.std.specs.Prelude.{ℕ, ◌+◌, ◌*◌, ◌/◌, ◌≡◌, ◌||◌, Bool, true, Option, None, Some, List, [], ◌∷◌, ◌++◌, length, take}
+use Rattle.std.specs.Prelude.{ℕ, ◌+◌, ◌*◌, ◌/◌, ◌<◌, ◌≡◌, ◌||◌, Bool, true, Option, None, Some, List, [], ◌∷◌, ◌++◌, length, get_or, take}
 use Rattle.parts.specs.Bytes.{bytes_at}
 use Rattle.map.specs.Rows.{peers_of}
 use Rattle.map.specs.Risen.{has_twice}
@@ -35,6 +35,10 @@ block_at s first i = bytes_at 32 s (32 * (first + i))
 unfoldable pub blocks : List ℕ → ℕ → List ℕ → List ℕ
 blocks s first [] = []
 blocks s first (i ∷ order) = block_at s first i ++ blocks s first order
+
+-- each position is its own place in the order: the rows stand as they are written
+abbrev pub InOrder : List ℕ → Type 0
+InOrder order = (k : ℕ) → k < length order → get_or order k 0 ≡ k
 
 -- a map's peers, then its digests in the same order; and a set's peers
 abbrev pub map_by : List ℕ → List ℕ → List ℕ

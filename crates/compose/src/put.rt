@@ -4,7 +4,7 @@ ghost use Rattle.parts.specs.Bytes.{Bytes, put_at, little_bytes};
 ghost use Rattle.record.specs.Fields.{field_bytes};
 ghost use Rattle.point.specs.Point.{PointInfo};
 ghost use Rattle.compose.specs.Draft.{are_maps, role_part, handed_over, composed};
-ghost use Rattle.compose.specs.Code.{draft_of, blocks, map_by, set_by, record_length, Ordered};
+ghost use Rattle.compose.specs.Code.{draft_of, blocks, InOrder, map_by, set_by, record_length, Ordered};
 
 use crate::draft::{Draft, Orders, link_part};
 use row_order::MOST_ROWS;
@@ -47,8 +47,25 @@ fn put_blocks(out: &mut [u8], at: usize, rows: &[u8], first: usize, order: &[u8]
     }
 }
 
-// A map: its peers in an order, then its digests in the same.
-#[tactic(auto, using(crate::proofs::Rows::map_put))]
+// Whether each position is its own place in the order. In most others the first one differs already. Else all are looked at, since several at
+// a time are quicker than to stop at one.
+fn is_in_order(order: &[u8]) -> bool
+    requires { length order.now ≤ 255 }
+    ensures only { result ≡ true → InOrder order.now }
+    ensures each { InOrder order.now → result ≡ true }
+{
+    if !order.is_empty() && order[0] != 0 {
+        return false;
+    }
+    let mut in_order = true;
+    for k in 0..order.len() {
+        in_order &= order[k] == k as u8;
+    }
+    in_order
+}
+
+// A map: its peers in an order, then its digests in the same. Where its rows rise as they came, it is copied whole.
+#[tactic(auto, using(crate::proofs::Rows::map_put, crate::proofs::Rows::map_in_order))]
 fn put_map(out: &mut [u8], at: usize, tag: u8, map: &[u8], order: &[u8; MOST_ROWS]) -> usize
     requires room { at + 3 + length map.now ≤ length out.old }
     requires whole { (length map.now % 64 ≡ 0) × (length map.now / 64 ≤ 255) }
@@ -58,14 +75,17 @@ fn put_map(out: &mut [u8], at: usize, tag: u8, map: &[u8], order: &[u8; MOST_ROW
     ensures bytes { Bytes map.now }
 {
     let n = map.len() / 64;
+    if is_in_order(&order[..n]) {
+        return put_field(out, at, tag, map);
+    }
     put_head(out, at, tag, map.len());
     put_blocks(out, at + 3, map, 0, &order[..n]);
     put_blocks(out, at + 3 + 32 * n, map, n, &order[..n]);
     at + 3 + map.len()
 }
 
-// A set: its peers in an order.
-#[tactic(auto, using(crate::proofs::Rows::set_put))]
+// A set: its peers in an order. Where these rise as they came, it is copied whole.
+#[tactic(auto, using(crate::proofs::Rows::set_put, crate::proofs::Rows::set_in_order))]
 fn put_set(out: &mut [u8], at: usize, tag: u8, set: &[u8], order: &[u8; MOST_ROWS]) -> usize
     requires room { at + 3 + length set.now ≤ length out.old }
     requires whole { (length set.now % 32 ≡ 0) × (length set.now / 32 ≤ 255) }
@@ -74,8 +94,12 @@ fn put_set(out: &mut [u8], at: usize, tag: u8, set: &[u8], order: &[u8; MOST_ROW
     ensures next { result ≡ at + 3 + length set.now }
     ensures bytes { Bytes set.now }
 {
+    let n = set.len() / 32;
+    if is_in_order(&order[..n]) {
+        return put_field(out, at, tag, set);
+    }
     put_head(out, at, tag, set.len());
-    put_blocks(out, at + 3, set, 0, &order[..set.len() / 32]);
+    put_blocks(out, at + 3, set, 0, &order[..n]);
     at + 3 + set.len()
 }
 
