@@ -160,10 +160,10 @@ uint8_t wutherdish_judge(const uint8_t *settings, size_t settings_len,
  *
  *   15  the trail has less than 8 bytes for each row
  *
- * A trail of list_len + 8 bytes has room for all rows: an entry that can set more than one reason sets at most ten, and its record
- * alone has 188 bytes. With 0 the answer and the peer buffer are as judging sets them, *rows is how many rows there are, and they
- * stand at the front of the trail, whose bytes after them keep what they held. With a number *rows and all of the trail keep what
- * they held too. As above, trail and *rows overlap neither each other nor the rest; rows is aligned as a uint32_t.
+ * A trail of list_len + 8 bytes has room for all rows, which is proved: an entry that can set more than one reason sets at most ten,
+ * and its record alone has 188 bytes. With 0 the answer and the peer buffer are as judging sets them, *rows is how many rows there
+ * are, and they stand at the front of the trail, whose bytes after them keep what they held. With a number *rows and all of the trail
+ * keep what they held too. As above, trail and *rows overlap neither each other nor the rest; rows is aligned as a uint32_t.
  */
 uint8_t wutherdish_trail(const uint8_t *settings, size_t settings_len,
                          const uint8_t *schedule, size_t schedule_len,
@@ -211,9 +211,9 @@ uint8_t wutherdish_clearing(const uint8_t *settings, size_t settings_len,
  *
  *   17  out has less than 8 bytes for each row
  *
- * One of list_len + 8 bytes has room for all rows. With 0 *rows is how many there are, and they stand at the front of out, whose bytes
- * after them keep what they held. With a number *rows and all of out keep what they held. As above, out and *rows overlap neither each
- * other nor the rest; rows is aligned as a uint32_t.
+ * One of list_len + 8 bytes has room for all rows, which is proved. With 0 *rows is how many there are, and they stand at the front of
+ * out, whose bytes after them keep what they held. With a number *rows and all of out keep what they held. As above, out and *rows
+ * overlap neither each other nor the rest; rows is aligned as a uint32_t.
  */
 uint8_t wutherdish_force(const uint8_t *settings, size_t settings_len,
                          const uint8_t *schedule, size_t schedule_len,

@@ -1,6 +1,6 @@
 -- Laws of the call: which rows there are, and what the call tells of them.
 use Rattle.std.specs.Prelude.{Option, None, Some, is_some, Result, Err, Ok}
-use Prim.Native.Nat.{ℕ, zero, suc, ◌≤◌, ◌*◌}
+use Prim.Native.Nat.{ℕ, zero, suc, ◌+◌, ◌≤◌, ◌*◌}
 use native.Mathlib.Omega.{arith}
 use mathlib.Core.Path.{◌≡◌, refl, ap, sym, ◌∙◌}
 use mathlib.Core.Bool.{Bool, true, false, not, ◌&&◌}
@@ -10,8 +10,10 @@ use lib.Dec.{eqb}
 use borrow.Author.Tests.{ne_eqb, le-leb, lt-ltb, le-ltb}
 use Rattle.base.specs.Base.{pick, is_empty}
 use Rattle.base.proofs.Impossible.{impossible}
+use Rattle.base.proofs.Option.{some_of}
 use Rattle.write.proofs.Laws.{put_nothing}
 use Rattle.point.specs.Point.{PointInfo}
+use Rattle.point.specs.declared.data.PointMap.{PointMap}
 use Rattle.point.specs.declared.data.PointMap.TheVariants as maps
 use Rattle.schedule.specs.Settings.{Settings}
 use Rattle.reasons.specs.Refusal.{refusal_number}
@@ -22,9 +24,19 @@ use Rattle.rules.specs.Mismatch.{mismatch}
 use Rattle.rules.specs.Judge.{Input, Tested, refused, admitted, JudgeAnswer, Number, Given, Before, answered, needed, before, judge_from, over_list, judge_with_in}
 use Rattle.rules.specs.Trail.{Row, rule_row, rows_bytes}
 use Rattle.rules.specs.Force.{finals, ranked, forceable, forceable_from, forceable_with, forced_of, force_with}
+use Rattle.rules.proofs.ForceRoom.{finals-room}
 use Rattle.judge_mismatch.proofs.Heads.{listed-is}
+use Rattle.trail_rows.specs.Code.{Filled}
 use Rattle.force_rows.specs.Code.{Matching}
-use Rattle.force.specs.Code.{missing, rows_over, Filled, Told}
+use Rattle.force.specs.Code.{missing, rows_over, Told}
+
+-- ---- rows that are put
+
+-- a list of eight bytes more than the entries' has room for all rows
+pub rows_fit : (c : Settings) (required : Bool) (p : PointInfo) (s : List ℕ) (rule : Option PointMap) → (rule ≡ None → is_some (read_list s) ≡ true) →
+    8 * length (rows_over c required p s rule) ≤ length s + 8
+rows_fit c required p s None h = let l = some_of (read_list s) (h refl) in rw (listed-is s l.0 l.1) (finals-room c required p s l.0 l.1)
+rows_fit c required p s (Some m) h = omega arith
 
 -- ---- which rows there are
 
@@ -107,7 +119,7 @@ module _ (answer : JudgeAnswer) (rows : List Row) (old : List ℕ) where
   told_number r e = rw (← e) (record { number = refl; count = λ k. refl; written = refl })
 
   -- the rows were put, or they don't fit
-  pub told_filled : (v : Verdict) → Given v ≡ answer → (new : List ℕ) (r : Result ℕ Refusal) → Filled rows old new r →
+  pub told_filled : (v : Verdict) → Given v ≡ answer → (new : List ℕ) (r : Result ℕ Refusal) → Filled 17 rows old new r →
       Told (forced_of answer rows (length old)) old new r
   told_filled v e new (Ok n) g = rw (← e, le-ltb (length old) (8 * length rows) g.1) (record { number = refl; count = λ k. g.0; written = g.2 })
   told_filled v e new (Err r) g = rw (← e, lt-ltb (length old) (8 * length rows) g.1) (record { number = g.0; count = λ k. refl; written = g.2 })

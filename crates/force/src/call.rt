@@ -9,20 +9,16 @@ ghost use Rattle.rules.specs.Judge.{tested, needed, judge_from, flags_ok};
 ghost use Rattle.rules.specs.List.{read_list};
 ghost use Rattle.rules.specs.Force.{forceable_from, forced_of, force_with};
 ghost use Rattle.judge_valid.specs.Code.{point_view_of};
-ghost use Rattle.trail.specs.Code.{Put};
+ghost use Rattle.trail_rows.specs.Code.{Put, Filled};
 ghost use Rattle.force_rows.specs.Code.{Matching};
-ghost use Rattle.force.specs.Code.{missing, rows_over, Filled, Told};
+ghost use Rattle.force.specs.Code.{missing, rows_over, Told};
 
 use judge::Before;
 use judge_valid::{By, PointView};
 use point::{Point, PointMap};
 use reasons::{InvalidReason, Refusal};
 use schedule::Settings;
-use trail::put;
-use trail::put::Place;
-
-// The row of a reason that no entry gave.
-const NO_PLACE: Place = Place { list: 0, entry: 0 };
+use trail_rows::{NO_PLACE, WIDTH, put_reason};
 
 // The map whose round the presence rules miss: "The presence rules leave one reason only".
 fn missing_map(presence: u8, point: &Point) -> Option<PointMap>
@@ -43,19 +39,22 @@ fn put_all(by: &By, rule: Option<PointMap>, list: &[u8], out: &mut [u8]) -> usiz
         Put out.old 0 (rows_over (settings_of by.now.conf) by.now.required p list.now rule) out.new result }
 {
     match rule {
-        Some(map) => put::put_reasons(out, 0, NO_PLACE, &[Some(InvalidReason::NoRoundInDag(map))]),
+        Some(map) => put_reason(out, 0, NO_PLACE, Some(InvalidReason::NoRoundInDag(map))),
         None => force_rows::put_rows(by, list, out),
     }
 }
 
-// Fills a lent list, once its rows are counted: number 17 leaves it as it was.
+// Fills a lent list; number 17 leaves it as it was. Where all rows fit for certain they are put at once, else they are counted first.
 fn fill(by: &By, rule: Option<PointMap>, list: &[u8], out: &mut [u8]) -> Result<u32, Refusal>
     requires { rule ≡ None → is_some (read_list list.now) ≡ true }
     ensures { (p : PointInfo) → point_view_of by.now.view ≡ point_view p → (rule ≡ None → Matching p list.now) →
-        Filled (rows_over (settings_of by.now.conf) by.now.required p list.now rule) out.old out.new result }
+        Filled 17 (rows_over (settings_of by.now.conf) by.now.required p list.now rule) out.old out.new result }
 {
+    if trail_rows::fit_for_certain(list, out) {
+        return Ok(put_all(by, rule, list, out) as u32);
+    }
     let rows = put_all(by, rule, list, &mut []);
-    if out.len() < put::WIDTH * rows {
+    if out.len() < WIDTH * rows {
         return Err(Refusal::Forced);
     }
     put_all(by, rule, list, out);

@@ -34,8 +34,8 @@ use Rattle.rules.proofs.Finals.{Apart, rows_from, apart, stands}
 use Rattle.rules.proofs.Ranked.{ranked_in_order, ranked_member, apart-firsts, InOrder}
 use Rattle.rules.proofs.RowsWithin.{directs-few, indirects-few}
 use Rattle.rules.proofs.SomeOrder.{final_of, target_final, direct_rows_from, target_rows_from}
-use Rattle.trail.specs.Code.{Put}
-use Rattle.trail.proofs.Laws.{put_none, put_join}
+use Rattle.trail_rows.specs.Code.{Put}
+use Rattle.trail_rows.proofs.Laws.{put_none, put_join}
 use Rattle.force_rows.specs.Code.{of_number, kind_rows}
 use Rattle.force_rows.specs.Walk.{NumberPut}
 use Rattle.force_rows.specs.declared.walk.Walked as code

@@ -24,10 +24,9 @@ use Rattle.rules.specs.Trail.{Row, row, rows_at}
 use Rattle.rules.specs.Fired.{reasons_in}
 use Rattle.rules.specs.Force.{list_of, direct_final, direct_finals, indirect_finals, has_reason_of, firsts}
 use Rattle.judge_mismatch.specs.Code.{listed}
-use Rattle.judge_mismatch.proofs.Heads.{Next, listed-end, directs-here, directs-after, indirects-here, indirects-after}
-use Rattle.trail.specs.Code.{Put}
-use Rattle.trail.proofs.Laws.{put_none, put_join}
-use Rattle.trail.proofs.WalkLaws.{few-listed}
+use Rattle.judge_mismatch.proofs.Heads.{Next, listed-end, directs-here, directs-after, indirects-here, indirects-after, few-listed}
+use Rattle.trail_rows.specs.Code.{Put}
+use Rattle.trail_rows.proofs.Laws.{put_none, put_join}
 use Rattle.force_rows.specs.Code.{list_number, of_number, last_reason, is_same_as, Near, Matching, kind_rows, final_in}
 use Rattle.force_rows.specs.Walk.{NumberPut}
 use Rattle.force_rows.specs.declared.walk.Walked as code

@@ -5,7 +5,7 @@ use Rattle.reasons.specs.Code.{reason_of}
 use Rattle.reasons.specs.Invalid.{invalid_number}
 use Rattle.rules.specs.Trail.{Row}
 use Rattle.rules.specs.Force.{firsts}
-use Rattle.trail.specs.Code.{Put}
+use Rattle.trail_rows.specs.Code.{Put}
 use Rattle.force_rows.specs.Code.{of_number, last_reason}
 use Rattle.force_rows.specs.declared.walk.Walked as code
 

@@ -7,7 +7,7 @@ ghost use Rattle.rules.specs.List.{read_list, directs, indirects};
 ghost use Rattle.rules.specs.Force.{finals, ranked};
 ghost use Rattle.judge_valid.specs.Code.{point_view_of};
 ghost use Rattle.judge_mismatch.specs.Code.{listed};
-ghost use Rattle.trail.specs.Code.{Put};
+ghost use Rattle.trail_rows.specs.Code.{Put};
 ghost use Rattle.force_rows.specs.Code.{kind_rows, Matching};
 
 use crate::walk;

@@ -14,16 +14,10 @@ ghost use Rattle.force_rows.specs.Walk.{NumberPut};
 use crate::{entry, same};
 use judge_valid::By;
 use reasons::InvalidReason;
-use trail::put;
-use trail::put::Place;
+use trail_rows::{DIRECT, INDIRECT, Place};
 
 // In place of a reason number: there is no greater one.
 pub(crate) const NONE: u8 = 255;
-
-// The numbers of the lists in a row.
-const DIRECT: u8 = 1;
-
-const INDIRECT: u8 = 2;
 
 // What a walk has come to: how many rows there are, the reason of the last one, and the least reason number above the walk's.
 #[derive(Clone, Copy)]
@@ -34,7 +28,7 @@ pub(crate) struct Walked {
 }
 
 // One more final reason. "each once": equal reasons of one number stand one after the other.
-fn put_reason(
+fn put_final(
     so_far: Walked,
     number: u8,
     place: Place,
@@ -59,7 +53,7 @@ fn put_reason(
     if found < number || same::is_last(so_far.last, reason) {
         return so_far;
     }
-    put::put_if_fits(out, so_far.rows, place, reason);
+    trail_rows::put_if_fits(out, so_far.rows, place, reason);
     Walked {
         rows: so_far.rows + 1,
         last: Some(reason),
@@ -111,7 +105,7 @@ pub(crate) fn put_number(
         let Some(reason) = entry::final_reason(by, &x) else {
             continue;
         };
-        so_far = put_reason(so_far, number, place, reason, out);
+        so_far = put_final(so_far, number, place, reason, out);
     }
     so_far
 }

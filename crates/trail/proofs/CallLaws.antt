@@ -1,7 +1,7 @@
 -- Laws of the call: which rows a judgement has, and what the call tells of them.
 use Rattle.std.specs.Prelude.{Option, None, Some, is_some, option_map, Result, Err, Ok}
 use Rattle.std.specs.Bool.{then_some}
-use Prim.Native.Nat.{ℕ, zero, suc, ◌≤◌, ◌*◌}
+use Prim.Native.Nat.{ℕ, zero, suc, ◌+◌, ◌≤◌, ◌*◌}
 use native.Mathlib.Nat.{zero-add}
 use native.Mathlib.Omega.{arith}
 use mathlib.Core.Path.{◌≡◌, refl, ap, sym, ◌∙◌}
@@ -12,6 +12,7 @@ use lib.Dec.{ltb, eqb}
 use borrow.Author.Tests.{ne_eqb, le-leb, lt-ltb, le-ltb}
 use Rattle.base.specs.Base.{pick, is_empty}
 use Rattle.base.proofs.Impossible.{impossible}
+use Rattle.base.proofs.Option.{some_of}
 use Rattle.parts.specs.Bytes.{put_at}
 use Rattle.write.proofs.Laws.{put_nothing, put_read}
 use Rattle.point.specs.Point.{PointInfo, prev_id}
@@ -25,16 +26,18 @@ use Rattle.rules.specs.Judge.{Input, Tested, refused, admitted, JudgeAnswer, Num
 use Rattle.rules.specs.List.{Listed, read_list, directs, indirects}
 use Rattle.rules.specs.Mismatch.{mismatch, uncovered}
 use Rattle.rules.specs.Trail.{Row, row, rule_row, trail, list_rows, trail_from, trail_with, rows_bytes, fitted, rows_told, trail_told}
+use Rattle.rules.proofs.TrailRoom.{list_rows-room}
 use Rattle.judge_mismatch.proofs.Heads.{listed-is}
 use Rattle.reasons.specs.Code.{reason_of, verdict_of}
 use Rattle.reasons.specs.declared.invalid.InvalidReason as code-reason
 use Rattle.reasons.specs.Refusal.{refusal_number}
 use Rattle.reasons.specs.declared.refusal.Refusal.{Refusal}
 use Rattle.reasons.specs.declared.verdict.Verdict as code-verdict
-use Rattle.trail.specs.Code.{Put, ReasonOf, rows_over, Kept, Filled}
+use Rattle.trail_rows.specs.Code.{Put, Filled}
+use Rattle.trail.specs.Code.{ReasonOf, rows_over, Kept}
 use Rattle.trail.specs.Call.{Told, answer_of, count_of}
 use Rattle.trail.specs.declared.call.Trailed as code
-use Rattle.trail.proofs.Laws.{rows-length}
+use Rattle.rules.proofs.Rows.{rows_length}
 use Rattle.trail.proofs.Reasons.{no-rows}
 
 -- ---- which rows there are
@@ -149,6 +152,12 @@ pub alone_told : (b : Bool) (x : code-reason.InvalidReason) (o : Option code-rea
 alone_told true x o h = ap (option_map reason_of) h
 alone_told false x o h = ap (option_map reason_of) h
 
+-- a trail of eight bytes more than the list has room for all rows
+pub rows_fit : (c : Settings) (required : Bool) (p : PointInfo) (s : List ℕ) (alone : Option code-reason.InvalidReason) →
+    (alone ≡ None → is_some (read_list s) ≡ true) → 8 * length (rows_over c required p s (option_map reason_of alone)) ≤ length s + 8
+rows_fit c required p s None h = let l = some_of (read_list s) (h refl) in rw (listed-is s l.0 l.1) (list_rows-room c required p s l.0 l.1)
+rows_fit c required p s (Some r) h = omega arith
+
 -- what was put is kept
 pub put_kept : (old kept : List ℕ) (rows : List Row) (m : ℕ) → Put old 0 rows kept m → Kept rows kept m
 put_kept old kept rows m q =
@@ -157,7 +166,7 @@ put_kept old kept rows m q =
       bytes = λ h.
           let size = q.same in
           let n = q.count in
-          let e : 8 * m ≡ length (rows_bytes rows) = let l = rows-length rows in omega arith in
+          let e : 8 * m ≡ length (rows_bytes rows) = let l = rows_length rows in omega arith in
           ap (take (8 * m)) (q.bytes (omega arith)) ∙ (put_read old 0 (rows_bytes rows) (8 * m) (sym e) (omega arith));
     }
 
@@ -183,7 +192,7 @@ module _ (answer : JudgeAnswer) (rows : List Row) (old : List ℕ) where
     fits h = rw (← e, le-ltb (length old) (8 * length rows) h) refl
 
     -- the rows were put, or they don't fit
-    pub told-filled : (new : List ℕ) (n : ℕ) → Filled rows old new (Ok n) → Told answer rows old new (Ok (record { verdict = v; rows = n }))
+    pub told-filled : (new : List ℕ) (n : ℕ) → Filled 15 rows old new (Ok n) → Told answer rows old new (Ok (record { verdict = v; rows = n }))
     told-filled new n g = told-by new (Ok (record { verdict = v; rows = n })) (Given (verdict_of v)) (fits g.1) refl (λ k. g.0) g.2
 
     -- no row
@@ -192,7 +201,7 @@ module _ (answer : JudgeAnswer) (rows : List Row) (old : List ℕ) where
     told-none h =
         told-filled old 0 (ap length (sym h), rw h (omega arith), sym (ap (λ (l : List Row). put_at old 0 (rows_bytes l)) h ∙ put_nothing old 0))
 
-    pub told-short : (new : List ℕ) (r : Refusal) → Filled rows old new (Err r) → Told answer rows old new (Err r)
+    pub told-short : (new : List ℕ) (r : Refusal) → Filled 15 rows old new (Err r) → Told answer rows old new (Err r)
     told-short new r g =
         told-by new (Err r) (Number 15) (rw (← e, lt-ltb (length old) (8 * length rows) g.1) refl) (ap Number g.0) (λ k. refl) g.2
 

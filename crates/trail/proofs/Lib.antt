@@ -1,4 +1,3 @@
-pub mod Laws
-pub mod WalkLaws
+mod WalkLaws
 mod Reasons
 mod CallLaws

@@ -4,7 +4,6 @@ use mathlib.Core.Path.{◌≡◌, refl, ◌∙◌}
 use mathlib.Core.Bool.{Bool}
 use mathlib.Core.List.{List, []}
 use Rattle.base.specs.Base.{last_of}
-use Rattle.base.proofs.Impossible.{impossible}
 use Rattle.base.proofs.Tables.{last_none}
 use Rattle.point.specs.Point.{PointInfo}
 use Rattle.schedule.specs.Settings.{Settings}

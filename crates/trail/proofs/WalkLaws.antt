@@ -1,6 +1,5 @@
 -- Laws of the walk over a list: what was put, with the rows of what is left, is what the whole list gives.
-use Rattle.std.specs.Prelude.{None, Some, is_some, ◌⊎◌}
-use Rattle.std.proofs.Common.{inl, inr}
+use Rattle.std.specs.Prelude.{None, Some, is_some, option_map}
 use Rattle.std.specs.Bool.{then_some}
 use Prim.Native.Nat.{ℕ, zero, suc, ◌+◌, ◌*◌, ◌≤◌, ◌<◌}
 use native.Mathlib.Omega.{arith}
@@ -13,55 +12,29 @@ use lib.Dec.{eqb}
 use borrow.Author.Tests.{eq-eqb, ne_eqb}
 use Rattle.base.specs.Base.{when, is_empty}
 use Rattle.base.proofs.Impossible.{impossible}
-use Rattle.base.proofs.Option.{some_of, some-injective}
-use Rattle.map.specs.declared.Arrangement.TheVariants.{Columns}
+use Rattle.base.proofs.Option.{some_of}
 use Rattle.point.specs.Point.{PointInfo}
 use Rattle.point.specs.declared.data.AnchorStageRole.{AnchorStageRole}
 use Rattle.schedule.specs.Settings.{Settings}
+use Rattle.reasons.specs.Code.{reason_of}
 use Rattle.reasons.specs.Invalid.{InvalidReason, DependencyRoundDropped}
 use Rattle.reasons.specs.declared.invalid.InvalidReason.TheVariants as case-reason
 use Rattle.rules.specs.DagPoint.{Entry, IndirectEntry, PointView, point_view, is_dropped}
 use Rattle.rules.specs.Validate.{entry_findings, indirect_findings, dependency, dependency_trail, indirect_point_rows}
-use Rattle.rules.specs.List.{Listed, read_entry, list_from, read_list, read_list_in, directs, indirects}
+use Rattle.rules.specs.List.{Listed, read_list, directs, indirects}
 use Rattle.rules.specs.Trail.{Row, rows_at, direct_rows, indirect_rows, list_rows}
-use Rattle.rules.proofs.Pieces.{StepIn, list_zero_in, list_suc_in}
+use Rattle.rules.specs.Force.{list_of}
 use Rattle.judge_mismatch.specs.Code.{listed}
-use Rattle.judge_mismatch.proofs.Heads.{Next, next_of, listed-is, listed-end, directs-here, directs-after, indirects-here, indirects-after}
-use Rattle.trail_reasons.specs.Code.{given}
-use Rattle.trail.specs.Code.{Put}
-use Rattle.trail.proofs.Laws.{put_none, put_join}
+use Rattle.judge_mismatch.proofs.Heads.{Next, listed-end, few-listed, directs-here, directs-after, indirects-here, indirects-after}
+use Rattle.trail_rows.specs.Code.{Put}
+use Rattle.trail_rows.proofs.Laws.{put_none, put_join}
 
-pub dropped_told : (n : ℕ) → given (then_some (eqb n 0) case-reason.DependencyRoundDropped ∷ []) ≡ when (eqb n 0) DependencyRoundDropped
+pub dropped_told : (n : ℕ) → list_of (option_map reason_of (then_some (eqb n 0) case-reason.DependencyRoundDropped)) ≡ when (eqb n 0) DependencyRoundDropped
 dropped_told n = go (eqb n 0)
   where
-    go : (b : Bool) → given (then_some b case-reason.DependencyRoundDropped ∷ []) ≡ when b DependencyRoundDropped
+    go : (b : Bool) → list_of (option_map reason_of (then_some b case-reason.DependencyRoundDropped)) ≡ when b DependencyRoundDropped
     go true = refl
     go false = refl
-
--- ---- how many entries there are
-
-few-from : (n : ℕ) (b : Bool) (s : List ℕ) (l : List Listed) → list_from n b s ≡ Some l → length l ≤ n
-few-from zero b s l h = rw (← (list_zero_in Columns b s l h).1) (omega arith)
-few-from (suc n) b s l h = go (list_suc_in Columns n b s l h) (few-from n)
-  where
-    go : ((length s ≡ 0) × ([] ≡ l)) ⊎ StepIn Columns n b s l →
-        ((b : Bool) (s : List ℕ) (l : List Listed) → list_from n b s ≡ Some l → length l ≤ n) → length l ≤ suc n
-    go (inl e) f = rw (← e.1) (omega arith)
-    go (inr u) f = let m = f (is_some u.first.aim) (drop u.first.size s) u.rest u.more in rw (← u.is) (omega arith)
-
-pub few-listed : (s : List ℕ) → is_some (read_list s) ≡ true → length (listed s) ≤ 65535
-unfolding read_list_in
-few-listed s r =
-    let l = some_of (read_list s) r in
-    rw (listed-is s l.0 l.1) (few-from 65535 false s l.0 l.1)
-
--- ---- the first of the entries that are left
-
-pub next-is : (s : List ℕ) (x : Listed) → is_some (read_list s) ≡ true → 0 < length s → read_entry s ≡ Some x → Next s x
-next-is s x r g e =
-    let n = next_of s r g in
-    let same : n.0 ≡ x = some-injective _ _ (sym n.1.entry ∙ e) in
-    rw (← same) n.1
 
 no_entry-in : (l : List Listed) → l ≡ [] → directs l ≡ []
 unfolding directs
@@ -160,13 +133,13 @@ module _ (c : Settings) (required : Bool) (p : PointView) where
             counted : eqb rows 0 ≡ is_empty w.done
             counted = none-yet w.done rows w.put.count
 
-        pub directs-next : (new : List ℕ) (m : ℕ) (t : List InvalidReason) → is_dropped x.entry.state ≡ false → m ≤ rows + 10 →
-            t ≡ (entry_findings c required p x.entry).trail → Put out rows (rows_at 1 entry t) new m →
+        pub directs-next : (new : List ℕ) (m : ℕ) → is_dropped x.entry.state ≡ false → m ≤ rows + 10 →
+            Put out rows (rows_at 1 entry (entry_findings c required p x.entry).trail) new m →
             Directs s old new (drop x.size left) m (entry + 1)
-        directs-next new m t d k e q =
+        directs-next new m d k q =
             record {
               done = w.done ++ rows_at 1 entry (entry_findings c required p x.entry).trail;
-              put = put_join old out new 0 rows m w.done _ w.put (rw (← e) q);
+              put = put_join old out new 0 rows m w.done _ w.put q;
               reads = n.left;
               rest =
                   ap (λ (i : ℕ). direct_rows c required p i (w.done ++ rows_at 1 entry (entry_findings c required p x.entry).trail) (directs (listed (drop x.size left)))) (add-one entry)
@@ -210,14 +183,14 @@ module _ (c : Settings) (p : PointInfo) where
     indirects-none h =
         rw (sym w.rest ∙ (ap (λ (l : List Listed). indirect_rows c p entry w.done (indirects l)) (listed-end left h) ∙ indirect-end entry w.done)) w.put
 
-    pub indirects-next : (x : Listed) (n : Next left x) (g : AnchorStageRole) (new : List ℕ) (m : ℕ) (t : List InvalidReason) → x.aim ≡ Some g →
-        t ≡ target_trail g x.entry → Put out rows (rows_at 2 entry t) new m → Indirects s old new (drop x.size left) m (entry + 1)
-    indirects-next x n g new m t h e q =
+    pub indirects-next : (x : Listed) (n : Next left x) (g : AnchorStageRole) (new : List ℕ) (m : ℕ) → x.aim ≡ Some g →
+        Put out rows (rows_at 2 entry (target_trail g x.entry)) new m → Indirects s old new (drop x.size left) m (entry + 1)
+    indirects-next x n g new m h q =
         let here = ap indirects n.all ∙ indirects-here x (listed (drop x.size left)) g h in
         let a : IndirectEntry = record { role = g; entry = x.entry } in
         record {
           done = w.done ++ rows_at 2 entry (target_trail g x.entry);
-          put = put_join old out new 0 rows m w.done _ w.put (rw (← e) q);
+          put = put_join old out new 0 rows m w.done _ w.put q;
           rest =
               ap (λ (i : ℕ). indirect_rows c p i (w.done ++ rows_at 2 entry (target_trail g x.entry)) (indirects (listed (drop x.size left)))) (add-one entry)
               ∙ (sym (indirect-step entry w.done a (indirects (listed (drop x.size left))))
@@ -245,7 +218,7 @@ module _ (left : List ℕ) (rows entry : ℕ) (w : Left left rows entry) (x : Li
   pub left-room : entry < 65535
   left-room = let e = ap length n.all in let r = w.room in omega arith
 
-  pub left-next : (g : AnchorStageRole) (m : ℕ) → x.aim ≡ Some g → m ≤ rows + 10 → Left (drop x.size left) m (entry + 1)
+  pub left-next : (g : AnchorStageRole) (m : ℕ) → x.aim ≡ Some g → m ≤ rows + 2 → Left (drop x.size left) m (entry + 1)
   left-next g m h k =
       record {
         reads = n.left;

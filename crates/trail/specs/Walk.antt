@@ -5,7 +5,7 @@ use Rattle.rules.specs.DagPoint.{PointView}
 use Rattle.rules.specs.List.{read_list, directs, indirects}
 use Rattle.rules.specs.Trail.{direct_rows}
 use Rattle.judge_mismatch.specs.Code.{listed}
-use Rattle.trail.specs.Code.{Put}
+use Rattle.trail_rows.specs.Code.{Put}
 use Rattle.trail.specs.declared.walk.Walked as code
 
 -- the rows were put; where there are none, all indirect entries are left, and nothing else

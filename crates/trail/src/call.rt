@@ -11,16 +11,17 @@ ghost use Rattle.rules.specs.Judge.{tested, verify_buffer, needed, judge_from, f
 ghost use Rattle.rules.specs.List.{read_list};
 ghost use Rattle.rules.specs.Trail.{rows_bytes, trail_from, trail_with};
 ghost use Rattle.judge_valid.specs.Code.{point_view_of};
-ghost use Rattle.trail.specs.Code.{Put, ReasonOf, rows_over, Kept, Filled};
+ghost use Rattle.trail_rows.specs.Code.{Put, Filled};
+ghost use Rattle.trail.specs.Code.{ReasonOf, rows_over, Kept};
 ghost use Rattle.trail.specs.Call.{Told};
 
-use crate::put::Place;
-use crate::{put, walk};
+use crate::walk;
 use judge::Before;
 use judge_valid::{By, PointView};
 use point::Point;
 use reasons::{InvalidReason, Refusal, Verdict};
 use schedule::Settings;
+use trail_rows::{NO_PLACE, WIDTH, put_reason};
 
 // A verdict, and how many rows say every rule that fired.
 #[derive(Clone, Copy)]
@@ -28,9 +29,6 @@ pub struct Trailed {
     pub verdict: Verdict,
     pub rows: u32,
 }
-
-// The row of a reason that no entry gave.
-const NO_PLACE: Place = Place { list: 0, entry: 0 };
 
 fn invalid_reason(verdict: Verdict) -> Option<InvalidReason>
     ensures { ReasonOf (verdict_of verdict) (option_map reason_of result) }
@@ -58,12 +56,12 @@ fn put_all(by: &By, alone: Option<InvalidReason>, list: &[u8], out: &mut [u8]) -
     ensures few { result < 1000000 }
 {
     match alone {
-        Some(_) => put::put_reasons(out, 0, NO_PLACE, &[alone]),
+        Some(_) => put_reason(out, 0, NO_PLACE, alone),
         None => walk::put_rows(by, list, out),
     }
 }
 
-// How many rows are kept from counting them. To keep 1,024 costs each Invalid verdict 8,000 instructions more.
+// How many rows are kept from counting them. To keep 1,024 costs each trail whose rows are counted 8,000 instructions more.
 const KEPT: usize = 256;
 
 // Writes all rows, which fit, into the front of a trail: those that were kept, or once more over the list.
@@ -81,15 +79,15 @@ fn write_all(
         Kept (rows_over (settings_of by.now.conf) by.now.required p list.now (option_map reason_of alone)) kept.now rows →
         trail.new ≡ put_at trail.old 0 (rows_bytes (rows_over (settings_of by.now.conf) by.now.required p list.now (option_map reason_of alone))) }
 {
-    if kept.len() < put::WIDTH * rows {
+    if kept.len() < WIDTH * rows {
         put_all(by, alone, list, trail);
         return;
     }
-    write::put_slice(trail, 0, &kept[..put::WIDTH * rows]);
+    write::put_slice(trail, 0, &kept[..WIDTH * rows]);
 }
 
-// Fills a trail, once its rows are counted: number 15 leaves it as it was. Counting keeps the first rows, so that most lists are walked
-// once: with two walks, over 13 peers of whose points each gives a reason, the call takes 2.8 times what judging does, in place of 2.0.
+// Fills a trail; number 15 leaves it as it was. Where all rows fit for certain, one walk puts them. Else they are counted first, and counting
+// keeps the first of them, so that most lists are still walked once.
 fn fill(
     by: &By,
     alone: Option<InvalidReason>,
@@ -98,11 +96,14 @@ fn fill(
 ) -> Result<u32, Refusal>
     requires { alone ≡ None → is_some (read_list list.now) ≡ true }
     ensures { (p : PointInfo) → point_view_of by.now.view ≡ point_view p →
-        Filled (rows_over (settings_of by.now.conf) by.now.required p list.now (option_map reason_of alone)) trail.old trail.new result }
+        Filled 15 (rows_over (settings_of by.now.conf) by.now.required p list.now (option_map reason_of alone)) trail.old trail.new result }
 {
-    let mut kept = [0; put::WIDTH * KEPT];
+    if trail_rows::fit_for_certain(list, trail) {
+        return Ok(put_all(by, alone, list, trail) as u32);
+    }
+    let mut kept = [0; WIDTH * KEPT];
     let rows = put_all(by, alone, list, &mut kept);
-    if trail.len() < put::WIDTH * rows {
+    if trail.len() < WIDTH * rows {
         return Err(Refusal::Trail);
     }
     write_all(by, alone, list, &kept, trail, rows);

@@ -2,7 +2,6 @@
 #![tactic(auto)]
 
 mod call;
-pub mod put;
 mod walk;
 
 pub use call::{Trailed, judge_with_trail};

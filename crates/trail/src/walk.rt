@@ -1,27 +1,22 @@
 // The walk over a list that can be read: the rows of its direct entries, or where these give none those of its indirect ones.
-ghost use Rattle.std.specs.Prelude.{◌≡◌, true, [], ◌∷◌, ◌<◌, eqb, is_some};
+ghost use Rattle.std.specs.Prelude.{◌≡◌, true, [], ◌<◌, eqb, is_some, option_map};
 ghost use Rattle.base.specs.Base.{when};
 ghost use Rattle.point.specs.Point.{PointInfo};
 ghost use Rattle.schedule.specs.Code.{settings_of};
+ghost use Rattle.reasons.specs.Code.{reason_of};
 ghost use Rattle.reasons.specs.Invalid.{DependencyRoundDropped};
 ghost use Rattle.rules.specs.DagPoint.{point_view};
 ghost use Rattle.rules.specs.List.{read_list, directs, indirects};
 ghost use Rattle.rules.specs.Trail.{indirect_rows, list_rows};
+ghost use Rattle.rules.specs.Force.{list_of};
 ghost use Rattle.judge_valid.specs.Code.{point_view_of};
 ghost use Rattle.judge_mismatch.specs.Code.{listed};
-ghost use Rattle.trail_reasons.specs.Code.{given};
-ghost use Rattle.trail.specs.Code.{Put};
+ghost use Rattle.trail_rows.specs.Code.{Put};
 ghost use Rattle.trail.specs.Walk.{DirectsPut};
 
-use crate::put;
-use crate::put::Place;
-use judge_valid::By;
+use judge_valid::{By, Quick};
 use reasons::InvalidReason;
-
-// The numbers of the lists in a row.
-const DIRECT: u8 = 1;
-
-const INDIRECT: u8 = 2;
+use trail_rows::{DIRECT, INDIRECT, Place};
 
 // What the walk over the direct entries comes to: how many rows, and what is left of the list.
 #[derive(Clone, Copy)]
@@ -33,7 +28,7 @@ struct Walked<'a> {
 // What a dropped entry gives after n rows: "A dropped entry after an earlier reason adds none".
 #[tactic(auto, using(crate::proofs::WalkLaws::dropped_told))]
 fn dropped_reason(n: usize) -> Option<InvalidReason>
-    ensures { given (result ∷ []) ≡ when (eqb n 0) DependencyRoundDropped }
+    ensures { list_of (option_map reason_of result) ≡ when (eqb n 0) DependencyRoundDropped }
 {
     (n == 0).then_some(InvalidReason::DependencyRoundDropped)
 }
@@ -43,6 +38,7 @@ fn put_directs<'a>(by: &By, list: &'a [u8], out: &mut [u8]) -> Walked<'a>
     requires { is_some (read_list list.now) ≡ true }
     ensures { DirectsPut (settings_of by.now.conf) by.now.required (point_view_of by.now.view) list.now out.old out.new result }
 {
+    let quick = Quick::from(by);
     let mut rows = 0;
     let mut entry: u16 = 0;
     let mut left = list;
@@ -56,11 +52,10 @@ fn put_directs<'a>(by: &By, list: &'a [u8], out: &mut [u8]) -> Walked<'a>
             entry,
         };
         if x.entry.state.is_dropped() {
-            rows = put::put_reasons(out, rows, place, &[dropped_reason(rows)]);
+            rows = trail_rows::put_reason(out, rows, place, dropped_reason(rows));
             return Walked { rows, left };
         }
-        let reasons = trail_reasons::direct_reasons(by, &x.entry);
-        rows = put::put_reasons(out, rows, place, &reasons);
+        rows = trail_reasons::put_direct(out, rows, place, by, &quick, &x.entry);
         entry += 1;
         left = &left[x.size..];
     }
@@ -87,8 +82,7 @@ fn put_indirects(by: &By, list: &[u8], out: &mut [u8]) -> usize
             list: INDIRECT,
             entry: target,
         };
-        let reasons = trail_reasons::indirect_reasons(by, role, &x.entry);
-        rows = put::put_reasons(out, rows, place, &reasons);
+        rows = trail_reasons::put_indirect(out, rows, place, by, role, &x.entry);
         target += 1;
         left = &left[x.size..];
     }

@@ -4,7 +4,7 @@ use Rattle.std.proofs.lemmas.Bool.Decides.{nat_tests}
 use native.Mathlib.Omega.{arith}
 use Rattle.schedule.specs.Code.{settings_of}
 use Rattle.judge_mismatch.specs.Code.{listed}
-use Rattle.trail.proofs.WalkLaws.{few-listed}
+use Rattle.judge_mismatch.proofs.Heads.{few-listed}
 use Rattle.force_rows.proofs.Order.{ranked_first, ranked_next, ranked_done, kind_apart, kind_places}
 use Rattle.force_rows.proofs.kinds.put_kind.Goals as goal
 

@@ -1,7 +1,7 @@
 -- `put_rows` meets its contract: the direct entries' rows, else those of the indirect ones.
 use Rattle.schedule.specs.Code.{settings_of}
 use Rattle.judge_mismatch.specs.Code.{listed}
-use Rattle.trail.proofs.WalkLaws.{few-listed}
+use Rattle.judge_mismatch.proofs.Heads.{few-listed}
 use Rattle.force_rows.proofs.Order.{kinds_first, kinds_second}
 use Rattle.force_rows.proofs.kinds.put_rows.Goals as goal
 

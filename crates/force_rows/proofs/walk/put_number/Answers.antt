@@ -8,8 +8,7 @@ use Rattle.base.proofs.Lists.{rest}
 use Rattle.reasons.specs.Code.{reason_of}
 use Rattle.rules.specs.Trail.{Row, row}
 use Rattle.judge_entries.specs.Entry.{listed_of}
-use Rattle.judge_mismatch.proofs.Heads.{Next, next_of}
-use Rattle.trail.proofs.WalkLaws.{next-is}
+use Rattle.judge_mismatch.proofs.Heads.{Next, next_of, next-is}
 use Rattle.force_rows.specs.Code.{Near}
 use Rattle.force_rows.specs.Walk.{NumberPut}
 use Rattle.force_rows.proofs.WalkLaws.{left_start, left_room, left-aside, left-next, going_start, going_left, going-done, going-aside, going-none, going-some, none_told, some_told}
@@ -58,7 +57,7 @@ loop-left-preserved c =
     let n = first (goal.at.loop-left-preserved c).After-known_entry-x in
     let w = c.loop-left.invariant in
     let t = rest c.known_entry-x.result.size c.loop-left.left.now in
-    let made = c.put_reason-so_far.ensures in (
+    let made = c.put_final-so_far.ensures in (
       left-next _ _ _ _ _ _ w.0 _ n _ _ _ t made.most made.later,
       λ p v m.
           going_left _ _ _ _ _ _ _ _ _ _ _ _ _ t
@@ -67,7 +66,7 @@ loop-left-preserved c =
           (subst
           (λ (z : ℕ). (rows : List Row) (k : ℕ) (before : List ℕ) → NumberPut rows c.args.number k before c.loop-left.out c.loop-left.so_far →
           Near rows (row z c.loop-left.entry (reason_of c.in-Some.reason)) →
-          NumberPut (rows ++ (row z c.loop-left.entry (reason_of c.in-Some.reason) ∷ [])) c.args.number k before c.put_reason-so_far.new.out c.put_reason-so_far.result)
+          NumberPut (rows ++ (row z c.loop-left.entry (reason_of c.in-Some.reason) ∷ [])) c.args.number k before c.put_final-so_far.new.out c.put_final-so_far.result)
           c.list_number.ensures made.put)),
     )
 

@@ -10,7 +10,8 @@ use Rattle.reasons.specs.Verdict.{Invalid}
 use Rattle.rules.specs.Judge.{Given, needed, judge_from}
 use Rattle.rules.specs.Trail.{trail_from}
 use Rattle.trail.specs.Call.{Told}
-use Rattle.trail.specs.Code.{ReasonOf, rows_over, Filled}
+use Rattle.trail_rows.specs.Code.{Filled}
+use Rattle.trail.specs.Code.{ReasonOf, rows_over}
 use Rattle.trail.proofs.CallLaws.{told-none, told-filled, told-short, other-rows, invalid-rows, alone_told}
 use Rattle.trail.proofs.call.trail_needed.Goals as goal
 use Rattle.trail.proofs.call.trail_needed.Goals.{After-then_some-alone}
@@ -42,10 +43,10 @@ returns-in_err-rows c =
     let e : c.from_residual-in_err-rows.result ≡ Err r = grind (arith, common_steps) in
     subst (Told _ _ _ _) (sym e)
     (told-short _ _ _ c.in_ok-verdict.verdict c.in_ok-verdict.ensures c.fill.new.trail r
-    (subst (λ l. Filled l c.args.trail.now c.fill.new.trail (Err r)) (sym (rows-are at)) (c.in_err-rows.ensures (said c.args.point.now) c.from.ensures)))
+    (subst (λ l. Filled 15 l c.args.trail.now c.fill.new.trail (Err r)) (sym (rows-are at)) (c.in_err-rows.ensures (said c.args.point.now) c.from.ensures)))
 
 pub returns : goal.returns
 returns c =
     let at = (goal.at.returns c).After-then_some-alone in
     told-filled _ _ _ c.in_ok-verdict.verdict c.in_ok-verdict.ensures c.fill.new.trail c.in_ok-rows.rows
-    (subst (λ l. Filled l c.args.trail.now c.fill.new.trail (Ok c.in_ok-rows.rows)) (sym (rows-are at)) (c.in_ok-rows.ensures (said c.args.point.now) c.from.ensures))
+    (subst (λ l. Filled 15 l c.args.trail.now c.fill.new.trail (Ok c.in_ok-rows.rows)) (sym (rows-are at)) (c.in_ok-rows.ensures (said c.args.point.now) c.from.ensures))

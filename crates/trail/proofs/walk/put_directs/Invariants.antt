@@ -5,9 +5,9 @@ use Rattle.judge_valid.specs.Code.{point_view_of}
 use Rattle.trail.proofs.WalkLaws.{Directs}
 use Rattle.trail.proofs.walk.put_directs.Given as goal
 
-abbrev pub invariant-loop-x : goal.invariant-loop-x
-invariant-loop-x l =
+abbrev pub invariant-loop-quick : goal.invariant-loop-quick
+invariant-loop-quick l =
     Directs (settings_of l.by.conf) l.by.required (point_view_of l.by.view) l.list l.initial.out l.out l.left l.rows l.entry
 
-abbrev pub decreases-loop-x : goal.decreases-loop-x
-decreases-loop-x l = length l.left
+abbrev pub decreases-loop-quick : goal.decreases-loop-quick
+decreases-loop-quick l = length l.left

@@ -6,8 +6,8 @@ use native.Mathlib.Omega.{arith}
 use mathlib.Core.Path.{ap}
 use Rattle.base.proofs.Lists.{rest}
 use Rattle.judge_entries.specs.Entry.{listed_of}
-use Rattle.judge_mismatch.proofs.Heads.{Next, next_of}
-use Rattle.trail.proofs.WalkLaws.{next-is, indirects_start, left_start, indirects-none, indirects-next, indirects_left, left_left, no-direct, left-room, left-next}
+use Rattle.judge_mismatch.proofs.Heads.{Next, next_of, next-is}
+use Rattle.trail.proofs.WalkLaws.{indirects_start, left_start, indirects-none, indirects-next, indirects_left, left_left, no-direct, left-room, left-next}
 use Rattle.trail.proofs.walk.put_indirects.Goals as goal
 use Rattle.trail.proofs.walk.put_indirects.Goals.{After-known_entry-x}
 
@@ -37,10 +37,10 @@ loop-left-preserved c =
     let n = first (goal.at.loop-left-preserved c).After-known_entry-x in
     let x = c.known_entry-x.result in (
       left_left _ _ _ _ (rest x.size c.loop-left.left.now)
-          (left-next _ _ _ c.loop-left.invariant.0 _ n c.in-Some.role _ c.in-Some.is (grind (arith, common_steps))),
+          (left-next _ _ _ c.loop-left.invariant.0 _ n c.in-Some.role _ c.in-Some.is c.put_indirect-rows.ensures.most),
       λ p v.
           indirects_left _ _ _ _ _ _ _ _ _ (rest x.size c.loop-left.left.now)
-          (indirects-next _ _ _ _ _ _ _ _ (c.loop-left.invariant.1 p v) _ n c.in-Some.role _ _ _ c.in-Some.is (rw (← v) c.indirect_reasons-reasons.ensures) c.put_reasons-rows.ensures.put),
+          (indirects-next _ _ _ _ _ _ _ _ (c.loop-left.invariant.1 p v) _ n c.in-Some.role _ _ c.in-Some.is (rw (← v) c.put_indirect-rows.ensures.put)),
     )
 
 pub returns-clause-put : goal.returns-clause-put

@@ -1,11 +1,11 @@
--- `put_reason` meets its contract, by the number of the reason.
+-- `put_final` meets its contract, by the number of the reason.
 use Rattle.std.proofs.lemmas.Grind.{common_steps}
 use Rattle.std.proofs.lemmas.Bool.Decides.{nat_tests}
 use native.Mathlib.Omega.{arith}
 use mathlib.Core.Path.{refl, sym, ◌∙◌}
 use Rattle.force_rows.proofs.WalkLaws.{greater_put, smaller_put, equal_put, new_put}
-use Rattle.force_rows.proofs.walk.put_reason.Goals as goal
-use Rattle.force_rows.proofs.walk.put_reason.Goals.{then-found-number-via-then-found-number, then-found-number-via-else-found-number+then-is_last}
+use Rattle.force_rows.proofs.walk.put_final.Goals as goal
+use Rattle.force_rows.proofs.walk.put_final.Goals.{then-found-number-via-then-found-number, then-found-number-via-else-found-number+then-is_last}
 
 pub returns-then-number-found-clause-put : goal.returns-then-number-found-clause-put
 returns-then-number-found-clause-put c =
