@@ -1,6 +1,12 @@
 //! Rounds of measuring, and their medians.
 
+use std::time::Duration;
+
 use inputs::clock::timed;
+
+/// Calls of one input: the most, and processor time after which no further one is made.
+const CALLS: usize = 31;
+const ENOUGH: Duration = Duration::from_millis(300);
 
 /// The times of every round, a way each; the first round only warms up.
 pub fn rounds<Way: Copy, const WAYS: usize>(
@@ -26,6 +32,18 @@ pub fn median<const WAYS: usize>(rounds: &[[f64; WAYS]], of: impl Fn(&[f64; WAYS
     let mut sorted: Vec<f64> = rounds.iter().map(of).collect();
     sorted.sort_unstable_by(f64::total_cmp);
     sorted[sorted.len() / 2]
+}
+
+/// What a call gives, and the median of its times. Another's are not taken in between, so that its input stays in the caches.
+pub fn repeated(mut call: impl FnMut() -> (u8, Duration)) -> (u8, Duration) {
+    let (mut times, mut number, mut all) = (Vec::new(), 0, Duration::ZERO);
+    while times.len() < CALLS && all < ENOUGH {
+        let (given, took) = call();
+        times.push(took);
+        (number, all) = (given, all + took);
+    }
+    times.sort_unstable();
+    (number, times[times.len() / 2])
 }
 
 /// Nanoseconds a call of the processor's time. Every call has to give true.

@@ -3,7 +3,7 @@
 use std::hint::black_box;
 
 use cases::random::Random;
-use inputs::call::Call;
+use inputs::call::{Call, entry_count, judged_list};
 use inputs::dear::Shape;
 use inputs::faults::{FULL, VERSIONS, full, versions};
 use oracle::PEER_BUFFER;
@@ -17,20 +17,21 @@ use crate::rounds::{count, median, rounds};
 const POINTS: usize = 2;
 /// Versions of the author's point in the long lists; the longest list of all has 65,535 entries.
 const LENGTHS: [usize; 2] = [1_000, 65_000];
-/// Entries of the dearest inputs of judging.
+/// Entries of the dearest inputs.
 const DEAR: usize = 2_000;
 
 const WORDS: &str = "
-Judging with a trail. Microseconds a call, medians of the rounds; each round runs both calls over the same points one after
-another. The trail has room for ten rows an entry; a ratio is the trail's time divided by judging's in the same round.
+Judging with a trail. Microseconds a call, medians of the rounds; each round runs the calls over the same points one after
+another. In \"trail\" the trail has eight bytes more than the list, which is room for certain, in \"exact\" as many as the rows take; a
+ratio is its time divided by judging's in the same round.
   full maps   every dependency, and the targets of two indirect links, each one with full maps
   versions    so many other points of the author in the round before, and four peers' dependencies; by rising digests or in any order
-  dearest     the dearest inputs of judging that were found, with 2,000 entries at most
+  dearest     the dearest inputs of judging and of the trail that were found, with 2,000 entries at most
 ";
 
 const HEADER: [&str; 2] = [
-    "                                                                                  microseconds a call          nanoseconds",
-    "input                                                  bytes  entries     rows     judge     trail   ratio     a row more",
+    "                                                                                   microseconds a call            ratio to judge",
+    "input                                                  bytes  entries     rows     judge     trail     exact     trail   exact",
 ];
 
 pub fn table(counts: &[usize]) -> Result<(), String> {
@@ -52,8 +53,9 @@ pub fn table(counts: &[usize]) -> Result<(), String> {
             }
         }
     }
-    for shape in Shape::all() {
-        if let Call::Case(case @ Case::Judge { .. }) = shape.make(&mut Random::new(1, 0), shape.most.min(DEAR)).call {
+    for shape in Shape::answered() {
+        let call = shape.make(&mut Random::new(1, 0), shape.most.min(DEAR)).call;
+        if let Call::Case(case @ Case::Judge { .. }) | Call::Trail { case, .. } = call {
             Inputs::new(format!("dearest: {}", shape.name), vec![case])?.row(1, 31)?;
         }
     }
@@ -64,9 +66,10 @@ pub fn table(counts: &[usize]) -> Result<(), String> {
 enum Way {
     Judge,
     Trail,
+    Exact,
 }
 
-const WAYS: [Way; 2] = [Way::Judge, Way::Trail];
+const WAYS: [Way; 3] = [Way::Judge, Way::Trail, Way::Exact];
 
 /// Points that are judged in turn, and what each has to give.
 struct Inputs {
@@ -81,8 +84,8 @@ struct Inputs {
 
 impl Inputs {
     fn new(name: String, cases: Vec<Case>) -> Result<Self, String> {
-        let entries = cases.iter().map(entries).max().unwrap_or(0);
-        let trail = vec![0; 10 * ROW * (entries + 1)];
+        let entries = cases.iter().map(entry_count).max().unwrap_or(0);
+        let trail = vec![0; cases.iter().map(|case| judged_list(case).len()).max().unwrap_or(0) + ROW];
         let mut inputs = Self { name, cases, given: Vec::new(), peers: vec![0; PEER_BUFFER as usize], trail, entries };
         for place in 0..inputs.cases.len() {
             let (given, rows) = inputs.call(Way::Trail, place);
@@ -110,41 +113,36 @@ impl Inputs {
                 number == given[place].0 && (matches!(way, Way::Judge) || rows == given[place].1)
             })
         })?;
-        let [judge, trail] = WAYS.map(|way| median(&rounds, |times| times[way as usize]));
-        let ratio = median(&rounds, |[judge, trail]| trail / judge);
-        let (rows, size) = (given[0].1, self.cases[0].size());
-        let more = if rows == 0 { String::new() } else { format!("{:.1}", (trail - judge) / f64::from(rows)) };
+        let [judge, trail, exact] = WAYS.map(|way| median(&rounds, |times| times[way as usize]) / 1e3);
+        let [_, ratio, exact_ratio] =
+            WAYS.map(|way| median(&rounds, |times| times[way as usize] / times[Way::Judge as usize]));
         println!(
-            "{:52} {size:8} {:8} {rows:8}  {:8.1}  {:8.1}  {ratio:6.3}  {more:>12}",
+            "{:52} {:8} {:8} {:8}  {judge:8.1}  {trail:8.1}  {exact:8.1}  {ratio:8.3}  {exact_ratio:6.3}",
             self.name,
+            self.cases[0].size(),
             self.entries,
-            judge / 1e3,
-            trail / 1e3
+            given[0].1
         );
         Ok(())
     }
 
     /// The number, and by the trail's call how many rows.
     fn call(&mut self, way: Way, place: usize) -> (u8, u32) {
-        let Self { cases, peers, trail, .. } = self;
+        let Self { cases, peers, trail, given, .. } = self;
+        // as many bytes as the call gave rows when it was first made
+        let room = if matches!(way, Way::Exact) { ROW * given[place].1 as usize } else { trail.len() };
         let Case::Judge { settings, schedule, record, leader, presence, list, .. } = black_box(&cases[place]) else {
             unreachable!("all are judge cases")
         };
         let (mut answer, mut rows) = ([0; ANSWER], 0);
         let number = match way {
             Way::Judge => lent::judge(settings, schedule, record, *leader, *presence, list, peers, &mut answer),
-            Way::Trail => {
+            Way::Trail | Way::Exact => {
+                let trail = &mut trail[..room];
                 lent::trail(settings, schedule, record, *leader, *presence, list, peers, trail, &mut rows, &mut answer)
             }
         };
         black_box(answer);
         (number, rows)
-    }
-}
-
-fn entries(case: &Case) -> usize {
-    match case {
-        Case::Judge { list, .. } => oracle::read::list(list).map_or(0, |entries| entries.len()),
-        Case::Verify { .. } => 0,
     }
 }

@@ -13,22 +13,22 @@ use oracle::question::Question;
 use wutherdish::lent::{self, ANSWER};
 
 use crate::once::result_of;
+use crate::rounds::repeated;
 
 /// Shapes that can be longer are made with half of this count and with this count first.
 const START: usize = 8_192;
 /// A shape is made with its greatest count if it would take no longer by the square of its count.
-const BOUND: Duration = Duration::from_secs(2);
-/// Calls of one row: the most, and processor time after which no further one is made.
-const CALLS: usize = 31;
-const ENOUGH: Duration = Duration::from_millis(100);
+const BOUND: Duration = Duration::from_secs(5);
 
 const WORDS: &str = "\
 The dearest inputs that were found. Bytes are all that the call is lent to read, entries those of the list or the book,
 in verify the rows of the maps; times are the processor's, medians of up to 31 calls. Where a shape can be longer and would
-then take over 2 s by the square of its count, it stands here with 4,096 and 8,192 entries; `bench worst full` runs it whole.
+then take over 5 s by the square of its count, it stands here with 4,096 and 8,192 entries; `bench worst full` runs it whole.
+Beside a call that judges and then looks at the list again stands what judging takes of the same, and how many times of it the call;
+a trail, and a list of what can be forced, has room for all rows but not for certain, so that they are counted before they are written.
 
-| call | input | bytes | entries | number | µs | ns a byte | ns an entry |
-|---|---|---|---|---|---|---|---|";
+| call | input | bytes | entries | number | µs | ns a byte | ns an entry | judging µs | times |
+|---|---|---|---|---|---|---|---|---|---|";
 
 /// Prints a row for each shape, or two.
 pub fn table(full: bool) -> Result<(), String> {
@@ -68,31 +68,39 @@ struct Row {
     entries: usize,
     number: u8,
     took: Duration,
+    /// What judging alone took, of a call that judges first.
+    judging: Option<Duration>,
 }
 
 impl Row {
     fn measure(shape: &Shape, count: usize) -> Self {
         let Made { call, entries } = shape.make(&mut Random::new(1, 0), count);
-        let (mut times, mut number, mut all) = (Vec::new(), 0, Duration::ZERO);
-        while times.len() < CALLS && all < ENOUGH {
-            let mut lent = Lent::new(&call);
-            let (given, took) = timed(|| lent.call(&call));
-            times.push(took);
-            (number, all) = (given, all + took);
-        }
-        times.sort_unstable();
+        let (number, took) = median(&call);
+        let judging = call.judging().map(|judging| median(&judging).1);
         let bytes = call.inputs().iter().map(|(_, bytes)| bytes.len()).sum::<usize>() + Lent::new(&call).book.len();
-        Self { call: Call::NAMES[call.kind()], bytes, entries, number, took: times[times.len() / 2] }
+        Self { call: Call::NAMES[call.kind()], bytes, entries, number, took, judging }
     }
 
     fn print(&self, shape: &Shape) {
-        let Self { call, bytes, entries, number, took } = self;
+        let Self { call, bytes, entries, number, took, judging } = self;
         let nanoseconds = took.as_nanos() as f64;
         let each = if *entries == 0 { String::new() } else { format!("{:.0}", nanoseconds / *entries as f64) };
         let name = if shape.is_typical { format!("typical: {}", shape.name) } else { shape.name.to_string() };
         print!("| {call} | {name} | {bytes} | {entries} | {number} | {:.1} ", nanoseconds / 1e3);
-        println!("| {:.2} | {each} |", nanoseconds / *bytes as f64);
+        print!("| {:.2} | {each} |", nanoseconds / *bytes as f64);
+        match judging.map(|took| took.as_nanos() as f64) {
+            Some(judging) => println!(" {:.1} | {:.2} |", judging / 1e3, nanoseconds / judging),
+            None => println!(" | |"),
+        }
     }
+}
+
+/// What a call gives, and the median of its times.
+fn median(call: &Call) -> (u8, Duration) {
+    repeated(|| {
+        let mut lent = Lent::new(call);
+        timed(|| lent.call(call))
+    })
 }
 
 /// What a call may write.

@@ -6,7 +6,7 @@ use cases::{case, forcing, many, waiting};
 use compare::damage::{damaged, judge_damaged};
 use compare::kind::{as_judge, as_verify};
 use compare::permute::permuted;
-use inputs::call::Call;
+use inputs::call::{Call, judged_list};
 use inputs::dear::Shape;
 use oracle::question::Question;
 use plain::Prepared;
@@ -120,12 +120,22 @@ fn composed(seed: u64, place: u64) -> Call {
     Call::Compose { draft: Box::new(draft), length: room }
 }
 
-/// Mostly with a trail that ends with the rows or is a little longer or shorter, else with one of any length.
+/// Mostly with a trail that ends with the rows or is a little longer or shorter, else with one that has room for certain or a byte less,
+/// or with one of any length.
 fn trailed(random: &mut Random, seed: u64, place: u64) -> Call {
     let case = if random.chance(1, 4) { judge_damaged(seed, place) } else { many::case(seed, place) };
     let rooms = rooms(Prepared::new(&case).trail(None).1.len());
-    let length = if random.chance(1, 8) { random.below(1_000) } else { random.pick(&rooms) };
+    let length = match random.below(8) {
+        0 => random.below(1_000),
+        1 => random.pick(&certain_rooms(judged_list(&case))),
+        _ => random.pick(&rooms),
+    };
     Call::Trail { case, length }
+}
+
+/// A byte less than is room for the rows of a list for certain, and just that.
+fn certain_rooms(list: &[u8]) -> [usize; 2] {
+    [list.len() + 7, list.len() + 8]
 }
 
 /// What would clear a point that mostly waits, and what the network can force where several entries mostly have reasons; or both of
@@ -135,15 +145,22 @@ fn asked(random: &mut Random, seed: u64, place: u64) -> Vec<Call> {
     let [clearing, force] = match random.below(4) {
         0 => [judge_damaged(seed, place), judge_damaged(seed, place)],
         _ => [waiting(seed, place), forcing(seed, place)],
-    };
-    let length = random.pick(&[0, 7, 8, 9, 15, 16, 24, 29, 32, 1_000]);
-    vec![Call::Clearing(question(clearing)), Call::Force { question: question(force), length }]
+    }
+    .map(question);
+    let [less, certain] = certain_rooms(&force.list);
+    let length = random.pick(&[0, 7, 8, 9, 15, 16, 24, 29, 32, 1_000, less, certain]);
+    vec![Call::Clearing(clearing), Call::Force { question: force, length }]
 }
+
+/// The most entries or peers where the model judges again for each entry.
+const ASKED: usize = 64;
 
 /// A call of any shape; one in four is as long as may be.
 fn dear(random: &mut Random) -> Call {
-    let shape = random.pick(&Shape::all());
-    let count = if random.chance(1, 4) { shape.most } else { random.below(shape.most + 1) };
+    let (shapes, bound) = if random.chance(1, 4) { (Shape::asking(), ASKED) } else { (Shape::answered(), usize::MAX) };
+    let shape = random.pick(&shapes);
+    let most = shape.most.min(bound);
+    let count = if random.chance(1, 4) { most } else { random.below(most + 1) };
     shape.make(random, count).call
 }
 

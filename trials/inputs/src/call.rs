@@ -96,6 +96,19 @@ impl Lent {
     }
 }
 
+/// The list by which a case is judged; none of one that is verified.
+pub fn judged_list(case: &Case) -> &[u8] {
+    match case {
+        Case::Judge { list, .. } => list,
+        Case::Verify { .. } => &[],
+    }
+}
+
+/// How many entries it has.
+pub fn entry_count(case: &Case) -> usize {
+    oracle::read::list(judged_list(case)).map_or(0, |entries| entries.len())
+}
+
 impl Call {
     pub const NAMES: [&str; 10] = [
         "verify",
@@ -123,6 +136,17 @@ impl Call {
             Self::Trail { .. } => 7,
             Self::Clearing(_) => 8,
             Self::Force { .. } => 9,
+        }
+    }
+
+    /// Judging by the same list, of a call that judges first and then looks at the list again.
+    pub fn judging(&self) -> Option<Self> {
+        match self {
+            Self::Trail { case, .. } => Some(Self::Case(case.clone())),
+            Self::Clearing(question) | Self::Force { question, .. } => {
+                Some(Self::Case(question.judging(question.list.clone())))
+            }
+            _ => None,
         }
     }
 

@@ -1,5 +1,6 @@
 //! Inputs that cost much for their length, of every call, beside typical ones.
 
+mod clearing;
 mod compose;
 mod convert;
 mod force;
@@ -11,9 +12,12 @@ mod trail;
 mod verify;
 
 use cases::random::Random;
+use oracle::file::Case;
+use oracle::question::Question;
+use oracle::row::Row;
 use oracle::value::{AnchorLink, Digest, Id, Peer, Point, PointRole, Through};
 
-use crate::call::Call;
+use crate::call::{Call, entry_count, judged_list};
 use crate::points::{ANCHOR_TIME, GENESIS, judged, set};
 
 /// A kind of inputs.
@@ -43,12 +47,22 @@ impl Shape {
 
     /// All shapes; those of a call stand together, a typical one first.
     pub fn all() -> Vec<Self> {
+        [Self::answered(), Self::asking()].concat()
+    }
+
+    /// Those whose answers the oracle gives by judging once at most.
+    pub fn answered() -> Vec<Self> {
         let judging = [&verify::SHAPES[..], &judge::SHAPES, &trail::SHAPES].concat();
         let offering = [&offer::SHAPES[..], &spread::SHAPES].concat();
         [judging, offering, convert::SHAPES.to_vec(), compose::SHAPES.to_vec()].concat()
     }
 
-    /// Lists to judge by, and such with reasons of more than one number, which the network can choose from.
+    /// Those for whose answers it judges again for each entry: what clears a point, and what the network can force.
+    pub fn asking() -> Vec<Self> {
+        [&clearing::SHAPES[..], &force::SHAPES].concat()
+    }
+
+    /// Lists to judge by, and those by which the network can force reasons.
     pub fn lists() -> Vec<Self> {
         [&judge::SHAPES[..], &force::SHAPES].concat()
     }
@@ -57,6 +71,31 @@ impl Shape {
     pub fn make(&self, random: &mut Random, count: usize) -> Made {
         (self.make)(random, count.min(self.most))
     }
+}
+
+impl Made {
+    /// Judging by a case's list.
+    fn of(case: Case) -> Self {
+        let entries = entry_count(&case);
+        Self { call: Call::Case(case), entries }
+    }
+
+    /// The list that is judged, to another call, which is made of it and of how many entries it has.
+    fn to(self, call: fn(Case, usize) -> Call) -> Self {
+        let Call::Case(case) = self.call else { unreachable!("the list is judged") };
+        Self { call: call(case, self.entries), entries: self.entries }
+    }
+}
+
+/// Bytes of so many rows an entry, but no more than the list has: all rows fit then, but not for certain, which takes eight bytes more
+/// than the list. So the call counts them before it writes any, and has the most to do.
+fn room(case: &Case, entries: usize, rows: usize) -> usize {
+    (rows * size_of::<Row>() * entries).min(judged_list(case).len())
+}
+
+/// What is asked of a case that is judged.
+fn question(case: Case) -> Question {
+    Question::of(case).expect("a case that is judged")
 }
 
 /// A set, and a point of it.

@@ -42,6 +42,22 @@ pub const FULL: [Faults; 9] = [
     },
 ];
 
+/// How many rows the trail's call keeps from counting them: where there are more, and no room for certain, it walks a list once more to
+/// write them.
+pub const KEPT: usize = 256;
+
+/// More rows than are kept. The other entries give none, which judging and the trail's walk tell by a quick test; but a walk reads each
+/// record again, which takes half of what judging takes where records are short, whether they give reasons or not.
+pub const FIRST_ALONE: Faults = Faults {
+    name: "three reasons of each of the first 86 entries alone, short records of 253 peers",
+    change: |random, point, list| {
+        link_to_prev(point, list);
+        points(list, |dependency| shorten(random, dependency));
+        let first = list.len().min(KEPT / 3 + 1);
+        points(&mut list[..first], late_and_newer);
+    },
+};
+
 /// A point with full maps of so many peers, and a list of all its dependencies and targets in which entries give reasons.
 pub fn full(faults: Faults, peers: usize, place: usize) -> Case {
     let random = &mut Random::new(peers as u64, 3 + place as u64);
@@ -115,7 +131,7 @@ fn states(list: &mut [Entry], state: fn(Id) -> State) {
     }
 }
 
-fn points(list: &mut [Entry], change: impl Fn(&mut Point)) {
+fn points(list: &mut [Entry], mut change: impl FnMut(&mut Point)) {
     for entry in list {
         if let State::Valid(point) = &mut entry.state {
             change(point);
@@ -132,13 +148,27 @@ fn late_and_newer(point: &mut Point) {
     point.anchor_trigger.to = to;
 }
 
-/// Both links of the point are direct ones to its previous point, which gives nine reasons then, as many as one entry can; the others
-/// give three.
+/// The previous point gives nine reasons, as many as one entry can; the others give three.
 fn all_reasons(point: &mut Point, list: &mut Vec<Entry>) {
-    list.retain(|entry| entry.indirect.is_none());
-    let link = AnchorLink { through: Through::Includes, peer: point.id.author, to: None };
-    point.anchor_proof = link;
-    point.anchor_trigger = link;
-    point.role = PointRole::Regular;
+    link_to_prev(point, list);
     points(list, late_and_newer);
+}
+
+/// Both links of the point are direct ones to its previous point.
+fn link_to_prev(point: &mut Point, list: &mut Vec<Entry>) {
+    list.retain(|entry| entry.indirect.is_none());
+    (point.anchor_proof, point.anchor_trigger) = direct_links(point.id.author);
+    point.role = PointRole::Regular;
+}
+
+/// Both links are direct ones through the only row.
+fn shorten(random: &mut Random, point: &mut Point) {
+    let row = (random.bytes(), random.bytes());
+    (point.includes, point.witness, point.evidence) = (vec![row], Vec::new(), Vec::new());
+    (point.anchor_proof, point.anchor_trigger) = direct_links(row.0);
+}
+
+fn direct_links(peer: Peer) -> (AnchorLink, AnchorLink) {
+    let link = AnchorLink { through: Through::Includes, peer, to: None };
+    (link, link)
 }

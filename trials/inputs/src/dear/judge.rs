@@ -3,7 +3,7 @@
 use cases::random::Random;
 use oracle::PEER_BUFFER;
 use oracle::file::Case;
-use oracle::value::{Digest, Entry, Id, Peer, State};
+use oracle::value::{Digest, Entry, Id, Peer, Point, State};
 use oracle::write;
 
 use super::{Made, Of, Shape, alike, ends_alike, shortest, without_prev};
@@ -71,12 +71,27 @@ fn full_maps(random: &mut Random, set: Vec<Peer>) -> Made {
 }
 
 /// Entries of the author's points in the round before.
-fn versions(random: &mut Random, count: usize, digest: fn(&mut Random) -> Digest, state: fn(Id) -> State) -> Made {
+pub(super) fn versions(
+    random: &mut Random,
+    count: usize,
+    digest: fn(&mut Random) -> Digest,
+    state: fn(Id) -> State,
+) -> Made {
     let of = without_prev(random, 4);
-    let author = of.1.id.author;
-    let version = |_| entry(state(Id { round: ROUND - 1, digest: digest(random), author }));
-    let entries = (0..count).map(version).collect();
+    let entries = versions_of(random, &of.1, count, digest, |_, id| entry(state(id)));
     made(random, &of, entries)
+}
+
+/// These alone, each made by its place.
+pub(super) fn versions_of(
+    random: &mut Random,
+    point: &Point,
+    count: usize,
+    digest: fn(&mut Random) -> Digest,
+    version: impl Fn(usize, Id) -> Entry,
+) -> Vec<Entry> {
+    let author = point.id.author;
+    (0..count).map(|place| version(place, Id { round: ROUND - 1, digest: digest(random), author })).collect()
 }
 
 /// Entries that are not the point's: number 8, after all of the list is read and judged.
@@ -98,10 +113,26 @@ fn fronts_alike(random: &mut Random) -> Digest {
 }
 
 /// These entries, then the point's own.
-pub(super) fn made(random: &mut Random, (set, point): &Of, mut entries: Vec<Entry>) -> Made {
-    entries.extend(list_of(random, set, point));
+pub(super) fn made(random: &mut Random, of: &Of, mut entries: Vec<Entry>) -> Made {
+    entries.extend(list_of(random, &of.0, &of.1));
+    whole(random, of, &entries)
+}
+
+/// The point's own entries without maps.
+pub(super) fn short_list_of(random: &mut Random, set: &[Peer], point: &Point) -> Vec<Entry> {
+    let mut list = list_of(random, set, point);
+    for entry in &mut list {
+        if let State::Valid(point) = &mut entry.state {
+            (point.includes, point.witness, point.evidence) = Default::default();
+        }
+    }
+    list
+}
+
+/// These entries alone.
+pub(super) fn whole(random: &mut Random, (set, point): &Of, entries: &[Entry]) -> Made {
     let Bytes { settings, schedule, .. } = with_records(random, set.clone(), Vec::new());
-    let (record, list) = (write::record(point), write::list(&entries));
+    let (record, list) = (write::record(point), write::list(entries));
     let case = Case::Judge { settings, schedule, record, leader: 0, presence: 3, list, peer_buffer: PEER_BUFFER };
     Made { call: Call::Case(case), entries: entries.len() }
 }
