@@ -27,6 +27,11 @@ pub fn rooms(rows: usize) -> Vec<usize> {
     rooms
 }
 
+/// A byte less than is room for all rows over a list for certain, and just that.
+pub fn certain_rooms(list: &[u8]) -> [usize; 2] {
+    [list.len() + ROW - 1, list.len() + ROW]
+}
+
 /// An answer and the rows beside it.
 #[derive(Clone, PartialEq, Eq, Debug)]
 pub struct Trail {

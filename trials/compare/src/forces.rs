@@ -12,6 +12,7 @@ use oracle::file::blobs;
 use oracle::forcing::{FORCE, ROW, Row, SHORT_ROWS, answer_bytes, found, over_orders, rows_bytes};
 use oracle::question::Question;
 use oracle::{Answer, read};
+use trail::certain_rooms;
 use wutherdish::lent;
 
 use crate::book_file::not_whole;
@@ -19,6 +20,8 @@ use crate::difference::answer;
 use crate::lent::{FILL, Lent};
 use crate::report::{self, hex};
 
+/// The longest output whose bytes are changed one by one, each change seen as a difference.
+const NOTICED: usize = 256;
 /// Entries of the longest list of which every order is judged, and of the longest that is looked at.
 const ALL_ORDERS: usize = 6;
 const LONGEST: usize = 40;
@@ -176,7 +179,9 @@ impl Forces {
         if let Some(why) = left.difference(&expected) {
             return Err(format!("{why}\n{}", report::question(question)));
         }
-        self.noticed += notice(&left).ok_or("a changed byte is no difference")?;
+        if room <= NOTICED {
+            self.noticed += notice(&left).ok_or("a changed byte is no difference")?;
+        }
         match (&rows, &by_rust) {
             (Err(SHORT_ROWS), _) => self.refused[1] += 1,
             (Err(_), _) => self.refused[0] += 1,
@@ -236,17 +241,18 @@ impl Forces {
             return Ok(());
         }
         let random = &mut Random::new(seed, place);
-        self.question(&question, |length| room(random, length)).map(|_| ())
+        self.question(&question, |length| room(random, &question.list, length)).map(|_| ())
     }
 }
 
-/// The rows' length, or a longer one; in one of four places a shorter one, if there is any.
-fn room(random: &mut Random, length: usize) -> usize {
+/// The rows' length, or a longer one, also what is room for certain, or a byte less; in one of four places a shorter one, if there is any.
+fn room(random: &mut Random, list: &[u8], length: usize) -> usize {
     if length > 0 && random.chance(1, 4) {
         let any = random.below(length);
         return random.pick(&[length - 1, length - ROW, 0, any]);
     }
-    length + random.pick(&[0, 0, 1, 7, 8, 31])
+    let [less, certain] = certain_rooms(list);
+    random.pick(&[length, length, length + 1, length + 7, length + 8, length + 31, less, certain])
 }
 
 /// Each change of what a call left is a difference; how many there were.

@@ -9,7 +9,7 @@ use compare::run::{Counts, Range, run};
 use oracle::file::{Case, blobs};
 use oracle::numbers::ROWS;
 use oracle::row::Row;
-use trail::{ROW, TRAIL, rooms, trail};
+use trail::{ROW, TRAIL, certain_rooms, rooms, trail};
 use wutherdish::lent::{self, ANSWER};
 
 use crate::book_file::not_whole;
@@ -23,6 +23,8 @@ const COUNT: u32 = u32::from_ne_bytes([FILL; 4]);
 const BLOCK: u64 = 256;
 /// One place in so many is a damaged judge case.
 const DAMAGED: u64 = 8;
+/// One place in so many is also judged with a trail that has room for certain, and with one of a byte less.
+const CERTAIN: u64 = 16;
 /// Of so many places of a seed what the call left is changed, a byte at a time.
 const CHANGED: u64 = 16;
 
@@ -183,13 +185,16 @@ impl Trails {
     /// shorter, one that is a row shorter and none.
     fn place(&mut self, seed: u64, place: u64) -> Result<(), String> {
         let case = if place.is_multiple_of(DAMAGED) { judge_damaged(seed, place) } else { many::case(seed, place) };
+        let Case::Judge { list, .. } = &case else { unreachable!("all are judge cases") };
         let trail = trail(&case)?;
-        for room in rooms(trail.rows.len()) {
+        let tight = rooms(trail.rows.len());
+        let certain = certain_rooms(list).into_iter().filter(|_| place.is_multiple_of(CERTAIN));
+        for room in tight.iter().copied().chain(certain) {
             let in_room = trail.clone().in_room(room);
             let given = Expected::new(&in_room.answer).ok_or("a panic is no answer")?;
             let left = compare(&case, room, &given, &in_room.rows)?;
             self.add(&left);
-            if place < CHANGED {
+            if place < CHANGED && tight.contains(&room) {
                 self.noticed += notice(&left).ok_or("a changed byte is no difference")?;
             }
         }

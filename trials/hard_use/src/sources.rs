@@ -10,7 +10,7 @@ use inputs::call::{Call, judged_list};
 use inputs::dear::Shape;
 use oracle::question::Question;
 use plain::Prepared;
-use trail::rooms;
+use trail::{certain_rooms, rooms};
 
 use crate::fronts::share_fronts;
 use crate::{converted, opening, small_book, wild};
@@ -131,11 +131,6 @@ fn trailed(random: &mut Random, seed: u64, place: u64) -> Call {
         _ => random.pick(&rooms),
     };
     Call::Trail { case, length }
-}
-
-/// A byte less than is room for the rows of a list for certain, and just that.
-fn certain_rooms(list: &[u8]) -> [usize; 2] {
-    [list.len() + 7, list.len() + 8]
 }
 
 /// What would clear a point that mostly waits, and what the network can force where several entries mostly have reasons; or both of
