@@ -2,6 +2,7 @@
  * Wutherdish: verdicts on Tycho points, as calls for other languages.
  *
  * The library is target/staticlib/libwutherdish.a: ./setup has `rt lib` make it in crates/wutherdish_c, and copies it there.
+ * From outside it needs memcpy and memset, and nothing else.
  * docs/FORMAT.md says what the bytes of settings, schedules, records, lists and books mean.
  *
  * The host's duties. The library judges what it is handed; whether that is true it can't tell. Before it hands a point

@@ -102,17 +102,21 @@ module _ {s : List ℕ} {x : Index} {top history n : ℕ} {w : Walk} (c : Chaine
           ];
         }
 
--- no entry yet
+-- no entry yet, where the heads up to the history are none
+pub chained_none : {s : List ℕ} {x : Index} {top history : ℕ} {w : Walk} → ((d : ℕ) → d ≤ history → get_or w.heads d 0 ≡ 0) → Chained s x top history 0 w
+chained_none unlinked =
+    record {
+      last = λ d h. let z = unlinked d h in
+          record { within = omega arith; there = λ j e. absurd (omega arith); past = λ j a b e. absurd (omega arith) };
+      before = λ j d a b e. absurd (omega arith);
+    }
+
+-- as those of a fresh walk are
 zeros_read : (d : ℕ) → ◌≡◌ {A = ℕ} (get_or (replicate 256 0) d 0) 0
 zeros_read d = elim (dec_lt d 256) [
   | yes lt ↦ get_or-replicate 256 d 0 0 lt
   | no f ↦ (let far : length {A = ℕ} (replicate 256 0) ≤ d = omega (arith, length-replicate {A = ℕ} 256 0) in get_or-eq_default {A = ℕ} (replicate 256 0) 0 far)
 ]
 
-pub chained_none : {s : List ℕ} {x : Index} {top history : ℕ} {w : Walk} → IsFresh w → Chained s x top history 0 w
-chained_none fresh =
-    record {
-      last = λ d h. let z = ap (λ (l : List ℕ). get_or l d 0) fresh.unlinked ∙ zeros_read d in
-          record { within = omega arith; there = λ j e. absurd (omega arith); past = λ j a b e. absurd (omega arith) };
-      before = λ j d a b e. absurd (omega arith);
-    }
+pub heads_none : (w : Walk) → IsFresh w → (d : ℕ) → get_or w.heads d 0 ≡ 0
+heads_none w fresh d = ap (λ (l : List ℕ). get_or l d 0) fresh.unlinked ∙ zeros_read d

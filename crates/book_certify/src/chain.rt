@@ -1,7 +1,7 @@
 // Chains the entries by their depths.
-ghost use Rattle.std.specs.Prelude.{◌+◌, ◌<◌};
+ghost use Rattle.std.specs.Prelude.{ℕ, ◌≡◌, ◌+◌, ◌<◌, ◌≤◌, get_or};
 ghost use Rattle.id_index.specs.Code.{count_of, Places};
-ghost use Rattle.book_certify.specs.Code.{IsFresh, Chained, SameReached};
+ghost use Rattle.book_certify.specs.Code.{Chained, SameReached};
 
 use crate::Walk;
 use crate::spread::Spread;
@@ -32,7 +32,7 @@ impl Walk {
 
     pub fn chain_all(&mut self, by: &Spread)
         requires places { Places by.now.book.now by.now.index.now }
-        requires fresh { IsFresh self.old }
+        requires unlinked { (d : ℕ) → d ≤ by.now.conf.commit_history_rounds → get_or self.old.heads d 0 ≡ 0 }
         ensures chained { Chained by.now.book.now by.now.index.now by.now.prev.round
             by.now.conf.commit_history_rounds (count_of by.now.index.now) self.new }
         ensures same_reached { SameReached self.old self.new }

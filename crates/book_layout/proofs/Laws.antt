@@ -1,7 +1,10 @@
 -- Laws of one entry: runs of zeros, the steps of reading it, and how its bytes are put together.
 use Rattle.std.specs.Prelude.{Option, None, Some, option_map, is_some}
 use Rattle.std.specs.Bool.{then_some}
-use Prim.Native.Nat.{ℕ, zero, suc, max, ◌+◌, ◌≤◌, ◌<◌}
+use Rattle.std.specs.List.{list_all}
+use Rattle.std.specs.Simd.{first_chunks}
+use Rattle.std.proofs.lemmas.List.{drop-drop}
+use Prim.Native.Nat.{ℕ, zero, suc, max, ◌+◌, ◌*◌, ◌≤◌, ◌<◌}
 use native.Mathlib.Omega.{arith}
 use native.Mathlib.Decide.{ℕ_discrete}
 use native.Mathlib.Numerals.{add-one}
@@ -47,6 +50,28 @@ pub zeros_greatest : (s : List ℕ) → eqb (greatest s) 0 ≡ is_zeros s
 unfolding is_zeros
 zeros_greatest [] = refl
 zeros_greatest (x ∷ s) = max_zero x (greatest s) ∙ rw (zeros_greatest s)
+
+and_assoc : (a b c : Bool) → ((a && b) && c) ≡ (a && (b && c))
+and_assoc true b c = refl
+and_assoc false b c = refl
+
+-- bytes are zeros if those at the front and those after them are
+zeros_parts : (n : ℕ) (s : List ℕ) → (is_zeros (take n s) && is_zeros (drop n s)) ≡ is_zeros s
+unfolding is_zeros
+zeros_parts zero s = refl
+zeros_parts (suc n) [] = refl
+zeros_parts (suc n) (x ∷ s) = and_assoc (eqb x 0) (is_zeros (take n s)) (is_zeros (drop n s)) ∙ ap (λ b. eqb x 0 && b) (zeros_parts n s)
+
+-- the same by lines of n bytes
+pub zeros_lines : (n k : ℕ) (s : List ℕ) → (list_all is_zeros (first_chunks n k s) && is_zeros (drop (k * n) s)) ≡ is_zeros s
+zeros_lines n zero s = let e : zero * n ≡ 0 = omega arith in rw e
+zeros_lines n (suc k) s =
+    let e : suc k * n ≡ n + k * n = omega arith in
+    let rest : is_zeros (drop (suc k * n) s) ≡ is_zeros (drop (k * n) (drop n s)) = ap is_zeros (ap (λ m. drop m s) e ∙ sym (drop-drop (k * n) n s)) in
+    ap (λ b. (is_zeros (take n s) && list_all is_zeros (first_chunks n k (drop n s))) && b) rest
+    ∙ and_assoc (is_zeros (take n s)) (list_all is_zeros (first_chunks n k (drop n s))) (is_zeros (drop (k * n) (drop n s)))
+    ∙ ap (λ b. is_zeros (take n s) && b) (zeros_lines n k (drop n s))
+    ∙ zeros_parts n s
 
 by_one : (s : List ℕ) (at : ℕ) → at < length s → is_zeros (drop at s) ≡ (eqb (get_or s at 0) 0 && is_zeros (drop (at + 1) s))
 unfolding is_zeros
@@ -216,7 +241,7 @@ module _ (s part : List ℕ) (n : ℕ) (e : record_end s ≡ Some n) (p : part �
       pub front_no_entry : is_some (read_kept part q tag) ≡ false → kept_front s ≡ None
       front_no_entry d = front_read ∙ rw (unfound (read_kept part q tag) d)
 
-      front-entry-to : is_some (read_kept part q tag) ≡ true → EntryTo s n
+      pub front-entry-to : is_some (read_kept part q tag) ≡ true → EntryTo s n
       front-entry-to d = go (read_kept part q tag) refl d
         where
           go : (o : Option Kept) → read_kept part q tag ≡ o → is_some o ≡ true → EntryTo s n

@@ -68,7 +68,7 @@ pub fn put_kept(out: &mut [u8], at: usize, rec: &[u8], status: Status)
     requires { at + length rec.now + tag33_length ≤ length out.old }
     ensures { (q : point.PointInfo) → out.new ≡ put_at out.old at (kept_bytes (kept_as rec.now q (status_of status))) }
 {
-    write::put_slice(out, at, rec);
+    write::put_run(out, at, rec);
     let tag = at + rec.len();
     write::put_slice(out, tag, &[33, 105, 0]);
     put_status(out, tag + 3, status);

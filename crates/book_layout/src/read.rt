@@ -61,10 +61,10 @@ fn is_status(t: &[u8; 105]) -> bool
     ensures { result ≡ is_some (read_status t.now) }
 {
     match t[0] {
-        0 => t[2] == 0 && zeros::is_zeros(t, 3),
+        0 => t[2] == 0 && zeros::is_tail_zero(t),
         1 => t[2] == 0 && is_root(t),
-        2 => judge_entries::is_reason(t[2]) && zeros::is_zeros(t, 3),
-        3 => reasons::is_ill_formed(t[2]) && zeros::is_zeros(t, 3),
+        2 => judge_entries::is_reason(t[2]) && zeros::is_tail_zero(t),
+        3 => reasons::is_ill_formed(t[2]) && zeros::is_tail_zero(t),
         _ => false,
     }
 }

@@ -30,7 +30,7 @@ fn put_field(out: &mut [u8], at: usize, tag: u8, content: &[u8]) -> usize
     ensures bytes { Bytes content.now }
 {
     put_head(out, at, tag, content.len());
-    write::put_slice(out, at + 3, content);
+    write::put_run(out, at + 3, content);
     at + 3 + content.len()
 }
 

@@ -59,7 +59,7 @@ fn convert(from: Arrangement, rec: &[u8], out: &mut [u8]) -> Result<u32, Refusal
     if out.len() < rec.len() {
         return Err(Refusal::Output);
     }
-    write::put_slice(out, 0, rec);
+    write::put_run(out, 0, rec);
     put_moved(out, fields.at.includes + 3, from, fields.includes());
     put_moved(out, fields.at.witness + 3, from, fields.witness());
     Ok(rec.len() as u32)

@@ -1,6 +1,6 @@
 -- Laws of the final reason of an entry, as the code finds it.
 use Rattle.std.specs.Prelude.{Option, None, Some, option_map}
-use mathlib.Core.Path.{◌≡◌, refl, ap, sym, ◌∙◌, subst}
+use mathlib.Core.Path.{◌≡◌, refl, ap, sym, ◌∙◌}
 use mathlib.Core.Bool.{Bool, true, false}
 use mathlib.Core.List.{[], ◌∷◌}
 use Rattle.base.specs.Base.{pick, last_of}
@@ -9,15 +9,12 @@ use Rattle.point.specs.declared.data.AnchorStageRole.{AnchorStageRole}
 use Rattle.schedule.specs.Settings.{Settings}
 use Rattle.reasons.specs.Code.{reason_of}
 use Rattle.reasons.specs.Invalid.{InvalidReason, DependencyRoundDropped, InvalidDependency}
-use Rattle.reasons.specs.declared.invalid.InvalidReason as code-reason
-use Rattle.reasons.specs.declared.invalid.InvalidDependency as code-dependency
 use Rattle.rules.specs.DagPoint.{Entry, PointView, point_view, is_dropped}
 use Rattle.rules.specs.List.{Listed}
 use Rattle.rules.specs.Validate.{entry_findings, indirect_findings, dependency, dependency_trail, indirect_point_rows}
 use Rattle.rules.specs.Force.{list_of, direct_final}
 use Rattle.judge_step.specs.Code.{Gives, Judging, start, with_direct, direct_step, DirectGives, gives_of}
 use Rattle.judge_step.specs.declared.step.Gives as code
-use Rattle.judge_step.specs.declared.step.Gives.TheVariants as case
 use Rattle.force_rows.specs.Code.{final_in}
 
 from-start : (b : Bool) (o : Option InvalidReason) (d : Option InvalidDependency) →
@@ -32,21 +29,22 @@ final-list false o = refl
 
 module _ (c : Settings) (required : Bool) where
   module _ (v : PointView) (e : Entry) where
-    told : (g : Gives) → DirectGives c required v e g → list_of (pick g.dropped (Some DependencyRoundDropped) g.reason) ≡ direct_final c required v e
+    told : (g : Gives) (b : Bool) → b ≡ g.dropped → DirectGives c required v e g →
+        list_of (pick b (Some DependencyRoundDropped) g.reason) ≡ direct_final c required v e
     unfolding direct_step
-    told g h =
+    told g b d h =
         let o = last_of (entry_findings c required v e).trail in
         let same : pick g.dropped (Some DependencyRoundDropped) g.reason ≡ pick (is_dropped e.state) (Some DependencyRoundDropped) o =
         sym (from-start g.dropped g.reason g.root) ∙ (ap (λ (j : Judging). j.direct) (h start) ∙ from-start (is_dropped e.state) o (entry_findings c required v e).root) in
-        ap list_of same ∙ final-list (is_dropped e.state) o
+        rw d (ap list_of same ∙ final-list (is_dropped e.state) o)
 
-    pub told_dropped : (x : code.Gives) → x ≡ case.Dropped → DirectGives c required v e (gives_of x) →
+    pub told_dropped : (x : code.Gives) → x.dropped ≡ true → DirectGives c required v e (gives_of x) →
         DependencyRoundDropped ∷ [] ≡ direct_final c required v e
-    told_dropped x i h = told (gives_of case.Dropped) (subst (λ (y : code.Gives). DirectGives c required v e (gives_of y)) i h)
+    told_dropped x d = told (gives_of x) true (sym d)
 
-    pub told_found : (x : code.Gives) (r : Option code-reason.InvalidReason) (d : Option code-dependency.InvalidDependency) → x ≡ case.Found r d →
-        DirectGives c required v e (gives_of x) → list_of (option_map reason_of r) ≡ direct_final c required v e
-    told_found x r d i h = told (gives_of (case.Found r d)) (subst (λ (y : code.Gives). DirectGives c required v e (gives_of y)) i h)
+    pub told_found : (x : code.Gives) → x.dropped ≡ false → DirectGives c required v e (gives_of x) →
+        list_of (option_map reason_of x.reason) ≡ direct_final c required v e
+    told_found x d = told (gives_of x) false (sym d)
 
   module _ (p : PointInfo) (x : Listed) (v : PointView) (k : v ≡ point_view p) (o : Option InvalidReason) where
     pub final_target : (g : AnchorStageRole) → x.aim ≡ Some g → o ≡ last_of (dependency_trail (indirect_point_rows c g v) x.entry.state) →

@@ -10,7 +10,6 @@ ghost use Rattle.judge_valid.specs.Code.{point_view_of};
 ghost use Rattle.force_rows.specs.Code.{final_in};
 
 use judge_entries::{Entry, Listed};
-use judge_step::Gives;
 use judge_valid::By;
 use reasons::InvalidReason;
 
@@ -19,9 +18,11 @@ fn direct_reason(by: &By, entry: &Entry) -> Option<InvalidReason>
     ensures { list_of (option_map reason_of result)
         ≡ direct_final (settings_of by.now.conf) by.now.required (point_view_of by.now.view) (entry_of entry.now) }
 {
-    match judge_step::direct_gives(by, entry) {
-        Gives::Dropped => Some(InvalidReason::DependencyRoundDropped),
-        Gives::Found { reason, .. } => reason,
+    let gives = judge_step::direct_gives(by, entry);
+    if gives.dropped {
+        Some(InvalidReason::DependencyRoundDropped)
+    } else {
+        gives.reason
     }
 }
 

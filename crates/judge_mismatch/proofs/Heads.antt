@@ -250,7 +250,7 @@ module _ (at : ℕ) (s : List ℕ) where
 
 pub ruleset end_facts = (end-inside, end-there, end_known, end_within)
 
-head_made : (s : List ℕ) (x : Listed) (aim : Option AnchorStageRole) (id : Option PointId) (size : ℕ) → read_entry s ≡ Some x →
+pub head_made : (s : List ℕ) (x : Listed) (aim : Option AnchorStageRole) (id : Option PointId) (size : ℕ) → read_entry s ≡ Some x →
     aim ≡ x.aim → id ≡ id_of x.entry.state → size ≡ x.size →
     Some (record { aim = aim; id = id; size = size }) ≡ head_from (read_entry s)
 head_made s x aim id size e a i z = same a i z ∙ ap head_from (sym e)

@@ -226,7 +226,7 @@ nothing-direct j g h = go j.ended g.dropped g.reason g.root refl h
     go false false None None e k =
         λ i. record { direct = j.direct; indirect = j.indirect; recorded = none-second j.recorded i; ended = sym e i }
 
--- an indirect entry that is dropped changes nothing
+-- an indirect entry that gives neither reason nor root changes nothing, dropped or not: the flag isn't asked
 pub dropped-indirect : (j : Judging) → j ≡ with_indirect j (record { reason = None; root = None; dropped = true })
 dropped-indirect j = λ i. record { direct = j.direct; indirect = j.indirect; recorded = sym (none-second j.recorded) i; ended = j.ended }
 
@@ -239,7 +239,7 @@ nothing-indirect j g h = go g.dropped g.reason g.root h
     go true reason root k = clash false k refl
     go false (Some r) root k = clash false k refl
     go false None (Some d) k = clash false k refl
-    go false None None k = λ i. record { direct = j.direct; indirect = j.indirect; recorded = none-second j.recorded i; ended = j.ended }
+    go false None None k = sym (dropped-indirect j)
 
 module _ (c : Settings) (required : Bool) (p : PointView) (e : Entry) where
   -- an entry by how it is taken

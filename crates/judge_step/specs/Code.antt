@@ -16,7 +16,6 @@ use Rattle.judge_entries.specs.declared.entry.DagPoint.TheVariants as case-point
 use Rattle.judge_valid.specs.Code.{IsQuick}
 use Rattle.judge_valid.specs.declared.quick.Quick as code-quick
 use Rattle.judge_step.specs.declared.step.Gives as code_gives
-use Rattle.judge_step.specs.declared.step.Gives.TheVariants as case-gives
 use Rattle.judge_step.specs.declared.step.Judging as code-judging
 
 -- ---- judging so far: the last reason of the direct entries and of the indirect ones, the root cause recorded, and whether a
@@ -107,8 +106,7 @@ abbrev pub IndirectGives : Settings → PointView → AnchorStageRole → Throug
 IndirectGives c p role t e g = (j : Judging) → with_indirect j g ≡ indirect_step c p role t j e
 
 abbrev pub gives_of : code_gives.Gives → Gives
-gives_of case-gives.Dropped = record { reason = None; root = None; dropped = true }
-gives_of (case-gives.Found reason recorded) = record { reason = option_map reason_of reason; root = option_map dependency_of recorded; dropped = false }
+gives_of x = record { reason = option_map reason_of x.reason; root = option_map dependency_of x.recorded; dropped = x.dropped }
 
 abbrev pub judging_of : code-judging.Judging → Judging
 judging_of j =

@@ -33,21 +33,25 @@ pub const START: Judging = Judging {
     ended: false,
 };
 
-// What an entry gives: that it is dropped with its round, or its last reason and the root cause that it would have recorded. No Option: a
-// dropped one gives a reason too.
+// What an entry gives: its last reason, the root cause that it would have recorded, and that it is dropped with its round. No enum: the
+// steps answer for a dropped one that has a reason or a root too. A direct one ends the list without them, and a target's count.
 #[derive(Clone, Copy)]
-pub enum Gives {
-    Dropped,
-    Found {
-        reason: Option<InvalidReason>,
-        recorded: Option<InvalidDependency>,
-    },
+pub struct Gives {
+    pub reason: Option<InvalidReason>,
+    pub recorded: Option<InvalidDependency>,
+    pub dropped: bool,
 }
 
 // A constant and not a Default, as START.
-pub const NOTHING: Gives = Gives::Found {
+pub const NOTHING: Gives = Gives {
     reason: None,
     recorded: None,
+    dropped: false,
+};
+
+const DROPPED: Gives = Gives {
+    dropped: true,
+    ..NOTHING
 };
 
 // Whether an entry gives nothing, and so changes nothing of what was found.
@@ -56,9 +60,10 @@ pub fn gives_nothing(x: &Gives) -> bool
 {
     matches!(
         x,
-        Gives::Found {
+        Gives {
             reason: None,
             recorded: None,
+            dropped: false,
         }
     )
 }
@@ -90,9 +95,10 @@ fn dependency_gives(by: &By, is_prev_point: bool, entry: &Entry) -> Gives
         ≡ gives_all (dependency_as (settings_of by.now.conf) by.now.required is_prev_point (point_view_of by.now.view) (entry_of entry.now)) }
 {
     let direct = judge_dependency::direct_through(by.view.id.round, entry.state.id());
-    Gives::Found {
+    Gives {
         reason: judge_reason::dependency_reason(by, is_prev_point, entry),
         recorded: root_of(by, entry, direct),
+        ..NOTHING
     }
 }
 
@@ -101,13 +107,13 @@ pub fn direct_gives(by: &By, entry: &Entry) -> Gives
     ensures { DirectGives (settings_of by.now.conf) by.now.required (point_view_of by.now.view) (entry_of entry.now) (gives_of result) }
 {
     if entry.state.is_dropped() {
-        return Gives::Dropped;
+        return DROPPED;
     }
     match judge_reason::how_taken(&by.view, entry.state.id()) {
         Taken::AsDependency { is_prev_point } => dependency_gives(by, is_prev_point, entry),
-        Taken::AsVersion => Gives::Found {
+        Taken::AsVersion => Gives {
             reason: judge_reason::version_reason(&entry.state, entry.certified, entry.first_valid),
-            recorded: None,
+            ..NOTHING
         },
         Taken::Aside => NOTHING,
     }
@@ -119,9 +125,10 @@ pub fn indirect_gives(by: &By, role: AnchorStageRole, through: Through, entry: &
         IndirectGives (settings_of by.now.conf) (point_view_of by.now.view) role (through_of through)
         (as_first first (entry_of entry.now)) (gives_of result) }
 {
-    Gives::Found {
+    Gives {
         reason: judge_reason::indirect_reason(by, role, entry),
         recorded: root_of(by, entry, through),
+        ..NOTHING
     }
 }
 
@@ -134,34 +141,31 @@ pub fn with_direct(so_far: Judging, x: &Gives) -> Judging
     if so_far.ended {
         return so_far;
     }
-    match x {
-        Gives::Dropped => Judging {
+    if x.dropped {
+        return Judging {
             direct: so_far
                 .direct
                 .or(Some(InvalidReason::DependencyRoundDropped)),
             ended: true,
             ..so_far
-        },
-        Gives::Found { reason, recorded } => Judging {
-            direct: reason.or(so_far.direct),
-            recorded: judge_dependency::join(so_far.recorded, *recorded),
-            ..so_far
-        },
+        };
+    }
+    Judging {
+        direct: x.reason.or(so_far.direct),
+        recorded: judge_dependency::join(so_far.recorded, x.recorded),
+        ..so_far
     }
 }
 
-// What was found, and then what the entry of an indirect link's target gives. None of these gives that it is dropped, which would change
-// nothing.
+// What was found, and then what the entry of an indirect link's target gives. That it is dropped changes nothing: those after it are judged
+// too.
 #[tactic(auto, using(crate::proofs::Laws::later_told))]
 pub fn with_indirect(so_far: Judging, x: &Gives) -> Judging
     ensures { judging_of result ≡ with_indirect (judging_of so_far) (gives_of x.now) }
 {
-    match x {
-        Gives::Dropped => so_far,
-        Gives::Found { reason, recorded } => Judging {
-            indirect: reason.or(so_far.indirect),
-            recorded: judge_dependency::join(so_far.recorded, *recorded),
-            ..so_far
-        },
+    Judging {
+        indirect: x.reason.or(so_far.indirect),
+        recorded: judge_dependency::join(so_far.recorded, x.recorded),
+        ..so_far
     }
 }

@@ -21,7 +21,7 @@ at_split m n s at = rw (take-add m n (drop at s), drop-drop m at s)
 pub at_length : (n : ℕ) (s : List ℕ) (at : ℕ) → at + n ≤ length s → length (bytes_at n s at) ≡ n
 at_length n s at h = length-take-le n (drop at s) (simp length-drop (omega arith))
 
-at_one : (s : List ℕ) (at : ℕ) → at < length s → bytes_at 1 s at ≡ get_or s at 0 ∷ []
+pub at_one : (s : List ℕ) (at : ℕ) → at < length s → bytes_at 1 s at ≡ get_or s at 0 ∷ []
 at_one s at h = rw (drop-cons s at 0 h)
 
 -- a part of a front is a part of the whole

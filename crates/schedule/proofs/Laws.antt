@@ -41,7 +41,7 @@ rest_of m n all at from s e f h =
     rw (e, f) (sym (rw (at_split m n s at) (drop_at (bytes_at m s at) (bytes_at n s (at + m)) m (at_length m s at (omega arith)))))
 
 module _ (s : List ℕ) (at : ℕ) (h : span_ok s at ≡ true) where
-  span-field : Fitting (field_row 34 4 8164) s at
+  pub span-field : Fitting (field_row 34 4 8164) s at
   unfolding span_ok
   span-field = fitting (field_row 34 4 8164) s at ((and-eq-true_iff (field_ok (field_row 34 4 8164) s at) _).0 h).0
 
@@ -68,7 +68,7 @@ module _ (s : List ℕ) (at : ℕ) (h : span_ok s at ≡ true) where
       (omega (arith, span-field.end, span-field.least))
 
   -- what the code's span stands for
-  span-held : span_of s (code_span_at s at) ≡ span_at s at
+  pub span-held : span_of s (code_span_at s at) ≡ span_at s at
   span-held = rw span-bytes
 
 -- ---- spans one after the other
@@ -78,7 +78,7 @@ module _ (s : List ℕ) where
   spans_of-append [] b = refl
   spans_of-append (x ∷ a) b = ap (λ (l : List Span). span_of s x ∷ l) (spans_of-append a b)
 
-  spans_of-length : (l : List code.Span) → length (spans_of s l) ≡ length l
+  pub spans_of-length : (l : List code.Span) → length (spans_of s l) ≡ length l
   spans_of-length [] = refl
   spans_of-length (x ∷ l) = ap suc (spans_of-length l)
 
@@ -94,7 +94,7 @@ module _ (s : List ℕ) where
   spans_of-at (x ∷ l) (suc i) h = spans_of-at l i (omega arith)
 
   -- the peers of one of the first n spans
-  spans_of-peers : (l : List code.Span) (n i : ℕ) → i < length (take n l) →
+  pub spans_of-peers : (l : List code.Span) (n i : ℕ) → i < length (take n l) →
       (get_or (spans_of s (take n l)) i (record { first = 0; peers = [] })).peers ≡ peers_of 32 (bytes_at (32 * (get_or l i no_span).peers) s (get_or l i no_span).place)
   spans_of-peers l n i h =
       let g : i < n = omega (arith, length-take n l) in
@@ -107,7 +107,7 @@ spans_then-append (x ∷ a) b o = ap (option_map (add_span x)) (spans_then-appen
 -- ---- reading: what is left to read after the first n spans
 
 -- one span more is stored
-stored : (s : List ℕ) (l : List code.Span) (n : ℕ) (x : code.Span) (y : Span) (o : Option Schedule) → n < length l → span_of s x ≡ y →
+pub stored : (s : List ℕ) (l : List code.Span) (n : ℕ) (x : code.Span) (y : Span) (o : Option Schedule) → n < length l → span_of s x ≡ y →
     spans_then (spans_of s (take n l)) (option_map (add_span y) o) ≡ spans_then (spans_of s (take (n + 1) (set l n x))) o
 stored s l n x y o h e =
     rw (← e, add-one n, take-suc-set l n x h, spans_of-append s (take n l) (x ∷ []), spans_then-append (spans_of s (take n l)) (spans_of s (x ∷ [])) o)
@@ -180,7 +180,7 @@ usable l true k = rw (then_some l k)
 usable l false k = rw (then_none l) (sym (nothing (not (is_empty l) && rising (firsts l))))
 
 -- what is read, where the spans and the place after them are known
-read_is : (s : List ℕ) (l : List code.Span) (end : ℕ) → schedule_from 4 s 0 ≡ spans_then (spans_of s l) (last_at s end) →
+pub read_is : (s : List ℕ) (l : List code.Span) (end : ℕ) → schedule_from 4 s 0 ≡ spans_then (spans_of s l) (last_at s end) →
     read_schedule s
     ≡ pick (not (is_empty (spans_of s l)) && rising (firsts_of l))
     (pick (last_ok s end) (Some (record { spans = spans_of s l; last_known = little_at 4 s (end + 3) })) None)
@@ -188,7 +188,7 @@ read_is : (s : List ℕ) (l : List code.Span) (end : ℕ) → schedule_from 4 s 
 unfolding read_schedule
 read_is s l end h = ap (λ o. and_then o if_usable) h ∙ (usable (spans_of s l) (last_ok s end) (little_at 4 s (end + 3)) ∙ rw (spans_of-firsts s l))
 
-not_empty : (s : List ℕ) (l : List code.Span) → 0 < length l → is_empty (spans_of s l) ≡ false
+pub not_empty : (s : List ℕ) (l : List code.Span) → 0 < length l → is_empty (spans_of s l) ≡ false
 not_empty s [] h = absurd (omega arith)
 not_empty s (x ∷ l) h = refl
 
@@ -291,7 +291,7 @@ module _ (c : Schedule) (round : ℕ) where
   unfolding span_for
   span-known h = simp (le-leb round c.last_known h)
 
-  span_below : (i : ℕ) → span_for c round ≡ Some i → i < length c.spans
+  pub span_below : (i : ℕ) → span_for c round ≡ Some i → i < length c.spans
   unfolding span_for
   span_below i h =
       let b = pick-has (λ k. k < 0 + length c.spans) (leb round c.last_known) (last_started 0 c.spans round) None (λ _. last-below 0 c.spans round) tt in

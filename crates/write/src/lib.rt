@@ -7,13 +7,24 @@ ghost use Rattle.parts.specs.Code.{number};
 
 use parts::Id;
 
-// Writes the bytes of a slice at a place.
+// Writes the bytes of a slice at a place. In the library for C the slice's length is known where this is called, so that the copy is a
+// few stores, or the slice is an array of the caller's own.
 #[tactic(auto, unfolding(parts::specs::Bytes::put_at))]
 pub fn put_slice(out: &mut [u8], at: usize, src: &[u8])
     requires { at + length src.now ≤ length out.old }
     ensures { out.new ≡ put_at out.old at src.now }
 {
     out[at..at + src.len()].copy_from_slice(src);
+}
+
+// The same of any slice. By index, since `copy_from_slice` may then call `memmove`, which the library for C doesn't ask of its hosts.
+pub fn put_run(out: &mut [u8], at: usize, src: &[u8])
+    requires { at + length src.now ≤ length out.old }
+    ensures { out.new ≡ put_at out.old at src.now }
+{
+    for j in 0..src.len() {
+        out[at + j] = src[j];
+    }
 }
 
 // Writes the 32 bytes of an id at a place.

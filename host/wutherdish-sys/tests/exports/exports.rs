@@ -11,6 +11,8 @@ use crate::call::Call;
 const ROOT: &str = "../..";
 /// The one crate that exports anything.
 const CRATE: &str = "crates/wutherdish_c/";
+/// What the library may need from outside, as the header says: a host need not link a C library.
+const NEEDED: [&str; 2] = ["memcpy", "memset"];
 /// How an export begins.
 const EXPORT: &str = "extern \"C\" fn ";
 
@@ -20,6 +22,8 @@ pub struct Exports {
     pub sources: Vec<(String, String)>,
     /// The library's global symbols.
     pub symbols: BTreeSet<String>,
+    /// What it needs from outside.
+    pub needed: BTreeSet<String>,
 }
 
 impl Exports {
@@ -32,7 +36,9 @@ impl Exports {
         let folder = env::var_os("WUTHERDISH_LIB_DIR").filter(|name| !name.is_empty());
         let made = format!("{CRATE}out/libwutherdish_c.a");
         let library = folder.map_or_else(|| PathBuf::from(made), |folder| Path::new(&folder).join("libwutherdish.a"));
-        Self { header, sources, symbols: symbols(&Path::new(ROOT).join(library)) }
+        let library = Path::new(ROOT).join(library);
+        let [symbols, needed] = ["--defined-only", "--undefined-only"].map(|which| symbols(&library, which));
+        Self { header, sources, symbols, needed }
     }
 
     /// What is not as it has to be, in words.
@@ -52,6 +58,8 @@ impl Exports {
             faults.extend(calls.iter().flat_map(|call| call_faults(path, call)));
         }
         faults.extend(self.lacking(names));
+        let others = self.needed.iter().filter(|name| !NEEDED.contains(&name.as_str()));
+        faults.extend(others.map(|name| format!("the library needs {name} from outside")));
         faults
     }
 
@@ -113,14 +121,15 @@ fn calls(code: &str) -> Vec<Call> {
     code.split(EXPORT).skip(1).map(Call::read).collect()
 }
 
-fn symbols(library: &Path) -> BTreeSet<String> {
-    let output = Command::new("nm").args(["-g", "--defined-only"]).arg(library).output().expect("nm, of binutils");
+/// The library's global symbols of one kind, as an option of nm names it.
+fn symbols(library: &Path, which: &str) -> BTreeSet<String> {
+    let output = Command::new("nm").args(["-g", which]).arg(library).output().expect("nm, of binutils");
     assert!(output.status.success(), "{}", String::from_utf8_lossy(&output.stderr));
     let lines = String::from_utf8(output.stdout).expect("names");
     lines
         .lines()
         .filter(|line| line.contains(' '))
-        .filter_map(|line| line.split(' ').nth(2))
+        .filter_map(|line| line.split(' ').next_back())
         .map(String::from)
         .collect()
 }

@@ -1,4 +1,5 @@
-//! The library exports what the header declares and nothing else, and each call has a contract on all that it hands out.
+//! The library exports what the header declares and nothing else, needs what the header says, and each call has a contract on all that it
+//! hands out.
 
 mod call;
 mod exports;
@@ -167,6 +168,14 @@ fn a_symbol_of_no_source() {
     let mut exports = Exports::read();
     exports.symbols.insert("helper".to_string());
     assert_eq!(exports.faults(), ["helper is not in the header", "helper is not in the sources"]);
+}
+
+#[test]
+fn a_need_that_the_header_does_not_name() {
+    let mut exports = Exports::read();
+    assert!(exports.needed.contains("memcpy"));
+    exports.needed.insert("memmove".to_string());
+    assert_eq!(exports.faults(), ["the library needs memmove from outside"]);
 }
 
 #[test]

@@ -8,9 +8,13 @@ use lib.ListN.{length, get_or, get_or-replicate}
 use Rattle.point.specs.Code.{point_id_of}
 use Rattle.schedule.specs.Code.{settings_of}
 use Rattle.book_certify.proofs.Adds.{with_entry, reached-here, reached-other}
+use Rattle.book_certify.proofs.Chains.{heads_none}
 use Rattle.book_certify.proofs.Entries.{stands}
 use Rattle.book_certify.proofs.Depths.{first-sound, first_done}
 use Rattle.book_certify.proofs.Walk.reach_all.Goals as goal
+
+pub chain_all-requires-clause-unlinked : goal.chain_all-requires-clause-unlinked
+chain_all-requires-clause-unlinked c = λ d h. heads_none c.args.self.now c.requires.fresh d
 
 pub descend-requires-clause-sound : goal.descend-requires-clause-sound
 descend-requires-clause-sound c =

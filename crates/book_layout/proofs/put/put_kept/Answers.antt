@@ -14,5 +14,5 @@ unfolding kept_bytes
 returns c =
     let a = c.args in
     let k = status-length (status_of a.status) false in
-    λ q. rw (c.put_status.ensures, c.put_slice-2.ensures, c.put_slice.ensures)
+    λ q. rw (c.put_status.ensures, c.put_slice.ensures, c.put_run.ensures)
     (put_right a.out.now a.at a.rec.now (33 ∷ 105 ∷ 0 ∷ []) (status_bytes (status_of a.status) false) _ _ refl refl (omega arith))
